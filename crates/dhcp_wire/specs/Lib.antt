@@ -1,0 +1,4 @@
+pub mod Error
+pub mod Kind
+pub mod Outcome
+pub mod Field

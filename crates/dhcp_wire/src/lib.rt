@@ -1,0 +1,23 @@
+//! The base of Jigsawmint: errors with a kind and a text, lists and texts that contracts see as lists, and the
+//! reading and writing of big-endian fields.
+#![tactic(auto)]
+
+mod error;
+mod kind;
+mod list;
+mod reading;
+mod string;
+mod writing;
+
+pub use error::DhcpError;
+pub use kind::{ErrorKind, FixedText};
+pub use list::{Bytes, Sequence};
+pub use reading::Buffer;
+pub use string::Text;
+pub use writing::BufferMut;
+
+/// The length of an Ethernet address, in bytes.
+pub const ETH_ALEN: usize = 6;
+
+/// The Ethernet address of all stations on a link.
+pub const BROADCAST_MAC_ADDRESS: [u8; 6] = [255, 255, 255, 255, 255, 255];
