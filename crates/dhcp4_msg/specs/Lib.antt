@@ -1,0 +1,7 @@
+pub mod Code
+pub mod Kind
+pub mod Route
+pub mod Value
+pub mod Cut
+pub mod Options
+pub mod Message

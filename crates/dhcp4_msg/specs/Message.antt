@@ -1,0 +1,47 @@
+-- A DHCPv4 message, RFC 2131 section 2: a header of 236 bytes, the cookie 63 82 53 63, and options.
+use Rattle.std.specs.Prelude.{ℕ, ◌==◌, List, [], ◌∷◌, ◌++◌, Option, Some, None, if◌then◌else◌}
+use Rattle.std.specs.Int.{w8, w16, w32, to_be_bytes}
+use Rattle.dhcp_wire.specs.Field.{Read, ◌>>=◌, bytes_at, number_at, address_at, terminated_text_at, terminated_text}
+use Rattle.dhcp4_msg.specs.declared.message.DhcpV4Message.{DhcpV4Message}
+use Rattle.dhcp4_msg.specs.Options.{OptionMap, read_options, written_options}
+
+-- what stands between the header and the options, RFC 2131 section 3
+abbrev pub magic_cookie : ℕ
+magic_cookie = 0x63825363
+
+-- A message reads where its header is whole, with texts that are UTF-8 before their first zero byte, and the cookie stands.
+unfoldable pub read_message : List ℕ → Option DhcpV4Message
+read_message bytes = do
+  op ← number_at w8 bytes
+  htype ← number_at w8 op.1
+  hlen ← number_at w8 htype.1
+  hops ← number_at w8 hlen.1
+  xid ← number_at w32 hops.1
+  secs ← number_at w16 xid.1
+  flags ← number_at w16 secs.1
+  ciaddr ← address_at flags.1
+  yiaddr ← address_at ciaddr.1
+  siaddr ← address_at yiaddr.1
+  giaddr ← address_at siaddr.1
+  chaddr ← bytes_at 16 giaddr.1
+  sname ← terminated_text_at 64 chaddr.1
+  file ← terminated_text_at 128 sname.1
+  cookie ← number_at w32 file.1
+  if cookie.0 == magic_cookie
+      then Some (record {
+        op = op.0; htype = htype.0; hlen = hlen.0; hops = hops.0; xid = xid.0; secs = secs.0; flags = flags.0;
+        ciaddr = ciaddr.0; yiaddr = yiaddr.0; siaddr = siaddr.0; giaddr = giaddr.0; chaddr = chaddr.0;
+        sname = sname.0; file = file.0; options = read_options cookie.1;
+      })
+      else None
+
+-- the bytes of a message
+unfoldable pub written_message : DhcpV4Message → List ℕ
+written_message message =
+    (message.op ∷ message.htype ∷ message.hlen ∷ message.hops ∷ [])
+    ++ to_be_bytes w32 message.xid ++ to_be_bytes w16 message.secs ++ to_be_bytes w16 message.flags
+    ++ message.ciaddr.octets ++ message.yiaddr.octets ++ message.siaddr.octets ++ message.giaddr.octets
+    ++ message.chaddr
+    ++ terminated_text 64 message.sname ++ terminated_text 128 message.file
+    ++ to_be_bytes w32 magic_cookie
+    ++ written_options message.options

@@ -1,0 +1,45 @@
+-- Options as a map from their numbers, RFC 2132: how they are read from a list, and how they are written.
+use Rattle.std.specs.Prelude.{ℕ, ◌==◌, List, [], ◌∷◌, ◌++◌, reverse, Option, Some, None, option_map, is_some, if◌then◌else◌}
+use Rattle.std.specs.Ordering.{nat_cmp}
+use Rattle.std.specs.List.{flat_map, filter_map}
+use Rattle.std.specs.FinMap as map
+use Rattle.dhcp_wire.specs.Field.{◌>>=◌}
+use Rattle.dhcp4_msg.specs.declared.kind.DhcpV4MessageType.{DhcpV4MessageType}
+use Rattle.dhcp4_msg.specs.declared.option.DhcpV4Option.{DhcpV4Option}
+use Rattle.dhcp4_msg.specs.declared.option.DhcpV4Option.TheVariants.{MessageType}
+use Rattle.dhcp4_msg.specs.Code.{code_of}
+use Rattle.dhcp4_msg.specs.Cut.{Item, cut}
+use Rattle.dhcp4_msg.specs.Value.{value_of, written_option}
+
+-- options by their numbers
+abbrev pub OptionMap : Type 0
+OptionMap = map.FinMap nat_cmp DhcpV4Option
+
+-- the option that an item reads as, under its number; an item without a reading is skipped
+abbrev pub reading_of : Item → Option (ℕ × DhcpV4Option)
+reading_of item = option_map (λ option. (item.0, option)) (value_of (code_of item.0) item.1)
+
+-- the options of some items: of each number the last that reads
+abbrev pub options_of : List Item → OptionMap
+options_of items = map.from_entries (reverse (filter_map reading_of items))
+
+-- the options of a list of bytes
+unfoldable pub read_options : List ℕ → OptionMap
+read_options bytes = options_of (cut bytes)
+
+-- End, where it isn't there
+abbrev pub added_end : OptionMap → List ℕ
+added_end options = if map.contains_key options 255 then [] else 255 ∷ []
+
+-- the options by rising number, and End last
+unfoldable pub written_options : OptionMap → List ℕ
+written_options options = flat_map (λ entry. written_option entry.1) (map.entries options) ++ added_end options
+
+-- the type that an option says
+abbrev pub type_in_option : DhcpV4Option → Option DhcpV4MessageType
+type_in_option (MessageType kind) = Some kind
+type_in_option _ = None
+
+-- the type of a message with these options, of option 53
+unfoldable pub message_type : OptionMap → Option DhcpV4MessageType
+message_type options = map.get options 53 >>= type_in_option

@@ -1,0 +1,43 @@
+-- A classless static route, RFC 3442: the width of a subnet mask, the significant octets of the destination, the router.
+use Rattle.std.specs.Prelude.{ℕ, zero, suc, ◌+◌, ◌-◌, ◌/◌, min, ◌==◌, List, [], ◌∷◌, ◌++◌, length, take, replicate, Option, Some, None, if◌then◌else◌}
+use Rattle.std.specs.Int.{w8}
+use Rattle.dhcp_wire.specs.Field.{Read, ◌>>=◌, bytes_at, number_at, address_of, address_at}
+use Rattle.dhcp4_msg.specs.declared.route.DhcpV4ClasslessRoute.{DhcpV4ClasslessRoute}
+
+-- how many octets of a destination stand for a mask of this width: as many as its bits touch, four at most
+abbrev pub significant_octets : ℕ → ℕ
+significant_octets width = min 4 ((width + 7) / 8)
+
+-- the address that begins with these octets; those not given are zero
+abbrev pub padded_octets : List ℕ → List ℕ
+padded_octets octets = octets ++ replicate (4 - length octets) 0
+
+-- one route
+unfoldable pub route_at : List ℕ → Read DhcpV4ClasslessRoute
+route_at bytes = do
+  width ← number_at w8 bytes
+  octets ← bytes_at (significant_octets width.0) width.1
+  router ← address_at octets.1
+  Some (record {
+    destination = address_of (padded_octets octets.0);
+    prefix_length = width.0;
+    router = router.0;
+  }, router.1)
+
+-- routes one after the other that fill the bytes exactly, at most so many as there are bytes
+unfoldable pub routes_within : ℕ → List ℕ → Option (List DhcpV4ClasslessRoute)
+routes_within fuel [] = Some []
+routes_within zero (byte ∷ bytes) = None
+routes_within (suc fuel) (byte ∷ bytes) = do
+  route ← route_at (byte ∷ bytes)
+  routes ← routes_within fuel route.1
+  Some (route.0 ∷ routes)
+
+-- routes that fill the bytes exactly
+abbrev pub routes_of : List ℕ → Option (List DhcpV4ClasslessRoute)
+routes_of bytes = routes_within (length bytes) bytes
+
+-- the bytes of a route
+unfoldable pub written_route : DhcpV4ClasslessRoute → List ℕ
+written_route route =
+    route.prefix_length ∷ take (significant_octets route.prefix_length) route.destination.octets ++ route.router.octets

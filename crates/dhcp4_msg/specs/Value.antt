@@ -1,0 +1,143 @@
+-- The values of options, RFC 2132: how each reads, and how it is written.
+use Rattle.std.specs.Prelude.{ℕ, ◌≤◌, ◌==◌, ◌&&◌, nat_le, Bool, true, false, List, [], ◌∷◌, ◌++◌, length, map, take, Option, Some, None, option_map}
+use Rattle.std.specs.List.{flat_map}
+use Rattle.std.specs.Int.{Width, w8, w16, w32, to_be_bytes}
+use Rattle.std.specs.declared.net.Ipv4Addr.{Ipv4Addr}
+use Rattle.dhcp_wire.specs.Field.{◌>>=◌, number_at, address_of, address_at, before_zero, text_of}
+use Rattle.dhcp4_msg.specs.declared.code.DhcpV4OptionCode.{DhcpV4OptionCode}
+use Rattle.dhcp4_msg.specs.declared.code.DhcpV4OptionCode.TheVariants as codes
+use Rattle.dhcp4_msg.specs.declared.kind.DhcpV4MessageType.{DhcpV4MessageType}
+use Rattle.dhcp4_msg.specs.declared.option.DhcpV4Option.{DhcpV4Option}
+use Rattle.dhcp4_msg.specs.declared.option.DhcpV4Option.TheVariants.{Pad, SubnetMask, Router, DomainNameServer, HostName, DomainName, InterfaceMtu, BroadcastAddress, NtpServers, RequestedIpAddress, IpAddressLeaseTime, MessageType, ServerIdentifier, ParameterRequestList, Message, RenewalTime, RebindingTime, ClientIdentifier, ClasslessStaticRoute, End, Unknown}
+use Rattle.dhcp4_msg.specs.Code.{number_of, code_of}
+use Rattle.dhcp4_msg.specs.Kind.{type_number, type_of}
+use Rattle.dhcp4_msg.specs.Route.{routes_of, written_route}
+
+-- The kinds of values, as they read. A value of fixed size may be longer; what is beyond is ignored.
+
+-- an address
+abbrev pub address_in : List ℕ → Option Ipv4Addr
+address_in value = option_map (λ read. read.0) (address_at value)
+
+-- as many addresses as there are whole groups of four bytes
+abbrev pub addresses_in : List ℕ → List Ipv4Addr
+addresses_in (a ∷ b ∷ c ∷ d ∷ value) = address_of (a ∷ b ∷ c ∷ d ∷ []) ∷ addresses_in value
+addresses_in _ = []
+
+-- a number of this width
+abbrev pub number_in : Width → List ℕ → Option ℕ
+number_in width value = option_map (λ read. read.0) (number_at width value)
+
+-- a text, up to the first zero byte or the end
+abbrev pub text_in : List ℕ → Option (List ℕ)
+text_in value = text_of (before_zero value)
+
+-- a message type
+abbrev pub type_in : List ℕ → Option DhcpV4MessageType
+type_in value = number_in w8 value >>= type_of
+
+-- what the value of each code reads as
+unfoldable pub value_of : DhcpV4OptionCode → List ℕ → Option DhcpV4Option
+value_of codes.Pad value = Some Pad
+value_of codes.SubnetMask value = option_map SubnetMask (address_in value)
+value_of codes.Router value = Some (Router (addresses_in value))
+value_of codes.DomainNameServer value = Some (DomainNameServer (addresses_in value))
+value_of codes.HostName value = option_map HostName (text_in value)
+value_of codes.DomainName value = option_map DomainName (text_in value)
+value_of codes.InterfaceMtu value = option_map InterfaceMtu (number_in w16 value)
+value_of codes.BroadcastAddress value = option_map BroadcastAddress (address_in value)
+value_of codes.NtpServers value = Some (NtpServers (addresses_in value))
+value_of codes.RequestedIpAddress value = option_map RequestedIpAddress (address_in value)
+value_of codes.IpAddressLeaseTime value = option_map IpAddressLeaseTime (number_in w32 value)
+value_of codes.MessageType value = option_map MessageType (type_in value)
+value_of codes.ServerIdentifier value = option_map ServerIdentifier (address_in value)
+value_of codes.ParameterRequestList value = Some (ParameterRequestList (map code_of value))
+value_of codes.Message value = option_map Message (text_in value)
+value_of codes.RenewalTime value = option_map RenewalTime (number_in w32 value)
+value_of codes.RebindingTime value = option_map RebindingTime (number_in w32 value)
+value_of codes.ClientIdentifier value = Some (ClientIdentifier value)
+value_of codes.ClasslessStaticRoute value = option_map ClasslessStaticRoute (routes_of value)
+value_of codes.End value = Some End
+value_of (codes.Other number) value = Some (Unknown (record { code = number; raw = value }))
+
+-- The kinds of values, as they are written.
+
+-- addresses one after the other
+abbrev pub written_addresses : List Ipv4Addr → List ℕ
+written_addresses addresses = flat_map (λ address. address.octets) addresses
+
+-- a text of at most 254 bytes, and a zero byte
+abbrev pub written_text : List ℕ → List ℕ
+written_text text = take 254 text ++ 0 ∷ []
+
+-- the value of each option as it is written
+unfoldable pub written_value : DhcpV4Option → List ℕ
+written_value Pad = []
+written_value (SubnetMask address) = address.octets
+written_value (Router addresses) = written_addresses addresses
+written_value (DomainNameServer addresses) = written_addresses addresses
+written_value (HostName text) = written_text text
+written_value (DomainName text) = written_text text
+written_value (InterfaceMtu number) = to_be_bytes w16 number
+written_value (BroadcastAddress address) = address.octets
+written_value (NtpServers addresses) = written_addresses addresses
+written_value (RequestedIpAddress address) = address.octets
+written_value (IpAddressLeaseTime seconds) = to_be_bytes w32 seconds
+written_value (MessageType kind) = type_number kind ∷ []
+written_value (ServerIdentifier address) = address.octets
+written_value (ParameterRequestList requested) = map number_of requested
+written_value (Message text) = written_text text
+written_value (RenewalTime seconds) = to_be_bytes w32 seconds
+written_value (RebindingTime seconds) = to_be_bytes w32 seconds
+written_value (ClientIdentifier bytes) = bytes
+written_value (ClasslessStaticRoute routes) = flat_map written_route routes
+written_value End = []
+written_value (Unknown option) = option.raw
+
+-- the code of each option
+unfoldable pub option_code : DhcpV4Option → DhcpV4OptionCode
+option_code Pad = codes.Pad
+option_code (SubnetMask address) = codes.SubnetMask
+option_code (Router addresses) = codes.Router
+option_code (DomainNameServer addresses) = codes.DomainNameServer
+option_code (HostName text) = codes.HostName
+option_code (DomainName text) = codes.DomainName
+option_code (InterfaceMtu number) = codes.InterfaceMtu
+option_code (BroadcastAddress address) = codes.BroadcastAddress
+option_code (NtpServers addresses) = codes.NtpServers
+option_code (RequestedIpAddress address) = codes.RequestedIpAddress
+option_code (IpAddressLeaseTime seconds) = codes.IpAddressLeaseTime
+option_code (MessageType kind) = codes.MessageType
+option_code (ServerIdentifier address) = codes.ServerIdentifier
+option_code (ParameterRequestList requested) = codes.ParameterRequestList
+option_code (Message text) = codes.Message
+option_code (RenewalTime seconds) = codes.RenewalTime
+option_code (RebindingTime seconds) = codes.RebindingTime
+option_code (ClientIdentifier bytes) = codes.ClientIdentifier
+option_code (ClasslessStaticRoute routes) = codes.ClasslessStaticRoute
+option_code End = codes.End
+option_code (Unknown option) = codes.Other option.code
+
+-- the number of an option
+abbrev pub option_number : DhcpV4Option → ℕ
+option_number option = number_of (option_code option)
+
+-- the bytes of an option: its number, the length of its value and the value; Pad and End are their number alone
+unfoldable pub written_option : DhcpV4Option → List ℕ
+written_option Pad = 0 ∷ []
+written_option End = 255 ∷ []
+written_option option = let value = written_value option in option_number option ∷ length value ∷ value
+
+-- whether a number has no name
+abbrev pub is_nameless : DhcpV4OptionCode → Bool
+is_nameless (codes.Other number) = true
+is_nameless _ = false
+
+-- an unknown option has a number that has no name
+abbrev pub has_own_code : DhcpV4Option → Bool
+has_own_code (Unknown option) = is_nameless (code_of option.code)
+has_own_code _ = true
+
+-- whether an option can be written: its value has at most 255 bytes
+unfoldable pub fits : DhcpV4Option → Bool
+fits option = nat_le (length (written_value option)) 255 && has_own_code option

@@ -1,0 +1,16 @@
+//! DHCPv4 messages and their options: RFC 2131 section 2, RFC 2132, RFC 3442.
+#![tactic(auto)]
+
+mod code;
+mod kind;
+mod map;
+mod message;
+mod option;
+mod route;
+
+pub use code::DhcpV4OptionCode;
+pub use kind::DhcpV4MessageType;
+pub use map::DhcpV4Options;
+pub use message::DhcpV4Message;
+pub use option::{DhcpV4Option, DhcpV4OptionUnknown};
+pub use route::DhcpV4ClasslessRoute;

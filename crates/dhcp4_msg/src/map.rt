@@ -1,0 +1,61 @@
+//! The options of a message, by their numbers.
+
+ghost use Rattle.std.specs.Prelude.{◌≡◌, OnOk, IsTrue, option_copied};
+ghost use Rattle.std.specs.FinMap as map;
+ghost use Rattle.dhcp_wire.specs.Outcome.{Makes, Emits, no_memory};
+ghost use Rattle.dhcp4_msg.specs.Code.{number_of};
+ghost use Rattle.dhcp4_msg.specs.Value.{option_number, fits};
+ghost use Rattle.dhcp4_msg.specs.Options.{read_options, written_options};
+
+use crate::{DhcpV4Option, DhcpV4OptionCode};
+use dhcp_wire::{BufferMut, DhcpError, ErrorKind, FixedText};
+use std::alloc::Global;
+use std::collections::BTreeMap;
+use std::marker::Model;
+
+/// The options of a message. Contracts see it as a finite map from number to option.
+#[derive(Debug, Drop)]
+pub struct DhcpV4Options {
+    kept: BTreeMap<u8, DhcpV4Option>,
+}
+
+impl Model for DhcpV4Options {
+    ghost use Rattle.std.specs.FinMap as map;
+    ghost use Rattle.dhcp4_msg.specs.Options.{OptionMap};
+
+    ghost use Rattle.std.specs.Coded.{coded_ℕ};
+    ghost use Rattle.dhcp4_msg.specs.contracts.option.DhcpV4Option as option;
+
+    ghost Value = { OptionMap };
+
+    ghost coded = { map.code coded_ℕ option.the_row.coded };
+
+    ghost view = { λ options. map.from_sorted options.kept.entries };
+}
+
+impl DhcpV4Options {
+    /// No options; takes no memory.
+    pub fn new(alloc: Global) -> Self
+        ensures { result ≡ map.empty }
+    {
+        DhcpV4Options {
+            kept: BTreeMap::new(alloc),
+        }
+    }
+
+    /// The option of that number, if it is kept.
+    #[tactic(auto, unfolding(crate::specs::Code::number_of))]
+    pub fn get(&self, code: DhcpV4OptionCode) -> Option<&DhcpV4Option>
+        ensures { option_copied result ≡ map.get self.now (number_of code) }
+    {
+        self.kept.get(&u8::from(code))
+    }
+
+    /// Keeps the option in place of the one of its number. After an error nothing has changed.
+    pub fn insert(&mut self, option: DhcpV4Option) -> Result<(), DhcpError>
+        requires { IsTrue (fits option) }
+        ensures ok { OnOk result (self.new ≡ map.insert self.old (option_number option) option) }
+    {
+        Err(DhcpError::new_fixed(ErrorKind::OutOfMemory, FixedText::NoMemory))
+    }
+}
