@@ -1,5 +1,5 @@
 -- Fields of a message: bytes at the front of a list, and numbers with their most significant byte first.
-use Rattle.std.specs.Prelude.{ℕ, ◌-◌, List, [], ◌∷◌, ◌++◌, length, take, drop, Option, Some, None, option_map, option_and_then, min, replicate, nat_le, if◌then◌else◌, ◌==◌}
+use Rattle.std.specs.Prelude.{ℕ, ◌-◌, List, ◌++◌, length, take, drop, Option, Some, None, option_map, option_and_then, replicate, nat_le, if◌then◌else◌, ◌==◌}
 use Rattle.std.specs.List.{before_first}
 use Rattle.std.specs.Int.{Width, byte_len, from_be_bytes}
 use Rattle.std.specs.Str.{is_utf8}

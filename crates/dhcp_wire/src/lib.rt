@@ -7,6 +7,8 @@ mod kind;
 mod list;
 mod reading;
 mod string;
+#[cfg(test)]
+mod tests;
 mod writing;
 
 pub use error::DhcpError;
