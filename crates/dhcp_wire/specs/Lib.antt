@@ -1,3 +1,4 @@
+pub mod Context
 pub mod Error
 pub mod Kind
 pub mod Outcome

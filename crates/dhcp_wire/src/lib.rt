@@ -11,7 +11,7 @@ mod string;
 mod tests;
 mod writing;
 
-pub use error::DhcpError;
+pub use error::{DhcpError, ErrorContext};
 pub use kind::{ErrorKind, FixedText};
 pub use list::{Bytes, Sequence};
 pub use reading::Buffer;

@@ -42,3 +42,34 @@ fn derived_equality_compares_the_lists(rt: HostRuntime) -> Result<(), Fail> {
     assert!(rt; first != make_row(alloc, "b")?);
     Ok(())
 }
+
+#[test]
+fn context_says_what_was_being_done_and_then_the_cause(rt: HostRuntime) -> Result<(), Fail> {
+    let alloc = rt.alloc();
+    let plain = DhcpError::new(ErrorKind::NoLease, String::from_str(alloc, "a")?);
+    let error = plain.try_clone(alloc)?.context(alloc, "b");
+    assert_eq!(rt; error.msg(), "b, caused by a");
+    assert_eq!(rt;
+        format!(in alloc; "{error}")?.as_str(),
+        "NoLease: b, caused by a"
+    );
+    let refused: Result<u8, DhcpError> = Err(plain.try_clone(alloc)?);
+    assert!(rt; refused.context(alloc, "b") == Err(error));
+    let given: Result<u8, DhcpError> = Ok(7);
+    assert!(rt; given.context(alloc, "b") == Ok(7));
+    assert!(rt; plain != DhcpError::new(ErrorKind::Timeout, String::from_str(alloc, "a")?));
+    Ok(())
+}
+
+#[test]
+fn equal_errors_may_keep_their_texts_apart(rt: HostRuntime) -> Result<(), Fail> {
+    let alloc = rt.alloc();
+    let fixed = DhcpError::new_fixed(ErrorKind::NoLease, FixedText::NoLease);
+    let owned = DhcpError::new(
+        ErrorKind::NoLease,
+        String::from_str(alloc, FixedText::NoLease.as_str())?,
+    );
+    assert!(rt; fixed == owned);
+    assert!(rt; fixed.try_clone(alloc)? == owned);
+    Ok(())
+}
