@@ -3,3 +3,4 @@ pub mod Error
 pub mod Kind
 pub mod Outcome
 pub mod Field
+pub mod Fault
