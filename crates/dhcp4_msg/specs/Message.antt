@@ -1,9 +1,11 @@
 -- A DHCPv4 message, RFC 2131 section 2: a header of 236 bytes, the cookie 63 82 53 63, and options.
-use Rattle.std.specs.Prelude.{ℕ, ◌==◌, List, [], ◌∷◌, ◌++◌, Option, Some, None, if◌then◌else◌}
+use Rattle.std.specs.Prelude.{ℕ, ◌==◌, List, [], ◌∷◌, ◌++◌, replicate, Option, Some, None, if◌then◌else◌}
 use Rattle.std.specs.Int.{w8, w16, w32, to_be_bytes}
-use Rattle.dhcp_wire.specs.Field.{Read, ◌>>=◌, bytes_at, number_at, address_at, terminated_text_at, terminated_text}
+use Rattle.std.specs.FinMap as map
+use Rattle.std.specs.declared.net.Ipv4Addr.{Ipv4Addr}
+use Rattle.dhcp_wire.specs.Field.{◌>>=◌, bytes_at, number_at, address_of, address_at, terminated_text_at, terminated_text}
 use Rattle.dhcp4_msg.specs.declared.message.DhcpV4Message.{DhcpV4Message}
-use Rattle.dhcp4_msg.specs.Options.{OptionMap, read_options, written_options}
+use Rattle.dhcp4_msg.specs.Options.{read_options, written_options}
 
 -- what stands between the header and the options, RFC 2131 section 3
 abbrev pub magic_cookie : ℕ
@@ -29,9 +31,21 @@ read_message bytes = do
   cookie ← number_at w32 file.1
   if cookie.0 == magic_cookie
       then Some (record {
-        op = op.0; htype = htype.0; hlen = hlen.0; hops = hops.0; xid = xid.0; secs = secs.0; flags = flags.0;
-        ciaddr = ciaddr.0; yiaddr = yiaddr.0; siaddr = siaddr.0; giaddr = giaddr.0; chaddr = chaddr.0;
-        sname = sname.0; file = file.0; options = read_options cookie.1;
+        op = op.0;
+        htype = htype.0;
+        hlen = hlen.0;
+        hops = hops.0;
+        xid = xid.0;
+        secs = secs.0;
+        flags = flags.0;
+        ciaddr = ciaddr.0;
+        yiaddr = yiaddr.0;
+        siaddr = siaddr.0;
+        giaddr = giaddr.0;
+        chaddr = chaddr.0;
+        sname = sname.0;
+        file = file.0;
+        options = read_options cookie.1;
       })
       else None
 
@@ -45,3 +59,27 @@ written_message message =
     ++ terminated_text 64 message.sname ++ terminated_text 128 message.file
     ++ to_be_bytes w32 magic_cookie
     ++ written_options message.options
+
+-- the address 0.0.0.0
+abbrev pub no_address : Ipv4Addr
+no_address = address_of (replicate 4 0)
+
+-- a message of a client over Ethernet, with every other field zero or empty
+unfoldable pub empty_message : DhcpV4Message
+empty_message = record {
+  op = 1;
+  htype = 1;
+  hlen = 6;
+  hops = 0;
+  xid = 0;
+  secs = 0;
+  flags = 0;
+  ciaddr = no_address;
+  yiaddr = no_address;
+  siaddr = no_address;
+  giaddr = no_address;
+  chaddr = replicate 16 0;
+  sname = [];
+  file = [];
+  options = map.empty;
+}

@@ -1,5 +1,5 @@
 -- A classless static route, RFC 3442: the width of a subnet mask, the significant octets of the destination, the router.
-use Rattle.std.specs.Prelude.{ℕ, zero, suc, ◌+◌, ◌-◌, ◌/◌, min, ◌==◌, List, [], ◌∷◌, ◌++◌, length, take, replicate, Option, Some, None, if◌then◌else◌}
+use Rattle.std.specs.Prelude.{ℕ, zero, suc, ◌+◌, ◌-◌, ◌/◌, min, List, [], ◌∷◌, ◌++◌, length, take, replicate, Option, Some, None}
 use Rattle.std.specs.Int.{w8}
 use Rattle.dhcp_wire.specs.Field.{Read, ◌>>=◌, bytes_at, number_at, address_of, address_at}
 use Rattle.dhcp4_msg.specs.declared.route.DhcpV4ClasslessRoute.{DhcpV4ClasslessRoute}
@@ -18,11 +18,14 @@ route_at bytes = do
   width ← number_at w8 bytes
   octets ← bytes_at (significant_octets width.0) width.1
   router ← address_at octets.1
-  Some (record {
-    destination = address_of (padded_octets octets.0);
-    prefix_length = width.0;
-    router = router.0;
-  }, router.1)
+  Some (
+    record {
+      destination = address_of (padded_octets octets.0);
+      prefix_length = width.0;
+      router = router.0;
+    },
+    router.1,
+  )
 
 -- routes one after the other that fill the bytes exactly, at most so many as there are bytes
 unfoldable pub routes_within : ℕ → List ℕ → Option (List DhcpV4ClasslessRoute)

@@ -1,5 +1,5 @@
 -- The values of options, RFC 2132: how each reads, and how it is written.
-use Rattle.std.specs.Prelude.{ℕ, ◌≤◌, ◌==◌, ◌&&◌, nat_le, Bool, true, false, List, [], ◌∷◌, ◌++◌, length, map, take, Option, Some, None, option_map}
+use Rattle.std.specs.Prelude.{ℕ, ◌&&◌, nat_le, Bool, true, false, List, [], ◌∷◌, ◌++◌, length, map, take, Option, Some, option_map}
 use Rattle.std.specs.List.{flat_map}
 use Rattle.std.specs.Int.{Width, w8, w16, w32, to_be_bytes}
 use Rattle.std.specs.declared.net.Ipv4Addr.{Ipv4Addr}

@@ -1,6 +1,6 @@
 //! The options of a message, by their numbers.
 
-ghost use Rattle.std.specs.Prelude.{◌≡◌, OnOk, IsTrue, option_copied};
+ghost use Rattle.std.specs.Prelude.{◌≡◌, OnOk, IfErr, IsTrue, option_copied};
 ghost use Rattle.std.specs.FinMap as map;
 ghost use Rattle.dhcp_wire.specs.Outcome.{Makes, Emits, no_memory};
 ghost use Rattle.dhcp4_msg.specs.Code.{number_of};
@@ -22,7 +22,6 @@ pub struct DhcpV4Options {
 impl Model for DhcpV4Options {
     ghost use Rattle.std.specs.FinMap as map;
     ghost use Rattle.dhcp4_msg.specs.Options.{OptionMap};
-
     ghost use Rattle.std.specs.Coded.{coded_ℕ};
     ghost use Rattle.dhcp4_msg.specs.contracts.option.DhcpV4Option as option;
 
@@ -30,7 +29,12 @@ impl Model for DhcpV4Options {
 
     ghost coded = { map.code coded_ℕ option.the_row.coded };
 
+    ghost use Rattle.std.specs.Prelude.{IsTrue};
+    ghost use Rattle.dhcp4_msg.specs.Kept.{is_kept};
+
     ghost view = { λ options. map.from_sorted options.kept.entries };
+
+    ghost invariant = { λ options. IsTrue (is_kept options.kept.entries) };
 }
 
 impl DhcpV4Options {
@@ -55,6 +59,24 @@ impl DhcpV4Options {
     pub fn insert(&mut self, option: DhcpV4Option) -> Result<(), DhcpError>
         requires { IsTrue (fits option) }
         ensures ok { OnOk result (self.new ≡ map.insert self.old (option_number option) option) }
+        ensures err { IfErr result (λ e. (e ≡ no_memory) × (self.new ≡ self.old)) }
+    {
+        self.kept.insert(u8::from(option.code()), option)?;
+        Ok(())
+    }
+    /// Reads a list of options. Of a number that comes more than once the last option that reads is kept; an option without a
+    /// reading is skipped; one that is cut short ends the list, and so does End.
+    #[tactic(auto, unfolding(dhcp_wire::specs::Kind::fixed_text))]
+    pub fn parse(alloc: Global, raw: &[u8]) -> Result<Self, DhcpError>
+        ensures { Makes (λ options. options) result (read_options raw.now) }
+    {
+        Err(DhcpError::new_fixed(ErrorKind::OutOfMemory, FixedText::NoMemory))
+    }
+
+    /// Writes the options by rising number, and End last, also where it is not among them.
+    #[tactic(auto, unfolding(dhcp_wire::specs::Kind::fixed_text))]
+    pub fn emit(&self, buf: &mut BufferMut) -> Result<(), DhcpError>
+        ensures { Emits result buf.old buf.new (written_options self.now) }
     {
         Err(DhcpError::new_fixed(ErrorKind::OutOfMemory, FixedText::NoMemory))
     }

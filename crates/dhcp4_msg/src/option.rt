@@ -1,5 +1,8 @@
 //! Options, RFC 2132.
 
+ghost use Rattle.std.specs.Prelude.{◌≡◌};
+ghost use Rattle.dhcp4_msg.specs.Value.{option_code};
+
 use crate::{DhcpV4ClasslessRoute, DhcpV4MessageType, DhcpV4OptionCode};
 use dhcp_wire::{Bytes, Sequence, Text};
 use std::net::Ipv4Addr;
@@ -37,4 +40,36 @@ pub struct DhcpV4OptionUnknown {
     pub code: u8,
     /// The bytes of its value.
     pub raw: Bytes,
+}
+
+impl DhcpV4Option {
+    /// The code of the option.
+    #[tactic(auto, unfolding(crate::specs::Value::option_code))]
+    pub fn code(&self) -> DhcpV4OptionCode
+        ensures { result ≡ option_code self.now }
+    {
+        match self {
+            DhcpV4Option::Pad => DhcpV4OptionCode::Pad,
+            DhcpV4Option::SubnetMask(_) => DhcpV4OptionCode::SubnetMask,
+            DhcpV4Option::Router(_) => DhcpV4OptionCode::Router,
+            DhcpV4Option::DomainNameServer(_) => DhcpV4OptionCode::DomainNameServer,
+            DhcpV4Option::HostName(_) => DhcpV4OptionCode::HostName,
+            DhcpV4Option::DomainName(_) => DhcpV4OptionCode::DomainName,
+            DhcpV4Option::InterfaceMtu(_) => DhcpV4OptionCode::InterfaceMtu,
+            DhcpV4Option::BroadcastAddress(_) => DhcpV4OptionCode::BroadcastAddress,
+            DhcpV4Option::NtpServers(_) => DhcpV4OptionCode::NtpServers,
+            DhcpV4Option::RequestedIpAddress(_) => DhcpV4OptionCode::RequestedIpAddress,
+            DhcpV4Option::IpAddressLeaseTime(_) => DhcpV4OptionCode::IpAddressLeaseTime,
+            DhcpV4Option::MessageType(_) => DhcpV4OptionCode::MessageType,
+            DhcpV4Option::ServerIdentifier(_) => DhcpV4OptionCode::ServerIdentifier,
+            DhcpV4Option::ParameterRequestList(_) => DhcpV4OptionCode::ParameterRequestList,
+            DhcpV4Option::Message(_) => DhcpV4OptionCode::Message,
+            DhcpV4Option::RenewalTime(_) => DhcpV4OptionCode::RenewalTime,
+            DhcpV4Option::RebindingTime(_) => DhcpV4OptionCode::RebindingTime,
+            DhcpV4Option::ClientIdentifier(_) => DhcpV4OptionCode::ClientIdentifier,
+            DhcpV4Option::ClasslessStaticRoute(_) => DhcpV4OptionCode::ClasslessStaticRoute,
+            DhcpV4Option::End => DhcpV4OptionCode::End,
+            DhcpV4Option::Unknown(unknown) => DhcpV4OptionCode::Other(unknown.code),
+        }
+    }
 }
