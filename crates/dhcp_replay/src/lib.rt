@@ -1,0 +1,14 @@
+//! Scripts and their texts, and the streams that they come from and go to.
+#![tactic(auto)]
+
+mod mem_sink;
+mod mem_source;
+mod std_stream;
+mod stream;
+mod whole;
+
+pub use mem_sink::MemSink;
+pub use mem_source::MemSource;
+pub use std_stream::{StdSink, StdSource};
+pub use stream::{ReadOutcome, Sink, Source, WriteOutcome};
+pub use whole::{MAX_INPUT, Whole, read_whole, write_whole};

@@ -1,0 +1,90 @@
+//! Sources and sinks over the readers and writers of std, as standard input and output are. They tell no bytes, and count each error.
+
+ghost use Rattle.std.specs.Prelude.{◌≡◌, None};
+
+use crate::{ReadOutcome, Sink, Source, WriteOutcome};
+use std::io::{Read, Write};
+use std::marker::Model;
+
+/// A source over a reader. It tells no bytes; each error of the reader is a fault. Contracts see it as the number of its faults.
+#[derive(Debug, Drop)]
+pub struct StdSource<R> {
+    reader: R,
+    faults: u64,
+}
+
+/// A sink over a writer. It tells no bytes; each error of the writer is a fault, and so is a write that took nothing of a piece that
+/// is not empty. Contracts see it as the number of its faults.
+#[derive(Debug, Drop)]
+pub struct StdSink<W> {
+    writer: W,
+    faults: u64,
+}
+
+impl<R> Model for StdSource<R> {
+    ghost use Rattle.std.specs.Prelude.{ℕ};
+
+    ghost Value = { ℕ };
+
+    ghost view = { λ source. source.faults };
+}
+
+impl<W> Model for StdSink<W> {
+    ghost use Rattle.std.specs.Prelude.{ℕ};
+
+    ghost Value = { ℕ };
+
+    ghost view = { λ sink. sink.faults };
+}
+
+impl<R: Read> StdSource<R> {
+    /// Reads from this reader, with no fault yet.
+    pub fn new(reader: R) -> Self
+        ensures { result ≡ 0 }
+    {
+        StdSource { reader, faults: 0 }
+    }
+}
+
+impl<W: Write> StdSink<W> {
+    /// Writes to this writer, with no fault yet.
+    pub fn new(writer: W) -> Self
+        ensures { result ≡ 0 }
+    {
+        StdSink { writer, faults: 0 }
+    }
+}
+
+impl<R: Read> Source for StdSource<R> {
+    ghost left = { λ _. None };
+
+    ghost faults = { λ source. source };
+
+    #[tactic(auto, unfolding(crate::specs::Stream::in_front))]
+    fn read(&mut self, into: &mut [u8]) -> ReadOutcome {
+        match self.reader.read(into) {
+            Ok(count) => ReadOutcome::Read(count),
+            Err(_) => {
+                self.faults = self.faults.saturating_add(1);
+                ReadOutcome::Failed
+            }
+        }
+    }
+}
+
+impl<W: Write> Sink for StdSink<W> {
+    ghost taken = { λ _. None };
+
+    ghost faults = { λ sink. sink };
+
+    #[tactic(auto, unfolding(crate::specs::Stream::behind))]
+    fn write(&mut self, bytes: &[u8]) -> WriteOutcome {
+        match self.writer.write(bytes) {
+            Ok(count) if count > 0 || bytes.is_empty() => WriteOutcome::Wrote(count),
+            _ => {
+                self.faults = self.faults.saturating_add(1);
+                WriteOutcome::Failed
+            }
+        }
+    }
+}
