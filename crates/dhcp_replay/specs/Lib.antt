@@ -1,3 +1,5 @@
 pub mod Stream
 pub mod Memory
 pub mod Whole
+pub mod HexText
+pub mod ThinText

@@ -5,10 +5,14 @@ mod mem_sink;
 mod mem_source;
 mod std_stream;
 mod stream;
+mod thin_output;
+mod thin_script;
 mod whole;
 
 pub use mem_sink::MemSink;
 pub use mem_source::MemSource;
 pub use std_stream::{StdSink, StdSource};
 pub use stream::{ReadOutcome, Sink, Source, WriteOutcome};
+pub use thin_output::{ThinLease, ThinOutput, ThinReport};
+pub use thin_script::{ThinEvent, ThinScript};
 pub use whole::{MAX_INPUT, Whole, read_whole, write_whole};
