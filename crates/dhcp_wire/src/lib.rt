@@ -4,6 +4,7 @@
 
 mod error;
 mod kind;
+mod laws;
 mod list;
 mod reading;
 mod string;
@@ -13,6 +14,7 @@ mod writing;
 
 pub use error::{DhcpError, ErrorContext};
 pub use kind::{ErrorKind, FixedText};
+pub use laws::{addresses_read_back, bytes_read_back, numbers_read_back, texts_read_back};
 pub use list::{Bytes, Sequence};
 pub use reading::Buffer;
 pub use string::Text;
