@@ -3,6 +3,7 @@
 use super::*;
 use std::alloc::Global;
 use std::net::Ipv4Addr;
+use std::process::Abort;
 use std::test::Fail;
 
 // A struct and an enum with every kind of list inside, whose equality is derived.
@@ -48,18 +49,30 @@ fn derived_equality_compares_the_lists(rt: HostRuntime) -> Result<(), Fail> {
 fn context_says_what_was_being_done_and_then_the_cause(rt: HostRuntime) -> Result<(), Fail> {
     let alloc = rt.alloc();
     let plain = DhcpError::new(ErrorKind::NoLease, String::from_str(alloc, "a")?);
-    let error = plain.try_clone(alloc)?.context(alloc, "b");
+    let error = with_memory(&rt, plain.try_clone(alloc)?.context(alloc, "b"))?;
     assert_eq!(rt; error.msg(), "b, caused by a");
     assert_eq!(rt;
         format!(in alloc; "{error}")?.as_str(),
         "NoLease: b, caused by a"
     );
     let refused: Result<u8, DhcpError> = Err(plain.try_clone(alloc)?);
-    assert!(rt; refused.context(alloc, "b") == Err(error));
+    match refused.context(alloc, "b") {
+        Ok(_) => assert!(rt; false, "the error is lost"),
+        Err(again) => assert!(rt; with_memory(&rt, again)? == error),
+    }
     let given: Result<u8, DhcpError> = Ok(7);
     assert!(rt; given.context(alloc, "b") == Ok(7));
     assert!(rt; plain != DhcpError::new(ErrorKind::Timeout, String::from_str(alloc, "a")?));
     Ok(())
+}
+
+// The error, or, where it is want of memory, a refusal of the test; it then has no text.
+fn with_memory(rt: &impl Abort, error: DhcpError) -> Result<DhcpError, DhcpError> {
+    if error.kind() == ErrorKind::OutOfMemory {
+        assert_eq!(rt; error.msg(), "");
+        return Err(error);
+    }
+    Ok(error)
 }
 
 #[test]
@@ -222,4 +235,57 @@ fn no_memory_alone_has_no_text(rt: HostRuntime) {
     for text in kinds {
         assert!(rt; !text.as_str().is_empty());
     }
+}
+
+// One of the writers, each of which takes memory.
+fn write_one(writer: usize, written: &mut BufferMut) -> Result<(), DhcpError> {
+    match writer {
+        0 => written.write_u8(1),
+        1 => written.write_u16_be(1),
+        2 => written.write_u32_be(1),
+        3 => written.write_ipv4(Ipv4Addr::new(192, 0, 2, 1)),
+        4 => written.write_bytes(&[1, 2, 3]),
+        5 => written.write_string_without_null("ab"),
+        _ => written.write_string_with_null("ab", 16),
+    }
+}
+
+#[test]
+fn want_of_memory_leaves_what_was_written(rt: HostRuntime) -> Result<(), Fail> {
+    for writer in 0..7 {
+        // As many bytes as the first growth has room for, so that the writer has to grow again.
+        let before = [9; 8];
+        let mut written = BufferMut::new(rt.alloc());
+        written.write_bytes(&before)?;
+        if let Err(error) = write_one(writer, &mut written) {
+            assert_eq!(rt; written.bytes(), before.as_slice(), "by writer {writer}");
+            assert!(rt; error.kind() == ErrorKind::OutOfMemory);
+            assert_eq!(rt; error.msg(), "");
+            Err(error)?;
+        }
+        assert!(rt; 8 < written.len());
+    }
+    Ok(())
+}
+
+#[test]
+fn want_of_memory_leaves_the_list_and_the_place(rt: HostRuntime) -> Result<(), Fail> {
+    let mut numbers: Sequence<u16> = Sequence::from_slice(rt.alloc(), &[1, 2, 3, 4])?;
+    if let Err(error) = numbers.push(5) {
+        assert_eq!(rt; numbers.as_slice(), [1, 2, 3, 4].as_slice());
+        Err(error)?;
+    }
+    assert_eq!(rt; numbers.as_slice(), [1, 2, 3, 4, 5].as_slice());
+    let bytes = [b'a', 0, 7];
+    let mut left = Buffer::new(&bytes);
+    match left.get_string_with_null(rt.alloc(), 2) {
+        Ok(text) => assert_eq!(rt; text.as_str(), "a"),
+        Err(error) => {
+            assert_eq!(rt; left.get_remains(), bytes.as_slice());
+            assert!(rt; error.kind() == ErrorKind::OutOfMemory);
+            Err(error)?;
+        }
+    }
+    assert_eq!(rt; left.get_remains(), [7].as_slice());
+    Ok(())
 }
