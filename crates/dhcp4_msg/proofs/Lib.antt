@@ -1,2 +1,4 @@
 pub mod Entries
+pub mod FieldLemmas
 pub mod KeptLemmas
+pub mod RouteLemmas

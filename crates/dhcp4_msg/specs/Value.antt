@@ -33,7 +33,7 @@ abbrev pub text_in : List ℕ → Option (List ℕ)
 text_in value = text_of (before_zero value)
 
 -- a message type
-abbrev pub type_in : List ℕ → Option DhcpV4MessageType
+unfoldable pub type_in : List ℕ → Option DhcpV4MessageType
 type_in value = number_in w8 value >>= type_of
 
 -- what the value of each code reads as

@@ -7,6 +7,7 @@ mod map;
 mod message;
 mod option;
 mod route;
+mod value;
 
 pub use code::DhcpV4OptionCode;
 pub use kind::DhcpV4MessageType;

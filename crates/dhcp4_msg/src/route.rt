@@ -1,5 +1,11 @@
 //! Classless static routes, RFC 3442.
 
+ghost use Rattle.std.specs.Prelude.{◌≡◌, ◌≤◌, length};
+ghost use Rattle.dhcp_wire.specs.Field.{address_of};
+ghost use Rattle.dhcp_wire.specs.Outcome.{Reads};
+ghost use Rattle.dhcp4_msg.specs.Route as routes;
+
+use dhcp_wire::{Buffer, DhcpError};
 use std::net::Ipv4Addr;
 
 /// A route: where to, and by which router.
@@ -11,4 +17,41 @@ pub struct DhcpV4ClasslessRoute {
     pub prefix_length: u8,
     /// The router.
     pub router: Ipv4Addr,
+}
+
+impl DhcpV4ClasslessRoute {
+    /// Reads one route. `InvalidDhcpMessage` exactly where the bytes are too few, and then the place stays.
+    #[tactic(auto, unfolding(crate::specs::Route::route_at))]
+    pub fn parse(buf: &mut Buffer) -> Result<Self, DhcpError>
+        ensures { Reads (λ route. route) result buf.old buf.new (routes.route_at buf.old) }
+    {
+        // width, significant octets, router
+        let mut ahead = Buffer::new(buf.get_remains());
+        let prefix_length = ahead.get_u8()?;
+        let octets = ahead.get_bytes(significant_octets(prefix_length))?;
+        let router = ahead.get_ipv4()?;
+        *buf = ahead;
+        Ok(DhcpV4ClasslessRoute {
+            destination: padded_address(octets),
+            prefix_length,
+            router,
+        })
+    }
+}
+
+// How many octets of a destination stand for a mask of this width.
+fn significant_octets(width: u8) -> usize
+    ensures { result ≡ routes.significant_octets width }
+{
+    usize::from(width).div_ceil(8).min(4)
+}
+
+// The address that begins with these octets; those not given are zero.
+fn padded_address(octets: &[u8]) -> Ipv4Addr
+    requires { length octets.now ≤ 4 }
+    ensures { result ≡ address_of (routes.padded_octets octets.now) }
+{
+    let mut padded = [0; 4];
+    padded[..octets.len()].copy_from_slice(octets);
+    Ipv4Addr::from(padded)
 }

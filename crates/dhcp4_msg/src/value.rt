@@ -1,0 +1,154 @@
+//! The values of options, as they read, RFC 2132: one function for each kind of value, one row for each code.
+
+ghost use Rattle.std.specs.Prelude.{◌≡◌, map, ok_or};
+ghost use Rattle.std.specs.Int.{w16, w32};
+ghost use Rattle.dhcp_wire.specs.Outcome.{Gives, Makes};
+ghost use Rattle.dhcp4_msg.specs.Code.{code_of};
+ghost use Rattle.dhcp4_msg.specs.Route as routes;
+ghost use Rattle.dhcp4_msg.specs.Value.{address_in, addresses_in, number_in, text_in, type_in, value_of};
+
+use crate::{
+    DhcpV4ClasslessRoute, DhcpV4MessageType, DhcpV4Option, DhcpV4OptionCode, DhcpV4OptionUnknown,
+};
+use dhcp_wire::{Buffer, Bytes, DhcpError, ErrorKind, FixedText, Sequence, Text};
+use std::alloc::Global;
+use std::net::Ipv4Addr;
+
+// What the value of an option of this code reads as.
+#[tactic(auto, unfolding(crate::specs::Value::value_of))]
+pub(crate) fn read_value(
+    alloc: Global,
+    code: DhcpV4OptionCode,
+    value: &[u8],
+) -> Result<DhcpV4Option, DhcpError>
+    ensures { Gives (λ option. option) result (ok_or (value_of code value.now) ErrorKind.InvalidDhcpMessage) }
+{
+    match code {
+        DhcpV4OptionCode::Pad => Ok(DhcpV4Option::Pad),
+        DhcpV4OptionCode::SubnetMask => Ok(DhcpV4Option::SubnetMask(address_of(value)?)),
+        DhcpV4OptionCode::Router => Ok(DhcpV4Option::Router(addresses_of(alloc, value)?)),
+        DhcpV4OptionCode::DomainNameServer => {
+            Ok(DhcpV4Option::DomainNameServer(addresses_of(alloc, value)?))
+        }
+        DhcpV4OptionCode::HostName => Ok(DhcpV4Option::HostName(text_of(alloc, value)?)),
+        DhcpV4OptionCode::DomainName => Ok(DhcpV4Option::DomainName(text_of(alloc, value)?)),
+        DhcpV4OptionCode::InterfaceMtu => Ok(DhcpV4Option::InterfaceMtu(size_of(value)?)),
+        DhcpV4OptionCode::BroadcastAddress => {
+            Ok(DhcpV4Option::BroadcastAddress(address_of(value)?))
+        }
+        DhcpV4OptionCode::NtpServers => Ok(DhcpV4Option::NtpServers(addresses_of(alloc, value)?)),
+        DhcpV4OptionCode::RequestedIpAddress => {
+            Ok(DhcpV4Option::RequestedIpAddress(address_of(value)?))
+        }
+        DhcpV4OptionCode::IpAddressLeaseTime => {
+            Ok(DhcpV4Option::IpAddressLeaseTime(seconds_of(value)?))
+        }
+        DhcpV4OptionCode::MessageType => Ok(DhcpV4Option::MessageType(type_of(value)?)),
+        DhcpV4OptionCode::ServerIdentifier => {
+            Ok(DhcpV4Option::ServerIdentifier(address_of(value)?))
+        }
+        DhcpV4OptionCode::ParameterRequestList => {
+            Ok(DhcpV4Option::ParameterRequestList(codes_of(alloc, value)?))
+        }
+        DhcpV4OptionCode::Message => Ok(DhcpV4Option::Message(text_of(alloc, value)?)),
+        DhcpV4OptionCode::RenewalTime => Ok(DhcpV4Option::RenewalTime(seconds_of(value)?)),
+        DhcpV4OptionCode::RebindingTime => Ok(DhcpV4Option::RebindingTime(seconds_of(value)?)),
+        DhcpV4OptionCode::ClientIdentifier => {
+            Ok(DhcpV4Option::ClientIdentifier(Bytes::from_slice(alloc, value)?))
+        }
+        DhcpV4OptionCode::ClasslessStaticRoute => {
+            Ok(DhcpV4Option::ClasslessStaticRoute(routes_of(alloc, value)?))
+        }
+        DhcpV4OptionCode::End => Ok(DhcpV4Option::End),
+        DhcpV4OptionCode::Other(code) => {
+            let raw = Bytes::from_slice(alloc, value)?;
+            Ok(DhcpV4Option::Unknown(DhcpV4OptionUnknown { code, raw }))
+        }
+    }
+}
+
+// The address of the first four bytes.
+fn address_of(value: &[u8]) -> Result<Ipv4Addr, DhcpError>
+    ensures { Gives (λ address. address) result (ok_or (address_in value.now) ErrorKind.InvalidDhcpMessage) }
+{
+    Buffer::new(value).get_ipv4()
+}
+
+// The number of the first two bytes.
+fn size_of(value: &[u8]) -> Result<u16, DhcpError>
+    ensures { Gives (λ number. number) result (ok_or (number_in w16 value.now) ErrorKind.InvalidDhcpMessage) }
+{
+    Buffer::new(value).get_u16_be()
+}
+
+// The number of the first four bytes.
+fn seconds_of(value: &[u8]) -> Result<u32, DhcpError>
+    ensures { Gives (λ number. number) result (ok_or (number_in w32 value.now) ErrorKind.InvalidDhcpMessage) }
+{
+    Buffer::new(value).get_u32_be()
+}
+
+// The message type of the first byte.
+#[tactic(auto, unfolding(crate::specs::Value::type_in))]
+fn type_of(value: &[u8]) -> Result<DhcpV4MessageType, DhcpError>
+    ensures { Gives (λ kind. kind) result (ok_or (type_in value.now) ErrorKind.InvalidDhcpMessage) }
+{
+    let number = Buffer::new(value).get_u8()?;
+    match DhcpV4MessageType::try_from(number) {
+        Ok(kind) => Ok(kind),
+        Err(_) => Err(unreadable()),
+    }
+}
+
+// The text before the first zero byte.
+#[tactic(auto, using(crate::proofs::FieldLemmas::whole_field))]
+fn text_of(alloc: Global, value: &[u8]) -> Result<Text, DhcpError>
+    ensures { Gives (λ text. text) result (ok_or (text_in value.now) ErrorKind.InvalidDhcpMessage) }
+{
+    let text = Buffer::new(value).get_string_with_null(alloc, value.len())?;
+    Ok(Text::from(text))
+}
+
+// An address for each whole group of four bytes.
+fn addresses_of(alloc: Global, value: &[u8]) -> Result<Sequence<Ipv4Addr>, DhcpError>
+    ensures { Makes (λ addresses. addresses) result (addresses_in value.now) }
+{
+    let mut addresses = Sequence::new(alloc);
+    let mut rest = value;
+    while let [a, b, c, d, later @ ..] = rest {
+        addresses.push(Ipv4Addr::new(*a, *b, *c, *d))?;
+        rest = later;
+    }
+    Ok(addresses)
+}
+
+// A code for each byte.
+fn codes_of(alloc: Global, value: &[u8]) -> Result<Sequence<DhcpV4OptionCode>, DhcpError>
+    ensures { Makes (λ codes. codes) result (map code_of value.now) }
+{
+    let mut codes = Sequence::new(alloc);
+    for number in value {
+        codes.push(DhcpV4OptionCode::from(*number))?;
+    }
+    Ok(codes)
+}
+
+// The routes that fill the bytes exactly.
+fn routes_of(alloc: Global, value: &[u8]) -> Result<Sequence<DhcpV4ClasslessRoute>, DhcpError>
+    ensures { Gives (λ routes. routes) result (ok_or (routes.routes_of value.now) ErrorKind.InvalidDhcpMessage) }
+{
+    let mut routes = Sequence::new(alloc);
+    let mut rest = Buffer::new(value);
+    while !rest.is_empty() {
+        routes.push(DhcpV4ClasslessRoute::parse(&mut rest)?)?;
+    }
+    Ok(routes)
+}
+
+// The refusal of bytes that do not read.
+#[tactic(auto, unfolding(dhcp_wire::specs::Kind::fixed_text))]
+fn unreadable() -> DhcpError
+    ensures { result.kind ≡ ErrorKind.InvalidDhcpMessage }
+{
+    DhcpError::new_fixed(ErrorKind::InvalidDhcpMessage, FixedText::Unreadable)
+}
