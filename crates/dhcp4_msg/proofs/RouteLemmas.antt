@@ -1,11 +1,13 @@
 -- Classless routes: each takes some bytes, so that a list of bytes has no more of them than bytes.
-use Rattle.std.proofs.Common.{◌≡◌, ℕ, zero, suc, ◌+◌, ◌<◌, ◌≤◌, List, [], ◌∷◌, ◌++◌, append_assoc, append-nil, length, Option, Some, None, option_map, refl, sym, ap, subst, ◌∙◌, arith}
+use Rattle.std.proofs.Common.{◌≡◌, ℕ, zero, suc, ◌+◌, ◌<◌, ◌≤◌, List, [], ◌∷◌, ◌++◌, append_assoc, append-nil, length, take, Option, Some, None, option_map, refl, sym, ap, subst, ◌∙◌, arith}
 use Rattle.std.specs.Int.{w8, from_be_bytes}
-use Rattle.std.proofs.lemmas.Option.{none-some}
+use Rattle.std.proofs.lemmas.Option.{none-some, same_Some, option_and_then_some}
+use Rattle.std.proofs.lemmas.List.{take_at}
+use Rattle.std.specs.List.{flat_map}
 use Rattle.dhcp_wire.specs.Field.{Read, ◌>>=◌, bytes_at, number_at, address_at, address_of}
 use Rattle.dhcp4_msg.specs.declared.route.DhcpV4ClasslessRoute.{DhcpV4ClasslessRoute}
-use Rattle.dhcp4_msg.specs.Route.{significant_octets, route_at, routes_within, routes_of}
-use Rattle.dhcp4_msg.proofs.FieldLemmas.{length-bytes_at, Within, Within-then, Within-map, Within-bytes_at}
+use Rattle.dhcp4_msg.specs.Route.{significant_octets, padded_octets, written_route, route_at, routes_within, routes_of}
+use Rattle.dhcp4_msg.proofs.FieldLemmas.{bytes_at-split, number_at-split, address_at-split, length-bytes_at, Within, Within-then, Within-map, Within-bytes_at}
 
 -- the significant octets of a destination are four at most
 pub significant_octets-le : (width : ℕ) (bytes octets rest : List ℕ) → bytes_at (significant_octets width) bytes ≡ Some (octets, rest) → length octets ≤ 4
@@ -90,3 +92,35 @@ routes_refused done bytes all so_far some is = sym so_far ∙ ap (option_map (λ
 -- and at the end.
 pub routes_end : (done : List DhcpV4ClasslessRoute) (bytes : List ℕ) (all : Option (List DhcpV4ClasslessRoute)) → option_map (λ later. done ++ later) (routes_of bytes) ≡ all → bytes ≡ [] → all ≡ Some done
 routes_end done bytes all so_far is = sym so_far ∙ ap (λ rest. option_map (λ later. done ++ later) (routes_of rest)) is ∙ ap (option_map (λ later. done ++ later)) routes_of-nil ∙ ap Some (append-nil done)
+
+-- the octets that were given begin the address that they are padded to
+take-padded : (n : ℕ) (octets : List ℕ) → length octets ≡ n → take n (padded_octets octets) ≡ octets
+take-padded n octets is = take_at octets _ n is
+
+-- what reads as a route is written as the same bytes
+pub written_route-route_at : (bytes rest : List ℕ) (route : DhcpV4ClasslessRoute) → route_at bytes ≡ Some (route, rest) → bytes ≡ written_route route ++ rest
+unfolding route_at written_route
+written_route-route_at bytes rest route is =
+    option_and_then_some _ (number_at w8 bytes) _ is (λ width at_width then_octets.
+    option_and_then_some _ (bytes_at (significant_octets width.0) width.1) _ then_octets (λ octets at_octets then_router.
+    option_and_then_some _ (address_at octets.1) _ then_router (λ router at_router made.
+    let at_front = bytes_at-split _ width.1 _ _ at_octets in
+    subst (λ pair. bytes ≡ written_route pair.0 ++ pair.1) (same_Some _ _ made)
+    (number_at-split bytes _ _ at_width
+    ∙ ap (λ after. width.0 ∷ after)
+    (at_front.0 ∙ ap (λ after. octets.0 ++ after) (address_at-split octets.1 _ _ at_router).0
+    ∙ ap (λ front. front ++ (router.0.octets ++ router.1)) (sym (take-padded _ octets.0 at_front.1))
+    ∙ sym (append_assoc (take (significant_octets width.0) (padded_octets octets.0)) router.0.octets router.1))))))
+
+-- what reads as routes is written as the same bytes
+pub written_routes-routes_within : (fuel : ℕ) (value : List ℕ) (routes : List DhcpV4ClasslessRoute) → routes_within fuel value ≡ Some routes → flat_map written_route routes ≡ value
+unfolding routes_within
+written_routes-routes_within zero [] routes is = ap (flat_map written_route) (sym (same_Some _ _ is))
+written_routes-routes_within zero (byte ∷ bytes) routes is = absurd (none-some _ is)
+written_routes-routes_within (suc fuel) [] routes is = ap (flat_map written_route) (sym (same_Some _ _ is))
+written_routes-routes_within (suc fuel) (byte ∷ bytes) routes is =
+    option_and_then_some _ (route_at (byte ∷ bytes)) _ is (λ route at_route then_routes.
+    option_and_then_some _ (routes_within fuel route.1) _ then_routes (λ later at_later made.
+    ap (flat_map written_route) (sym (same_Some _ _ made))
+    ∙ ap (λ bytes. written_route route.0 ++ bytes) (written_routes-routes_within fuel route.1 later at_later)
+    ∙ sym (written_route-route_at (byte ∷ bytes) route.1 route.0 at_route)))

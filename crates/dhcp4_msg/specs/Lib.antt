@@ -6,3 +6,5 @@ pub mod Cut
 pub mod Kept
 pub mod Options
 pub mod Message
+pub mod View
+pub mod Outcome

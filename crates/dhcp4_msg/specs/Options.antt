@@ -3,12 +3,12 @@ use Rattle.std.specs.Prelude.{ℕ, List, [], ◌∷◌, ◌++◌, reverse, Optio
 use Rattle.std.specs.Ordering.{nat_cmp}
 use Rattle.std.specs.List.{flat_map, filter_map}
 use Rattle.std.specs.FinMap as map
-use Rattle.dhcp_wire.specs.Field.{◌>>=◌}
+use Rattle.dhcp_wire.specs.Field.{Read, ◌>>=◌}
 use Rattle.dhcp4_msg.specs.declared.kind.DhcpV4MessageType.{DhcpV4MessageType}
 use Rattle.dhcp4_msg.specs.declared.option.DhcpV4Option.{DhcpV4Option}
 use Rattle.dhcp4_msg.specs.declared.option.DhcpV4Option.TheVariants.{MessageType}
 use Rattle.dhcp4_msg.specs.Code.{code_of}
-use Rattle.dhcp4_msg.specs.Cut.{Item, cut}
+use Rattle.dhcp4_msg.specs.Cut.{Item, item_at, cut}
 use Rattle.dhcp4_msg.specs.Value.{value_of, written_option}
 
 -- options by their numbers
@@ -18,6 +18,19 @@ OptionMap = map.FinMap nat_cmp DhcpV4Option
 -- the option that an item reads as, under its number; an item without a reading is skipped
 abbrev pub reading_of : Item → Option (ℕ × DhcpV4Option)
 reading_of item = option_map (λ option. (item.0, option)) (value_of (code_of item.0) item.1)
+
+-- The option at the front, if it reads, and the bytes after it. None reads from one that is cut short, and nothing is passed then.
+unfoldable pub option_at : List ℕ → Option DhcpV4Option × List ℕ
+option_at bytes = read_after bytes (item_at bytes)
+  where
+    read_after : List ℕ → Read Item → Option DhcpV4Option × List ℕ
+    read_after bytes None = (None, bytes)
+    read_after bytes (Some found) = (value_of (code_of found.0.0) found.0.1, found.1)
+
+-- a map with the option that an item reads as
+abbrev pub with_reading : OptionMap → Option (ℕ × DhcpV4Option) → OptionMap
+with_reading options None = options
+with_reading options (Some entry) = map.insert options entry.0 entry.1
 
 -- the options of some items: of each number the last that reads
 abbrev pub options_of : List Item → OptionMap

@@ -2,6 +2,7 @@
 #![tactic(auto)]
 
 mod code;
+mod cut;
 mod kind;
 mod map;
 mod message;

@@ -1,12 +1,14 @@
 //! The options of a message, by their numbers.
 
-ghost use Rattle.std.specs.Prelude.{◌≡◌, OnOk, IfErr, IsTrue, option_copied};
+ghost use Rattle.std.specs.Prelude.{◌≡◌, ◌≤◌, length, OnOk, IfErr, MatchResult, IsTrue, option_copied};
 ghost use Rattle.std.specs.FinMap as map;
 ghost use Rattle.dhcp_wire.specs.Outcome.{Makes, Emits, no_memory};
 ghost use Rattle.dhcp4_msg.specs.Code.{number_of};
 ghost use Rattle.dhcp4_msg.specs.Value.{option_number, fits};
-ghost use Rattle.dhcp4_msg.specs.Options.{read_options, written_options};
+ghost use Rattle.dhcp4_msg.specs.Options.{reading_of, with_reading, read_options, written_options};
 
+use crate::cut::{Item, item_at, left_after};
+use crate::value::read_value;
 use crate::{DhcpV4Option, DhcpV4OptionCode};
 use dhcp_wire::{BufferMut, DhcpError, ErrorKind, FixedText};
 use std::alloc::Global;
@@ -66,11 +68,31 @@ impl DhcpV4Options {
     }
     /// Reads a list of options. Of a number that comes more than once the last option that reads is kept; an option without a
     /// reading is skipped; one that is cut short ends the list, and so does End.
-    #[tactic(auto, unfolding(dhcp_wire::specs::Kind::fixed_text))]
     pub fn parse(alloc: Global, raw: &[u8]) -> Result<Self, DhcpError>
         ensures { Makes (λ options. options) result (read_options raw.now) }
     {
-        Err(DhcpError::new_fixed(ErrorKind::OutOfMemory, FixedText::NoMemory))
+        let mut options = DhcpV4Options::new(alloc);
+        let mut rest = raw;
+        while let Some((item, later)) = item_at(rest) {
+            options.keep(alloc, item)?;
+            rest = left_after(item.number, later);
+        }
+        Ok(options)
+    }
+
+    // Keeps the option that the item reads as, if it reads.
+    #[tactic(auto, using(crate::proofs::ValueLemmas::option_number_value_of))]
+    fn keep(&mut self, alloc: Global, item: Item) -> Result<(), DhcpError>
+        requires { length item.value.now ≤ 255 }
+        ensures { MatchResult result
+            (λ _. self.new ≡ with_reading self.old (reading_of (item.entry.number, item.entry.value.now)))
+            (λ e. e ≡ no_memory) }
+    {
+        match read_value(alloc, DhcpV4OptionCode::from(item.number), item.value) {
+            Ok(option) => self.insert(option),
+            Err(error) if error.kind() == ErrorKind::OutOfMemory => Err(error),
+            Err(_error) => Ok(()),
+        }
     }
 
     /// Writes the options by rising number, and End last, also where it is not among them.

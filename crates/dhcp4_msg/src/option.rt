@@ -2,9 +2,13 @@
 
 ghost use Rattle.std.specs.Prelude.{◌≡◌};
 ghost use Rattle.dhcp4_msg.specs.Value.{option_code};
+ghost use Rattle.dhcp4_msg.specs.Outcome.{ReadsOption};
 
+use crate::cut::item_at;
+use crate::value::{read_value, unreadable};
 use crate::{DhcpV4ClasslessRoute, DhcpV4MessageType, DhcpV4OptionCode};
-use dhcp_wire::{Bytes, Sequence, Text};
+use dhcp_wire::{Buffer, Bytes, DhcpError, ErrorKind, Sequence, Text};
+use std::alloc::Global;
 use std::net::Ipv4Addr;
 
 /// An option, with its value read.
@@ -70,6 +74,28 @@ impl DhcpV4Option {
             DhcpV4Option::ClasslessStaticRoute(_) => DhcpV4OptionCode::ClasslessStaticRoute,
             DhcpV4Option::End => DhcpV4OptionCode::End,
             DhcpV4Option::Unknown(unknown) => DhcpV4OptionCode::Other(unknown.code),
+        }
+    }
+    /// Reads the option at the place. `InvalidDhcpMessage` exactly where it is cut short, and then the place stays, or where its
+    /// value has no reading, and then the option is passed. Want of memory leaves the place.
+    #[tactic(auto, unfolding(crate::specs::Options::option_at))]
+    pub fn parse(alloc: Global, buf: &mut Buffer) -> Result<Self, DhcpError>
+        ensures { ReadsOption result buf.old buf.new }
+    {
+        let Some((item, later)) = item_at(buf.get_remains()) else {
+            return Err(unreadable());
+        };
+        match read_value(alloc, DhcpV4OptionCode::from(item.number), item.value) {
+            Ok(option) => {
+                *buf = Buffer::new(later);
+                Ok(option)
+            }
+            Err(error) => {
+                if error.kind() != ErrorKind::OutOfMemory {
+                    *buf = Buffer::new(later);
+                }
+                Err(error)
+            }
         }
     }
 }

@@ -147,7 +147,7 @@ fn routes_of(alloc: Global, value: &[u8]) -> Result<Sequence<DhcpV4ClasslessRout
 
 // The refusal of bytes that do not read.
 #[tactic(auto, unfolding(dhcp_wire::specs::Kind::fixed_text))]
-fn unreadable() -> DhcpError
+pub(crate) fn unreadable() -> DhcpError
     ensures { result.kind ≡ ErrorKind.InvalidDhcpMessage }
 {
     DhcpError::new_fixed(ErrorKind::InvalidDhcpMessage, FixedText::Unreadable)
