@@ -2,4 +2,5 @@ pub mod Stream
 pub mod Memory
 pub mod Whole
 pub mod HexText
+pub mod Reading
 pub mod ThinText

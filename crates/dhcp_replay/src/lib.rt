@@ -1,6 +1,7 @@
 //! Scripts and their texts, and the streams that they come from and go to.
 #![tactic(auto)]
 
+mod field;
 mod mem_sink;
 mod mem_source;
 mod std_stream;
@@ -9,6 +10,7 @@ mod thin_output;
 mod thin_script;
 mod whole;
 
+pub use field::{hex_field, mac_field};
 pub use mem_sink::MemSink;
 pub use mem_source::MemSource;
 pub use std_stream::{StdSink, StdSource};
