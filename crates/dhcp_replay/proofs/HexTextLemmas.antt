@@ -172,3 +172,12 @@ IsReading-mac field (Err refusal) lower e =
 -- a field with another byte than a lower-case digit is the text of no bytes
 pub encode_lower-not : (field : List ℕ) → (AllPass is_lower_digit field → ⊥) → (bytes : List ℕ) → IsBytes bytes → encode_lower bytes ≡ field → ⊥
 encode_lower-not field bad bytes fit e = bad (rw (← e) (AllPass-encode_lower bytes fit))
+
+-- two lists of bytes with one text are one
+pub hex_text-unique : (xs ys : List ℕ) → IsBytes xs → IsBytes ys → hex_text xs ≡ hex_text ys → xs ≡ ys
+hex_text-unique [] [] h k e = refl
+hex_text-unique [] (y ∷ ys) h k e = let long = length-encode_with lower_digits (y ∷ ys) in let same = ap length e in absurd (omega arith)
+hex_text-unique (x ∷ xs) [] h k e = let long = length-encode_with lower_digits (x ∷ xs) in let same = ap length e in absurd (omega arith)
+hex_text-unique (x ∷ xs) (y ∷ ys) h k e =
+    let decoded = sym (decode_of-encode_lower (x ∷ xs) h) ∙ ap decode_of e ∙ decode_of-encode_lower (y ∷ ys) k in
+    ap (λ (r : Result (List ℕ) FromHexError). result_unwrap_or r []) decoded

@@ -1,2 +1,4 @@
 pub mod StreamLemmas
 pub mod HexTextLemmas
+pub mod LineLemmas
+pub mod WordLemmas

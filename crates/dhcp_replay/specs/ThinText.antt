@@ -1,11 +1,12 @@
 -- The thin text: a script as it is read, and the outputs as they are printed.
-use Rattle.std.specs.Prelude.{◌≡◌, ◌<◌, ◌^◌, ℕ, List, [], ◌∷◌, ◌++◌, length, codes, All}
+use Rattle.std.specs.Prelude.{ℕ, List, ◌++◌, codes, All}
 use Rattle.std.specs.List.{flat_map}
-use Rattle.std.specs.Int.{w32, to_be_bytes}
 use Rattle.std.specs.Fmt.{decimal}
 use Rattle.std.specs.Net.Text.{ipv4_text}
 use Rattle.hex.specs.Hex.{IsBytes, encode_lower}
-use Rattle.dhcp_replay.specs.HexText.{hex_text}
+use Rattle.dhcp_replay.specs.HexText.{IsMac, hex_text}
+use Rattle.dhcp_replay.specs.Line.{line}
+use Rattle.dhcp_replay.specs.WordText.{AreWords, words_text}
 use Rattle.dhcp_replay.specs.declared.thin_script.ThinEvent.{ThinEvent}
 use Rattle.dhcp_replay.specs.declared.thin_script.ThinEvent.TheVariants as events
 use Rattle.dhcp_replay.specs.declared.thin_script.ThinScript.{ThinScript}
@@ -13,10 +14,6 @@ use Rattle.dhcp_replay.specs.declared.thin_output.ThinLease.{ThinLease}
 use Rattle.dhcp_replay.specs.declared.thin_output.ThinReport.{ThinReport}
 use Rattle.dhcp_replay.specs.declared.thin_output.ThinReport.TheVariants as reports
 use Rattle.dhcp_replay.specs.declared.thin_output.ThinOutput.{ThinOutput}
-
--- a line: its text, and a line feed
-abbrev pub line : List ℕ → List ℕ
-line text = text ++ 10 ∷ []
 
 -- the packet of an event
 abbrev pub event_text : ThinEvent → List ℕ
@@ -27,16 +24,12 @@ event_text (events.Payload bytes) = codes "payload " ++ hex_text bytes
 abbrev pub event_line : ThinEvent → List ℕ
 event_line event = line (codes "at " ++ event_text event)
 
--- the bytes of words, the most significant byte of each first
-abbrev pub word_bytes : List ℕ → List ℕ
-word_bytes words = flat_map (to_be_bytes w32) words
-
 -- the text of a script
 abbrev pub script_text : ThinScript → List ℕ
 script_text script =
     line (codes "dhcp4 0")
     ++ line (codes "mac " ++ encode_lower script.mac)
-    ++ line (codes "words " ++ hex_text (word_bytes script.words))
+    ++ line (codes "words " ++ words_text script.words)
     ++ flat_map event_line script.events
     ++ line (codes "end")
 
@@ -45,11 +38,10 @@ abbrev pub IsThinEvent : ThinEvent → Type 0
 IsThinEvent events.Nothing = Unit {0}
 IsThinEvent (events.Payload bytes) = IsBytes bytes
 
--- the numbers of a script are of their types
+-- the numbers of a script are of their types, and its Ethernet address has six bytes
 pub record IsThinScript (script : ThinScript) : Type 0 where
-  pub mac_bytes : IsBytes script.mac
-  pub mac_len : length script.mac ≡ 6
-  pub words_fit : All (λ word. word < 2 ^ 32) script.words
+  pub mac_is : IsMac script.mac
+  pub words_fit : AreWords script.words
   pub events_bytes : All IsThinEvent script.events
 
 -- the fields of a lease, as they are printed

@@ -2,6 +2,7 @@
 #![tactic(auto)]
 
 mod field;
+mod lines;
 mod mem_sink;
 mod mem_source;
 mod std_stream;
@@ -9,6 +10,7 @@ mod stream;
 mod thin_output;
 mod thin_script;
 mod whole;
+mod words;
 
 pub use field::{hex_field, mac_field};
 pub use mem_sink::MemSink;
