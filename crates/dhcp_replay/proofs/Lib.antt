@@ -2,3 +2,4 @@ pub mod StreamLemmas
 pub mod HexTextLemmas
 pub mod LineLemmas
 pub mod WordLemmas
+pub mod ThinLemmas

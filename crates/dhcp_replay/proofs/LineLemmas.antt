@@ -1,13 +1,14 @@
 -- A text is cut into lines in one way alone.
-use Rattle.std.proofs.Common.{◌≡◌, ◌≢◌, ℕ, zero, suc, ◌+◌, ◌<◌, ◌==◌, ◌≤◌, Bool, true, false, not, cond, ltb, List, [], ◌∷◌, ◌++◌, length, take, drop, get_or, Option, Some, None, refl, sym, ap, ◌∙◌, length-append, get_or-take, eq-eqb, arith}
-use Rattle.std.specs.Prelude.{position, All}
+use Rattle.std.proofs.Common.{◌≡◌, ◌≢◌, ℕ, ◌+◌, ◌<◌, ◌==◌, ◌≤◌, Bool, true, false, not, cond, ltb, List, [], ◌∷◌, ◌++◌, length, take, drop, get_or, Some, None, refl, sym, ap, ◌∙◌, length-append, get_or-take, eq-eqb, arith}
+use Rattle.std.specs.Prelude.{position}
 use Rattle.std.specs.List.{position_or_len}
-use Rattle.std.proofs.lemmas.Grind.{common_steps}
 use Rattle.std.proofs.lemmas.Bool.{eqb-true, false≢true, ltb-false}
-use Rattle.std.proofs.lemmas.Bool.Decides.{nat_tests}
+use Rattle.std.proofs.lemmas.Bool.Decides.{Decides-eqb}
+use Rattle.std.proofs.lemmas.Slice.Eq.{slice_eq-Decides}
+use Rattle.std.specs.Str.{bytes_eq}
 use Rattle.std.proofs.lemmas.List.{length-take-le, take-append-drop, drop_more, get_or_at}
 use Rattle.std.proofs.lemmas.List.Sums.{prefix_len_passes}
-use Rattle.std.proofs.lemmas.List.Elements.{All-head, All-tail, All-get_or, All-from_get_or}
+use Rattle.std.proofs.lemmas.List.Elements.{All-head, All-tail, All-from_get_or}
 use Rattle.std.proofs.lemmas.List.Quantifiers.{position-Some}
 use Rattle.dhcp_replay.specs.Line.{HasLine, NoFeed}
 
@@ -91,3 +92,7 @@ pub no_feed_left : (tag text tagged : List ℕ) → text ≡ tag ++ tagged → p
 no_feed_left tag text tagged is e field rest h =
     let cut = after_same tag tagged (field ++ 10 ∷ rest) (sym is ∙ h.is) in
     position-found (λ byte. byte == 10) field 10 rest refl (rw cut at e)
+
+-- two slices that do not test as equal differ
+pub not_equal : (xs ys zs : List ℕ) (r : Bool) → r ≡ bytes_eq xs ys → ys ≡ zs → r ≡ false → xs ≡ zs → ⊥
+not_equal xs ys zs r test same differ e = false≢true (sym differ ∙ (slice_eq-Decides Decides-eqb xs ys r test).1 (e ∙ sym same))

@@ -24,14 +24,17 @@ event_text (events.Payload bytes) = codes "payload " ++ hex_text bytes
 abbrev pub event_line : ThinEvent → List ℕ
 event_line event = line (codes "at " ++ event_text event)
 
+-- the lines of the events, and the last line
+abbrev pub events_text : List ThinEvent → List ℕ
+events_text events = flat_map event_line events ++ line (codes "end")
+
 -- the text of a script
 abbrev pub script_text : ThinScript → List ℕ
 script_text script =
     line (codes "dhcp4 0")
     ++ line (codes "mac " ++ encode_lower script.mac)
     ++ line (codes "words " ++ words_text script.words)
-    ++ flat_map event_line script.events
-    ++ line (codes "end")
+    ++ events_text script.events
 
 -- the bytes of a payload are bytes
 abbrev pub IsThinEvent : ThinEvent → Type 0

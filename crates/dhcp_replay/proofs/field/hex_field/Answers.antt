@@ -1,17 +1,11 @@
-use Rattle.std.proofs.Common.{◌≡◌, ℕ, Bool, false, List, [], ◌∷◌, sym, ◌∙◌, inl, inr, arith}
-use Rattle.std.specs.Str.{bytes_eq}
+use Rattle.std.proofs.Common.{◌≡◌, [], ◌∷◌, sym, ◌∙◌, inl, inr, arith}
 use Rattle.std.proofs.lemmas.Bool.{false≢true}
-use Rattle.std.proofs.lemmas.Bool.Decides.{Decides-eqb}
 use Rattle.std.proofs.lemmas.Grind.{common_steps}
-use Rattle.std.proofs.lemmas.Slice.Eq.{slice_eq-Decides}
 use Rattle.hex.proofs.HexLemmas.{decode_of-ok}
+use Rattle.dhcp_replay.proofs.LineLemmas.{not_equal}
 use Rattle.dhcp_replay.proofs.HexTextLemmas.{hex_text-decode_of, hex_text-not, hex_text-refused}
 use Rattle.dhcp_replay.proofs.field.hex_field.Goals as goal
 use Rattle.dhcp_replay.proofs.field.hex_field.Goals.{then-is_empty-via-then-is_empty, then-is_empty-via-else-is_empty+then-not-is_lower_hex}
-
--- two slices that do not test as equal
-not_equal : (xs ys zs : List ℕ) (r : Bool) → r ≡ bytes_eq xs ys → ys ≡ zs → r ≡ false → xs ≡ zs → ⊥
-not_equal xs ys zs r test same differ e = false≢true (sym differ ∙ (slice_eq-Decides Decides-eqb xs ys r test).1 (e ∙ sym same))
 
 pub returns-then-is_empty : goal.returns-then-is_empty
 returns-then-is_empty c =

@@ -1,6 +1,6 @@
-use Rattle.std.proofs.Common.{◌≡◌, ◌+◌, ◌++◌, take, arith, sym, ap, ◌∙◌}
+use Rattle.std.proofs.Common.{◌+◌, ◌++◌, take, arith, sym, ap, ◌∙◌}
 use Rattle.std.proofs.lemmas.Grind.{common_steps}
-use Rattle.dhcp_replay.specs.Stream.{in_front, NoneLeft}
+use Rattle.dhcp_replay.specs.Stream.{NoneLeft}
 use Rattle.dhcp_replay.specs.declared.stream.ReadOutcome.TheVariants.{Read}
 use Rattle.dhcp_replay.specs.declared.whole.TheConstants.{MAX_INPUT}
 use Rattle.dhcp_replay.proofs.StreamLemmas.{in_front-none, in_front-more, in_front-still, left-in_front, all-in_front, more-in_front, goes_on-in_front}

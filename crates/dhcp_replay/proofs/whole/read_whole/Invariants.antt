@@ -1,4 +1,4 @@
-use Rattle.std.proofs.Common.{length, ◌+◌, ◌-◌, ◌≡◌, ◌≤◌, vec_len}
+use Rattle.std.proofs.Common.{length, ◌+◌, ◌-◌, ◌≡◌, ◌≤◌}
 use Rattle.dhcp_replay.specs.Stream.{in_front}
 use Rattle.dhcp_replay.specs.declared.whole.TheConstants.{MAX_INPUT}
 use Rattle.dhcp_replay.proofs.whole.read_whole.Given as goal

@@ -1,0 +1,69 @@
+//! The reader of the thin text.
+
+ghost use Rattle.std.specs.Prelude.{All};
+ghost use Rattle.dhcp_replay.specs.Reading.{GivesReading};
+ghost use Rattle.dhcp_replay.specs.ThinText.{event_text, events_text, script_text, IsThinEvent, IsThinScript};
+
+use crate::lines::tagged_line;
+use crate::words::words_field;
+use crate::{ThinEvent, ThinScript, hex_field, mac_field};
+use dhcp_wire::{DhcpError, Sequence};
+use std::alloc::Global;
+
+/// The script of a thin text. None exactly where no script has this text.
+pub fn read_thin_script(alloc: Global, text: &[u8]) -> Result<Option<ThinScript>, DhcpError>
+    ensures { GivesReading script_text IsThinScript result text.now }
+{
+    let Some((mac, rest)) = tagged_line(text, b"dhcp4 0\nmac ") else {
+        return Ok(None);
+    };
+    let Some(mac) = mac_field(mac) else {
+        return Ok(None);
+    };
+    let Some((words, rest)) = tagged_line(rest, b"words ") else {
+        return Ok(None);
+    };
+    let Some(words) = words_field(alloc, words)? else {
+        return Ok(None);
+    };
+    let Some(events) = read_events(alloc, rest)? else {
+        return Ok(None);
+    };
+    Ok(Some(ThinScript { mac, words, events }))
+}
+
+// The events of the lines up to the last one.
+fn read_events(alloc: Global, text: &[u8]) -> Result<Option<Sequence<ThinEvent>>, DhcpError>
+    ensures { GivesReading events_text (λ events. All IsThinEvent events) result text.now }
+{
+    let mut events = Vec::new(alloc);
+    let mut left = text;
+    while let Some((field, rest)) = tagged_line(left, b"at ") {
+        let Some(event) = read_event(alloc, field)? else {
+            return Ok(None);
+        };
+        events.push(event)?;
+        left = rest;
+    }
+    if left == b"end\n".as_slice() {
+        Ok(Some(Sequence::from(events)))
+    } else {
+        Ok(None)
+    }
+}
+
+// The event of a field after `at `.
+fn read_event(alloc: Global, field: &[u8]) -> Result<Option<ThinEvent>, DhcpError>
+    ensures { GivesReading event_text IsThinEvent result field.now }
+{
+    if field == b"none".as_slice() {
+        return Ok(Some(ThinEvent::Nothing));
+    }
+    let Some(payload) = field.strip_prefix(b"payload ") else {
+        return Ok(None);
+    };
+    let Some(payload) = hex_field(alloc, payload)? else {
+        return Ok(None);
+    };
+    Ok(Some(ThinEvent::Payload(payload)))
+}
