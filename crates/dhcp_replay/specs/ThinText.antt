@@ -1,6 +1,6 @@
 -- The thin text: a script as it is read, and the outputs as they are printed.
-use Rattle.std.specs.Prelude.{ℕ, List, ◌++◌, codes, All}
-use Rattle.std.specs.List.{flat_map}
+use Rattle.std.specs.Prelude.{ℕ, List, [], ◌∷◌, ◌++◌, codes, All}
+use Rattle.std.specs.List.{flat_map, join_with_byte}
 use Rattle.std.specs.Fmt.{decimal}
 use Rattle.std.specs.Net.Text.{ipv4_text}
 use Rattle.hex.specs.Hex.{IsBytes, encode_lower}
@@ -47,12 +47,15 @@ pub record IsThinScript (script : ThinScript) : Type 0 where
   pub words_fit : AreWords script.words
   pub events_bytes : All IsThinEvent script.events
 
+-- fields with a space between two
+abbrev pub spaced : List (List ℕ) → List ℕ
+spaced fields = join_with_byte 32 fields
+
 -- the fields of a lease, as they are printed
 abbrev pub lease_text : ThinLease → List ℕ
 lease_text lease =
-    ipv4_text lease.yiaddr.octets ++ codes " " ++ ipv4_text lease.siaddr.octets
-    ++ codes " " ++ ipv4_text lease.srv_id.octets ++ codes " " ++ decimal lease.t1_sec
-    ++ codes " " ++ decimal lease.t2_sec ++ codes " " ++ decimal lease.lease_time_sec
+    spaced (ipv4_text lease.yiaddr.octets ∷ ipv4_text lease.siaddr.octets ∷ ipv4_text lease.srv_id.octets
+    ∷ decimal lease.t1_sec ∷ decimal lease.t2_sec ∷ decimal lease.lease_time_sec ∷ [])
 
 -- what is reported
 abbrev pub report_text : ThinReport → List ℕ
@@ -60,9 +63,13 @@ report_text (reports.Handed payload) = codes "handed payload " ++ hex_text paylo
 report_text reports.Selecting = codes "state selecting"
 report_text (reports.Done lease) = codes "state done " ++ lease_text lease
 
+-- an output
+abbrev pub output_text : ThinOutput → List ℕ
+output_text output = spaced (decimal output.event ∷ report_text output.what ∷ [])
+
 -- the line of an output
 abbrev pub output_line : ThinOutput → List ℕ
-output_line output = line (decimal output.event ++ codes " " ++ report_text output.what)
+output_line output = line (output_text output)
 
 -- the text of the outputs, which ends in a line `ok`
 abbrev pub outputs_text : List ThinOutput → List ℕ
