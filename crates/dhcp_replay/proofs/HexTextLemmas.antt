@@ -181,3 +181,9 @@ hex_text-unique (x ∷ xs) [] h k e = let long = length-encode_with lower_digits
 hex_text-unique (x ∷ xs) (y ∷ ys) h k e =
     let decoded = sym (decode_of-encode_lower (x ∷ xs) h) ∙ ap decode_of e ∙ decode_of-encode_lower (y ∷ ys) k in
     ap (λ (r : Result (List ℕ) FromHexError). result_unwrap_or r []) decoded
+
+-- two lists of bytes with the same digits are one
+pub encode_lower-unique : (xs ys : List ℕ) → IsBytes xs → IsBytes ys → encode_lower xs ≡ encode_lower ys → xs ≡ ys
+encode_lower-unique xs ys h k e =
+    let decoded = sym (decode_of-encode_lower xs h) ∙ ap decode_of e ∙ decode_of-encode_lower ys k in
+    ap (λ (r : Result (List ℕ) FromHexError). result_unwrap_or r []) decoded

@@ -1,5 +1,5 @@
 -- The thin text is read in one way alone.
-use Rattle.std.proofs.Common.{◌≡◌, ◌≢◌, ℕ, ◌==◌, Bool, true, not, List, [], ◌∷◌, ◌++◌, get_or, Option, Some, None, unwrap_or, refl, sym, ap, ◌∙◌, append_assoc, append-nil, codes, arith}
+use Rattle.std.proofs.Common.{◌≡◌, ◌≢◌, ℕ, ◌==◌, Bool, true, not, List, [], ◌∷◌, ◌++◌, get_or, Option, Some, None, unwrap_or, Result, Ok, Err, refl, sym, ap, ◌∙◌, append_assoc, append-nil, codes, arith}
 use Rattle.std.specs.Prelude.{All}
 use Rattle.std.specs.List.{flat_map, list_all}
 use Rattle.std.proofs.lemmas.Bool.Decides.{nat_tests}
@@ -7,17 +7,18 @@ use Rattle.std.proofs.lemmas.List.Sums.{AllPass-from_list_all}
 use Rattle.std.proofs.lemmas.List.Concat.{flat_map-append}
 use Rattle.std.proofs.lemmas.List.Elements.{All-append, All-head, All-tail, All-weaker}
 use Rattle.hex.specs.Hex.{IsBytes, encode_lower}
+use Rattle.dhcp_wire.specs.Outcome.{ErrorParts, Makes}
 use Rattle.dhcp_replay.specs.HexText.{hex_text, is_lower_digit}
 use Rattle.dhcp_replay.specs.Line.{HasLine, NoFeed, line}
-use Rattle.dhcp_replay.specs.Reading.{IsReading}
+use Rattle.dhcp_replay.specs.Reading.{IsReading, GivesReading}
 use Rattle.dhcp_replay.specs.ThinText.{event_text, event_line, events_text, script_text, IsThinEvent, IsThinScript}
 use Rattle.dhcp_replay.specs.WordText.{word_bytes, words_text}
 use Rattle.dhcp_replay.specs.declared.thin_script.ThinEvent.{ThinEvent}
 use Rattle.dhcp_replay.specs.declared.thin_script.ThinEvent.TheVariants as events
 use Rattle.dhcp_replay.specs.declared.thin_script.ThinScript.{ThinScript}
-use Rattle.dhcp_replay.proofs.HexTextLemmas.{AllPass-encode_lower}
-use Rattle.dhcp_replay.proofs.LineLemmas.{HasLine-unique}
-use Rattle.dhcp_replay.proofs.WordLemmas.{IsBytes-word_bytes}
+use Rattle.dhcp_replay.proofs.HexTextLemmas.{AllPass-encode_lower, encode_lower-unique, hex_text-unique}
+use Rattle.dhcp_replay.proofs.LineLemmas.{HasLine-unique, after_same}
+use Rattle.dhcp_replay.proofs.WordLemmas.{IsBytes-word_bytes, words_text-unique}
 
 -- a lower-case digit is no line feed
 digit-no_feed : (c : ℕ) → is_lower_digit c ≡ true → c ≢ 10
@@ -163,3 +164,60 @@ pub words-unique : (script : ThinScript) (rest field more : List ℕ) → IsThin
     → HasLine (codes "words ") rest field more → (words_text script.words ≡ field) × (events_text script.events ≡ more)
 words-unique script rest field more h e found =
     HasLine-unique (codes "words ") rest (words_text script.words) field (events_text script.events) more (HasLine-words script rest h e) found
+
+-- `n` is not `p`
+other_letters : (n p : ℕ) → n ≡ 110 → p ≡ 112 → n ≡ p → ⊥
+other_letters n p first second same = omega arith
+
+-- two events with one text are one
+event_text-unique : (x y : ThinEvent) → IsThinEvent x → IsThinEvent y → event_text x ≡ event_text y → x ≡ y
+event_text-unique events.Nothing events.Nothing h k e = refl
+event_text-unique events.Nothing (events.Payload ys) h k e =
+    absurd (other_letters _ _ refl refl (ap (λ (text : List ℕ). get_or text 0 0) e))
+event_text-unique (events.Payload xs) events.Nothing h k e =
+    absurd (other_letters _ _ refl refl (sym (ap (λ (text : List ℕ). get_or text 0 0) e)))
+event_text-unique (events.Payload xs) (events.Payload ys) h k e =
+    ap events.Payload (hex_text-unique xs ys h k (after_same (codes "payload ") (hex_text xs) (hex_text ys) e))
+
+-- the first line of the text of events
+first_event : (event : ThinEvent) (events : List ThinEvent) (text : List ℕ) → IsThinEvent event → events_text (event ∷ events) ≡ text
+    → HasLine (codes "at ") text (event_text event) (events_text events)
+first_event event events text own e =
+    record { is = sym e ∙ events_text-cons event events; whole = NoFeed-event_text event own }
+
+-- two lists of events with one text are one
+events_text-unique : (xs ys : List ThinEvent) → All IsThinEvent xs → All IsThinEvent ys → events_text xs ≡ events_text ys → xs ≡ ys
+events_text-unique [] [] h k e = refl
+events_text-unique [] (y ∷ ys) h k e =
+    absurd (other_heads _ _ refl refl (ap (λ (text : List ℕ). get_or text 0 0) (e ∙ events_text-cons y ys)))
+events_text-unique (x ∷ xs) [] h k e =
+    absurd (other_heads _ _ refl refl (ap (λ (text : List ℕ). get_or text 0 0) (sym e ∙ events_text-cons x xs)))
+events_text-unique (x ∷ xs) (y ∷ ys) h k e =
+    let own = All-head IsThinEvent x xs h in
+    let other = All-head IsThinEvent y ys k in
+    let same = HasLine-unique (codes "at ") (events_text (y ∷ ys)) (event_text x) (event_text y) (events_text xs) (events_text ys)
+    (first_event x xs (events_text (y ∷ ys)) own e) (first_event y ys (events_text (y ∷ ys)) other refl) in
+    let one = event_text-unique x y own other same.0 in
+    let ih = events_text-unique xs ys (All-tail IsThinEvent x xs h) (All-tail IsThinEvent y ys k) same.1 in
+    rw (one, ih) refl
+
+-- scripts with the same parts are one
+same_script : (x y : ThinScript) → x.mac ≡ y.mac → x.words ≡ y.words → x.events ≡ y.events → x ≡ y
+same_script x y mac words events =
+    let made : List ℕ → List ℕ → List ThinEvent → ThinScript = λ m w e. record { mac = m; words = w; events = e } in
+    ap (λ m. made m x.words x.events) mac ∙ ap (λ w. made y.mac w x.events) words ∙ ap (λ e. made y.mac y.words e) events
+
+-- two scripts with one text are one
+pub script_text-unique : (x y : ThinScript) → IsThinScript x → IsThinScript y → script_text x ≡ script_text y → x ≡ y
+script_text-unique x y h k e =
+    let head = mac-unique x (script_text y) (encode_lower y.mac) (after_mac y) h e (HasLine-mac y (script_text y) k refl) in
+    let rest = words-unique x (after_mac y) (words_text y.words) (events_text y.events) h head.1 (HasLine-words y (after_mac y) k refl) in
+    same_script x y (encode_lower-unique x.mac y.mac h.mac_is.1 k.mac_is.1 head.0) (words_text-unique x.words y.words h.words_fit k.words_fit rest.0)
+    (events_text-unique x.events y.events h.events_bytes k.events_bytes rest.1)
+
+-- a reading answers the one script that has the text
+pub one-from_reading : (text : List ℕ) (answer : Result (Option ThinScript) ErrorParts) → GivesReading script_text IsThinScript answer text
+    → (script : ThinScript) → IsThinScript script → script_text script ≡ text → Makes (λ read. read) answer (Some script)
+one-from_reading text (Ok (Some found)) given script h e = ap Some (script_text-unique found script given.1 h (given.0 ∙ sym e))
+one-from_reading text (Ok None) given script h e = absurd (given script h e)
+one-from_reading text (Err error) given script h e = given

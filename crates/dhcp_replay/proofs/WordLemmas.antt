@@ -1,7 +1,7 @@
 -- Words are one to one with their bytes.
-use Rattle.std.proofs.Common.{◌≡◌, ℕ, zero, suc, ◌*◌, ◌%◌, ◌<◌, ◌^◌, List, [], ◌∷◌, ◌++◌, length, get_or, Option, Some, None, unwrap_or, Result, Ok, Err, refl, sym, ap, ◌∙◌, append_assoc, append-nil, length-append, arith}
+use Rattle.std.proofs.Common.{◌≡◌, ℕ, zero, suc, ◌*◌, ◌%◌, ◌<◌, ◌^◌, List, [], ◌∷◌, ◌++◌, length, take, drop, get_or, Option, Some, None, unwrap_or, Result, Ok, Err, refl, sym, ap, ◌∙◌, append_assoc, append-nil, length-append, arith}
 use Rattle.std.specs.Int.{w32, to_be_bytes, from_be_bytes}
-use Rattle.std.proofs.lemmas.Nat.{be_bytes_4}
+use Rattle.std.proofs.lemmas.Nat.{be_bytes_4, from_be_bytes-to_be_bytes_4}
 use Rattle.std.proofs.lemmas.List.Concat.{flat_map-append}
 use Rattle.std.proofs.lemmas.List.Elements.{All-head, All-tail}
 use Rattle.hex.specs.Hex.{IsBytes}
@@ -93,3 +93,28 @@ words-some field bytes (Some b) (Ok None) some reading given =
     λ words fit e.
     given words fit (hex_text-unique (word_bytes words) b (IsBytes-word_bytes words fit) reading.1 (e ∙ sym reading.0) ∙ same)
 words-some field bytes (Some b) (Err error) some reading given = given
+
+-- two words with one list of bytes, with others after them, are one
+word-unique : (x y : ℕ) (xs ys : List ℕ) → x < 2 ^ 32 → y < 2 ^ 32 → to_be_bytes w32 x ++ xs ≡ to_be_bytes w32 y ++ ys
+    → (x ≡ y) × (xs ≡ ys)
+word-unique x y xs ys fit fit' e =
+    let four : to_be_bytes w32 x ≡ to_be_bytes w32 y = ap (λ (bytes : List ℕ). take 4 bytes) e in (
+      sym (from_be_bytes-to_be_bytes_4 x fit) ∙ ap (from_be_bytes w32) four ∙ from_be_bytes-to_be_bytes_4 y fit',
+      ap (λ (bytes : List ℕ). drop 4 bytes) e,
+    )
+
+-- two lists of words with one list of bytes are one
+word_bytes-unique : (xs ys : List ℕ) → AreWords xs → AreWords ys → word_bytes xs ≡ word_bytes ys → xs ≡ ys
+word_bytes-unique [] [] h k e = refl
+word_bytes-unique [] (y ∷ ys) h k e = let same = ap (λ (bytes : List ℕ). length bytes) e in absurd (omega arith)
+word_bytes-unique (x ∷ xs) [] h k e = let same = ap (λ (bytes : List ℕ). length bytes) e in absurd (omega arith)
+word_bytes-unique (x ∷ xs) (y ∷ ys) h k e =
+    let small : ℕ → Type 0 = λ n. n < 2 ^ 32 in
+    let first = word-unique x y (word_bytes xs) (word_bytes ys) (All-head small x xs h) (All-head small y ys k) e in
+    let ih = word_bytes-unique xs ys (All-tail small x xs h) (All-tail small y ys k) first.1 in
+    rw (first.0, ih) refl
+
+-- two lists of words with one text are one
+pub words_text-unique : (xs ys : List ℕ) → AreWords xs → AreWords ys → words_text xs ≡ words_text ys → xs ≡ ys
+words_text-unique xs ys h k e =
+    word_bytes-unique xs ys h k (hex_text-unique (word_bytes xs) (word_bytes ys) (IsBytes-word_bytes xs h) (IsBytes-word_bytes ys k) e)

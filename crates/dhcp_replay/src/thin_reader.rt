@@ -1,6 +1,8 @@
 //! The reader of the thin text.
 
-ghost use Rattle.std.specs.Prelude.{All};
+ghost use Rattle.std.specs.Prelude.{◌≡◌, All};
+ghost use Rattle.dhcp_wire.specs.Outcome.{Makes};
+ghost use Rattle.dhcp_replay.specs.declared.thin_script.ThinScript.{ThinScript};
 ghost use Rattle.dhcp_replay.specs.Reading.{GivesReading};
 ghost use Rattle.dhcp_replay.specs.ThinText.{event_text, events_text, script_text, IsThinEvent, IsThinScript};
 
@@ -10,8 +12,17 @@ use crate::{ThinEvent, ThinScript, hex_field, mac_field};
 use dhcp_wire::{DhcpError, Sequence};
 use std::alloc::Global;
 
-/// The script of a thin text. None exactly where no script has this text.
+/// The script of a thin text. None exactly where no script has this text; no text is that of two scripts.
 pub fn read_thin_script(alloc: Global, text: &[u8]) -> Result<Option<ThinScript>, DhcpError>
+    ensures reading { GivesReading script_text IsThinScript result text.now }
+    ensures one { (script : ThinScript) → IsThinScript script → script_text script ≡ text.now →
+        Makes (λ read. read) result (Some script) }
+{
+    read_script(alloc, text)
+}
+
+// The script of a thin text.
+fn read_script(alloc: Global, text: &[u8]) -> Result<Option<ThinScript>, DhcpError>
     ensures { GivesReading script_text IsThinScript result text.now }
 {
     let Some((mac, rest)) = tagged_line(text, b"dhcp4 0\nmac ") else {
