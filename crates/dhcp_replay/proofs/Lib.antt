@@ -3,3 +3,5 @@ pub mod HexTextLemmas
 pub mod LineLemmas
 pub mod WordLemmas
 pub mod ThinLemmas
+pub mod ThinRun
+pub mod ToolLemmas

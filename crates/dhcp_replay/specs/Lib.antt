@@ -6,3 +6,6 @@ pub mod Reading
 pub mod Line
 pub mod WordText
 pub mod ThinText
+pub mod ThinHistory
+pub mod ThinPoll
+pub mod Tool

@@ -10,7 +10,9 @@ mod stream;
 mod thin_output;
 mod thin_printer;
 mod thin_reader;
+mod thin_run;
 mod thin_script;
+mod tool;
 mod whole;
 mod words;
 
@@ -22,5 +24,7 @@ pub use stream::{ReadOutcome, Sink, Source, WriteOutcome};
 pub use thin_output::{ThinLease, ThinOutput, ThinReport};
 pub use thin_printer::print_thin_outputs;
 pub use thin_reader::read_thin_script;
+pub use thin_run::replay_thin;
 pub use thin_script::{ThinEvent, ThinScript};
+pub use tool::{Status, replay_tool};
 pub use whole::{MAX_INPUT, Whole, read_whole, write_whole};

@@ -1,0 +1,21 @@
+//! The program: runs the script on standard input, and prints what its client hands to the link and each state that it reaches.
+#![tactic(auto)]
+
+use dhcp_replay::{Status, StdSink, StdSource, replay_tool};
+use std::process::ExitCode;
+use std::{env, io};
+
+fn main(rt: HostRuntime) -> ExitCode {
+    let Ok(words) = words(&rt) else {
+        return ExitCode::from(u8::from(Status::NoMemory));
+    };
+    let mut source = StdSource::new(rt.reader());
+    let mut sink = StdSink::new(io::writer(&rt));
+    let status = replay_tool(rt.alloc(), words.as_slice(), &mut source, &mut sink);
+    ExitCode::from(status)
+}
+
+// The words after the program's name.
+fn words(rt: &HostRuntime) -> io::Result<Vec<String>> {
+    Ok(env::args(rt)?.skip(1).collect(rt.alloc())?)
+}
