@@ -2,17 +2,18 @@
 # Runs the tests of a crate with one allocation refused, the first of each test, then the second, and so on.
 # A test may then end in want of memory. Whatever else it ends in, as a failed assertion, is reported.
 #
-#   tools/refused_allocations.sh CRATE [MOST]      at the repository's top; at most MOST numbers, 200 if it is not given
+#   tools/refused_allocations.sh CRATE [MOST [FIRST]]
 #
-# It stops after three numbers in a row that no test ran into. The status is 0 where nothing was reported.
+# at the repository's top, from the allocation FIRST (1) to MOST (200). Each number takes a build. It stops after three numbers in a row that no test ran into. The status is 0 where nothing was reported.
 set -u
 crate=${1:?"the name of a crate"}
 most=${2:-200}
+number=${3:-1}
 cd "crates/$crate" || exit 2
 log=$(mktemp) || exit 2
 trap 'rm -f "$log"' EXIT
 
-number=1
+first=$number
 untouched=0
 reported=0
 while [ "$number" -le "$most" ] && [ "$untouched" -lt 3 ]; do
@@ -41,5 +42,5 @@ while [ "$number" -le "$most" ] && [ "$untouched" -lt 3 ]; do
     if grep -q '^test result: ok' "$log"; then untouched=$((untouched + 1)); else untouched=0; fi
     number=$((number + 1))
 done
-echo "$crate: $((number - 1)) numbers, $([ "$reported" -eq 0 ] && echo 'want of memory alone' || echo 'see above')"
+echo "$crate: allocations $first to $((number - 1)), $([ "$reported" -eq 0 ] && echo 'want of memory alone' || echo 'see above')"
 exit "$reported"
