@@ -4,7 +4,8 @@
 #
 #   tools/refused_allocations.sh CRATE [MOST [FIRST]]
 #
-# at the repository's top, from the allocation FIRST (1) to MOST (200). Each number takes a build. It stops after three numbers in a row that no test ran into. The status is 0 where nothing was reported.
+# at the repository's top, from the allocation FIRST (1) to MOST (200). Each number takes a build.
+# It stops after three numbers in a row that no test ran into. The status is 0 where nothing was reported.
 set -u
 crate=${1:?"the name of a crate"}
 most=${2:-200}
