@@ -4,12 +4,13 @@ use Rattle.std.specs.declared.cmp.Ordering.TheVariants.{Less, Equal, Greater}
 use Rattle.std.specs.Ordering.{nat_cmp, match_ordering, is_eq}
 use Rattle.std.specs.Cmp.{nat_cmp_total}
 use Rattle.std.specs.List.{list_all}
-use Rattle.std.specs.Map.{lookup}
+use Rattle.std.specs.Map.{lookup, values_of}
 use Rattle.std.specs.BTreeMap.{insert_entry, is_at}
 use Rattle.std.specs.FinMap as map
 use Rattle.std.specs.FinMap.{is_sorted, put, find, nat_cmp-IsAntisymmetric}
 use Rattle.std.specs.FinMap.Entries.{is_sorted-put}
 use Rattle.std.proofs.lemmas.Bool.{and_parts, and_from}
+use Rattle.std.proofs.lemmas.Option.{none-some, same_Some}
 
 -- a test that passes, in both spellings
 pub passes : (b : Bool) → b ≡ true → T b
@@ -65,3 +66,17 @@ module _ {X : Type 0} where
   -- no entries are the empty map
   pub from_sorted-nil : map.from_sorted {K = ℕ} {X = X} {R = nat_cmp} [] ≡ map.empty
   from_sorted-nil = map.empty_of_len _ (map.len-entries _ ∙ ap length (map.entries-from_sorted nat_cmp [] tt))
+
+  -- the values of the finite map of rising entries
+  pub values-from_sorted : (es : List (ℕ × X)) → IsTrue (is_sorted nat_cmp es) → map.values (map.from_sorted {R = nat_cmp} es) ≡ values_of es
+  values-from_sorted es rises = ap values_of (map.entries-from_sorted nat_cmp es (passes _ rises))
+
+  -- what is found passes what all entries pass
+  pub list_all-lookup : (test : ℕ → Bool) (pass : ℕ × X → Bool) (es : List (ℕ × X)) (v : X) → IsTrue (list_all pass es) → lookup test es ≡ Some v → (k : ℕ) × IsTrue (pass (k, v))
+  list_all-lookup test pass [] v all is = absurd (none-some v is)
+  list_all-lookup test pass (e ∷ es) v all is =
+      let parts = and_parts _ _ all in
+      elim (test e.0) as (λ b. cond b (Some e.1) (lookup test es) ≡ Some v → (k : ℕ) × IsTrue (pass (k, v))) [
+        | true ↦ λ found. (e.0, subst (λ value. IsTrue (pass (e.0, value))) (same_Some _ _ found) parts.0)
+        | false ↦ λ found. list_all-lookup test pass es v parts.1 found
+      ] is

@@ -1,5 +1,6 @@
 pub mod CodeLemmas
 pub mod CutLemmas
+pub mod EmitLemmas
 pub mod Entries
 pub mod FieldLemmas
 pub mod KeptLemmas

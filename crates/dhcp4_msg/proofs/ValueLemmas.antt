@@ -1,5 +1,5 @@
 -- Options that were read: each has the code that its value was read for, and fits.
-use Rattle.std.proofs.Common.{◌≡◌, ℕ, ◌≤◌, true, IsTrue, List, [], ◌∷◌, length, map, take, Option, Some, None, Ok, ok_or, option_map, refl, sym, ap, subst, ◌∙◌, arith, length-append, lit≤}
+use Rattle.std.proofs.Common.{◌≡◌, ℕ, ◌+◌, ◌≤◌, true, IsTrue, List, [], ◌∷◌, length, map, take, Option, Some, None, Ok, ok_or, option_map, refl, sym, ap, subst, ◌∙◌, arith, min, length-append, lit≤}
 use Rattle.std.proofs.lemmas.List.{length-take, length-map}
 use Rattle.std.specs.declared.net.Ipv4Addr.{Ipv4Addr}
 use Rattle.std.proofs.lemmas.Bool.{and_from, le-leb}
@@ -71,7 +71,7 @@ length-address_in value address is =
 
 -- a text and its zero byte are 255 bytes at most
 length-written_text : (text : List ℕ) → length (written_text text) ≤ 255
-length-written_text text = omega (arith, length-append (take 254 text) (0 ∷ []), length-take 254 text)
+length-written_text text = omega (arith, min, length-append (take 254 text) (0 ∷ []), length-take 254 text)
 
 -- an option of one kind, whose value is short where it was read
 short : {A : Type 0} (make : A → DhcpV4Option) (read : Option A) (option : DhcpV4Option) → ((x : A) → read ≡ Some x → (length (written_value (make x)) ≤ 255) × (has_own_code (make x) ≡ true)) → option_map make read ≡ Some option → IsTrue (fits option)
@@ -113,3 +113,7 @@ fits-value_of number (codes.Other other) value option own few is =
 pub some_from_ok : {A E : Type 0} (read : Option A) (e : E) (x : A) → ok_or read e ≡ Ok x → read ≡ Some x
 some_from_ok None e x is = cc
 some_from_ok (Some y) e x is = cc
+
+-- how many bytes a text and its zero byte have
+pub text_len : (text : List ℕ) → length (written_text text) ≡ min (length text) 254 + 1
+text_len text = omega (arith, min, length-append (take 254 text) (0 ∷ []), length-take 254 text)

@@ -49,16 +49,28 @@ read_message bytes = do
       })
       else None
 
+-- the fields of a message before its addresses, as they are written
+abbrev pub written_numbers : DhcpV4Message → List ℕ
+written_numbers message =
+    (message.op ∷ message.htype ∷ message.hlen ∷ message.hops ∷ [])
+    ++ (to_be_bytes w32 message.xid ++ (to_be_bytes w16 message.secs ++ to_be_bytes w16 message.flags))
+
+-- its addresses
+abbrev pub written_addresses : DhcpV4Message → List ℕ
+written_addresses message =
+    message.ciaddr.octets
+    ++ (message.yiaddr.octets ++ (message.siaddr.octets ++ (message.giaddr.octets ++ message.chaddr)))
+
+-- its texts, of 63 and 127 bytes at most, and the cookie
+abbrev pub written_texts : DhcpV4Message → List ℕ
+written_texts message =
+    terminated_text 64 message.sname ++ (terminated_text 128 message.file ++ to_be_bytes w32 magic_cookie)
+
 -- the bytes of a message
 unfoldable pub written_message : DhcpV4Message → List ℕ
 written_message message =
-    (message.op ∷ message.htype ∷ message.hlen ∷ message.hops ∷ [])
-    ++ to_be_bytes w32 message.xid ++ to_be_bytes w16 message.secs ++ to_be_bytes w16 message.flags
-    ++ message.ciaddr.octets ++ message.yiaddr.octets ++ message.siaddr.octets ++ message.giaddr.octets
-    ++ message.chaddr
-    ++ terminated_text 64 message.sname ++ terminated_text 128 message.file
-    ++ to_be_bytes w32 magic_cookie
-    ++ written_options message.options
+    written_numbers message
+    ++ (written_addresses message ++ (written_texts message ++ written_options message.options))
 
 -- the address 0.0.0.0
 abbrev pub no_address : Ipv4Addr

@@ -46,7 +46,7 @@ added_end options = if map.contains_key options 255 then [] else 255 ∷ []
 
 -- the options by rising number, and End last
 unfoldable pub written_options : OptionMap → List ℕ
-written_options options = flat_map (λ entry. written_option entry.1) (map.entries options) ++ added_end options
+written_options options = flat_map written_option (map.values options) ++ added_end options
 
 -- the type that an option says
 abbrev pub type_in_option : DhcpV4Option → Option DhcpV4MessageType

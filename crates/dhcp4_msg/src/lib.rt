@@ -9,6 +9,7 @@ mod message;
 mod option;
 mod route;
 mod value;
+mod written;
 
 pub use code::DhcpV4OptionCode;
 pub use kind::DhcpV4MessageType;

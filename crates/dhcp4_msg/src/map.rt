@@ -1,16 +1,17 @@
 //! The options of a message, by their numbers.
 
-ghost use Rattle.std.specs.Prelude.{◌≡◌, ◌≤◌, length, OnOk, IfErr, MatchResult, IsTrue, option_copied};
+ghost use Rattle.std.specs.Prelude.{◌≡◌, ◌≤◌, length, OnOk, IfErr, MatchResult, IfSome, IsTrue, option_copied, option_map, vec_items};
+ghost use Rattle.std.specs.List.{flat_map};
 ghost use Rattle.std.specs.FinMap as map;
 ghost use Rattle.dhcp_wire.specs.Outcome.{Makes, Emits, no_memory};
 ghost use Rattle.dhcp4_msg.specs.Code.{number_of};
-ghost use Rattle.dhcp4_msg.specs.Value.{option_number, fits};
+ghost use Rattle.dhcp4_msg.specs.Value.{option_number, written_option, fits};
 ghost use Rattle.dhcp4_msg.specs.Options.{reading_of, with_reading, read_options, written_options};
 
-use crate::cut::{Item, item_at, left_after};
+use crate::cut::{END, Item, item_at, left_after};
 use crate::value::read_value;
 use crate::{DhcpV4Option, DhcpV4OptionCode};
-use dhcp_wire::{BufferMut, DhcpError, ErrorKind, FixedText};
+use dhcp_wire::{BufferMut, DhcpError, ErrorKind};
 use std::alloc::Global;
 use std::collections::BTreeMap;
 use std::marker::Model;
@@ -95,11 +96,45 @@ impl DhcpV4Options {
         }
     }
 
+    /// The bytes that the option of that number is written as, if it is kept.
+    pub fn get_data_raw(&self, alloc: Global, code: u8) -> Result<Option<Vec<u8>>, DhcpError>
+        ensures { Makes (option_map vec_items) result (option_map written_option (map.get self.now code)) }
+    {
+        let Some(option) = self.kept_at(code) else {
+            return Ok(None);
+        };
+        let mut buf = BufferMut::new(alloc);
+        option.emit(&mut buf)?;
+        Ok(Some(buf.into_bytes().into_vec()))
+    }
+
+    // The option of that number, if it is kept: it fits.
+    fn kept_at(&self, number: u8) -> Option<&DhcpV4Option>
+        ensures value { option_copied result ≡ map.get self.now number }
+        ensures fit { IfSome result (λ option. IsTrue (fits option.now)) }
+    {
+        self.kept.get(&number)
+    }
+
     /// Writes the options by rising number, and End last, also where it is not among them.
-    #[tactic(auto, unfolding(dhcp_wire::specs::Kind::fixed_text))]
+    #[tactic(auto, unfolding(crate::specs::Options::written_options))]
     pub fn emit(&self, buf: &mut BufferMut) -> Result<(), DhcpError>
         ensures { Emits result buf.old buf.new (written_options self.now) }
     {
-        Err(DhcpError::new_fixed(ErrorKind::OutOfMemory, FixedText::NoMemory))
+        self.emit_kept(buf)?;
+        if self.kept_at(END).is_none() {
+            buf.write_u8(END)?;
+        }
+        Ok(())
+    }
+
+    // Writes the options that are kept, by rising number.
+    fn emit_kept(&self, buf: &mut BufferMut) -> Result<(), DhcpError>
+        ensures { Emits result buf.old buf.new (flat_map written_option (map.values self.now)) }
+    {
+        for option in self.kept.values() {
+            option.emit(buf)?;
+        }
+        Ok(())
     }
 }

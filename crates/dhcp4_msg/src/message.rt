@@ -1,14 +1,26 @@
 //! DHCPv4 messages, RFC 2131 section 2.
 
 ghost use Rattle.std.specs.Prelude.{◌≡◌, ok_or};
-ghost use Rattle.dhcp_wire.specs.Outcome.{Gives, Emits};
+ghost use Rattle.dhcp_wire.specs.Outcome.{Gives, Reads, Emits};
+ghost use Rattle.dhcp_wire.specs.Field.{bytes_at};
 ghost use Rattle.dhcp4_msg.specs.Options as options;
-ghost use Rattle.dhcp4_msg.specs.Message.{empty_message, read_message, written_message};
+ghost use Rattle.dhcp4_msg.specs.Message.{
+  empty_message,
+  read_message,
+  written_message,
+  written_numbers,
+  written_addresses,
+  written_texts,
+};
 
+use crate::value::unreadable;
 use crate::{DhcpV4MessageType, DhcpV4Option, DhcpV4OptionCode, DhcpV4Options};
-use dhcp_wire::{BufferMut, DhcpError, ErrorKind, FixedText, Text};
+use dhcp_wire::{Buffer, BufferMut, DhcpError, ErrorKind, Text};
 use std::alloc::Global;
 use std::net::Ipv4Addr;
+
+// What stands between the header and the options, RFC 2131 section 3.
+const MAGIC_COOKIE: u32 = 0x63825363;
 
 /// A message.
 #[derive(Debug, Drop)]
@@ -66,18 +78,98 @@ impl DhcpV4Message {
         }
     }
 
-    /// Reads a message. `InvalidDhcpMessage` exactly where it does not read.
-    #[tactic(auto, unfolding(dhcp_wire::specs::Kind::fixed_text))]
+    /// Reads a message. `InvalidDhcpMessage` exactly where it has fewer than 240 bytes, where the cookie is not there, or where
+    /// `sname` or `file` is not UTF-8 before its first zero byte.
+    #[tactic(auto, unfolding(crate::specs::Message::read_message))]
     pub fn parse(alloc: Global, raw: &[u8]) -> Result<Self, DhcpError>
         ensures { Gives (λ message. message) result (ok_or (read_message raw.now) ErrorKind.InvalidDhcpMessage) }
     {
-        Err(DhcpError::new_fixed(ErrorKind::OutOfMemory, FixedText::NoMemory))
+        let mut buf = Buffer::new(raw);
+        let op = buf.get_u8()?;
+        let htype = buf.get_u8()?;
+        let hlen = buf.get_u8()?;
+        let hops = buf.get_u8()?;
+        let xid = buf.get_u32_be()?;
+        let secs = buf.get_u16_be()?;
+        let flags = buf.get_u16_be()?;
+        let ciaddr = buf.get_ipv4()?;
+        let yiaddr = buf.get_ipv4()?;
+        let siaddr = buf.get_ipv4()?;
+        let giaddr = buf.get_ipv4()?;
+        let chaddr = hardware_address(&mut buf)?;
+        let sname = Text::from(buf.get_string_with_null(alloc, 64)?);
+        let file = Text::from(buf.get_string_with_null(alloc, 128)?);
+        if buf.get_u32_be()? != MAGIC_COOKIE {
+            return Err(unreadable());
+        }
+        let options = DhcpV4Options::parse(alloc, buf.get_remains())?;
+        Ok(DhcpV4Message {
+            op,
+            htype,
+            hlen,
+            hops,
+            xid,
+            secs,
+            flags,
+            ciaddr,
+            yiaddr,
+            siaddr,
+            giaddr,
+            chaddr,
+            sname,
+            file,
+            options,
+        })
     }
-    /// Writes the message.
-    #[tactic(auto, unfolding(dhcp_wire::specs::Kind::fixed_text))]
+
+    /// Writes the message: the header, with at most 63 bytes of `sname` and 127 of `file`, the cookie, and the options.
+    #[tactic(auto, unfolding(crate::specs::Message::written_message))]
     pub fn emit(&self, buf: &mut BufferMut) -> Result<(), DhcpError>
         ensures { Emits result buf.old buf.new (written_message self.now) }
     {
-        Err(DhcpError::new_fixed(ErrorKind::OutOfMemory, FixedText::NoMemory))
+        self.emit_numbers(buf)?;
+        self.emit_addresses(buf)?;
+        self.emit_texts(buf)?;
+        self.options.emit(buf)
     }
+
+    // Writes the fields before the addresses.
+    fn emit_numbers(&self, buf: &mut BufferMut) -> Result<(), DhcpError>
+        ensures { Emits result buf.old buf.new (written_numbers self.now) }
+    {
+        buf.write_bytes(&[self.op, self.htype, self.hlen, self.hops])?;
+        buf.write_u32_be(self.xid)?;
+        buf.write_u16_be(self.secs)?;
+        buf.write_u16_be(self.flags)
+    }
+
+    // Writes the addresses.
+    fn emit_addresses(&self, buf: &mut BufferMut) -> Result<(), DhcpError>
+        ensures { Emits result buf.old buf.new (written_addresses self.now) }
+    {
+        buf.write_ipv4(self.ciaddr)?;
+        buf.write_ipv4(self.yiaddr)?;
+        buf.write_ipv4(self.siaddr)?;
+        buf.write_ipv4(self.giaddr)?;
+        buf.write_bytes(&self.chaddr)
+    }
+
+    // Writes the texts and the cookie.
+    fn emit_texts(&self, buf: &mut BufferMut) -> Result<(), DhcpError>
+        ensures { Emits result buf.old buf.new (written_texts self.now) }
+    {
+        buf.write_string_with_null(self.sname.as_str(), 64)?;
+        buf.write_string_with_null(self.file.as_str(), 128)?;
+        buf.write_u32_be(MAGIC_COOKIE)
+    }
+}
+
+// The sixteen bytes of a hardware address.
+fn hardware_address(buf: &mut Buffer) -> Result<[u8; 16], DhcpError>
+    ensures { Reads (λ address. address) result buf.old buf.new (bytes_at 16 buf.old) }
+{
+    let bytes = buf.get_bytes(16)?;
+    let mut address = [0; 16];
+    address.copy_from_slice(bytes);
+    Ok(address)
 }

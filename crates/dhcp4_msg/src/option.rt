@@ -1,13 +1,17 @@
 //! Options, RFC 2132.
 
-ghost use Rattle.std.specs.Prelude.{◌≡◌};
-ghost use Rattle.dhcp4_msg.specs.Value.{option_code};
+ghost use Rattle.std.specs.Prelude.{◌≡◌, length, IsTrue};
+ghost use Rattle.dhcp4_msg.specs.Value.{option_code, written_value, written_option, fits, has_own_code};
+ghost use Rattle.dhcp_wire.specs.Outcome.{Emits};
 ghost use Rattle.dhcp4_msg.specs.Outcome.{ReadsOption};
 
-use crate::cut::item_at;
+use crate::cut::{END, PAD, item_at};
 use crate::value::{read_value, unreadable};
+use crate::written::{
+    TEXT_MAX, addresses_len, emit_addresses, emit_codes, emit_routes, emit_text, routes_len,
+};
 use crate::{DhcpV4ClasslessRoute, DhcpV4MessageType, DhcpV4OptionCode};
-use dhcp_wire::{Buffer, Bytes, DhcpError, ErrorKind, Sequence, Text};
+use dhcp_wire::{Buffer, BufferMut, Bytes, DhcpError, ErrorKind, Sequence, Text};
 use std::alloc::Global;
 use std::net::Ipv4Addr;
 
@@ -96,6 +100,101 @@ impl DhcpV4Option {
                 }
                 Err(error)
             }
+        }
+    }
+    /// Whether the option can be written: its value has at most 255 bytes, and an unknown option has a number without a name.
+    #[tactic(auto, unfolding(crate::specs::Value::fits))]
+    pub fn fits(&self) -> bool
+        ensures { result ≡ fits self.now }
+    {
+        self.value_len() <= 255 && self.has_own_code()
+    }
+
+    // Whether the number is the option's own: an unknown option has one without a name.
+    fn has_own_code(&self) -> bool
+        ensures { result ≡ has_own_code self.now }
+    {
+        match self {
+            DhcpV4Option::Unknown(unknown) => matches!(
+                DhcpV4OptionCode::from(unknown.code),
+                DhcpV4OptionCode::Other(_)
+            ),
+            _ => true,
+        }
+    }
+
+    // How many bytes the written value has.
+    #[tactic(auto, unfolding(crate::specs::Value::written_value), using(crate::proofs::ValueLemmas::text_len))]
+    fn value_len(&self) -> usize
+        ensures { result ≡ length (written_value self.now) }
+    {
+        match self {
+            DhcpV4Option::Pad | DhcpV4Option::End => 0,
+            DhcpV4Option::SubnetMask(address)
+            | DhcpV4Option::BroadcastAddress(address)
+            | DhcpV4Option::RequestedIpAddress(address)
+            | DhcpV4Option::ServerIdentifier(address) => address.octets().len(),
+            DhcpV4Option::IpAddressLeaseTime(_)
+            | DhcpV4Option::RenewalTime(_)
+            | DhcpV4Option::RebindingTime(_) => 4,
+            DhcpV4Option::InterfaceMtu(_) => 2,
+            DhcpV4Option::MessageType(_) => 1,
+            DhcpV4Option::Router(addresses)
+            | DhcpV4Option::DomainNameServer(addresses)
+            | DhcpV4Option::NtpServers(addresses) => addresses_len(addresses.as_slice()),
+            DhcpV4Option::HostName(text)
+            | DhcpV4Option::DomainName(text)
+            | DhcpV4Option::Message(text) => text.len().min(TEXT_MAX) + 1,
+            DhcpV4Option::ParameterRequestList(codes) => codes.len(),
+            DhcpV4Option::ClientIdentifier(bytes) => bytes.len(),
+            DhcpV4Option::ClasslessStaticRoute(routes) => routes_len(routes.as_slice()),
+            DhcpV4Option::Unknown(unknown) => unknown.raw.len(),
+        }
+    }
+
+    /// Writes the option: its number, the length of its value, and the value.
+    #[tactic(auto, unfolding(crate::specs::Value::written_option, crate::specs::Value::written_value, crate::specs::Value::fits))]
+    pub fn emit(&self, buf: &mut BufferMut) -> Result<(), DhcpError>
+        requires { IsTrue (fits self.now) }
+        ensures { Emits result buf.old buf.new (written_option self.now) }
+    {
+        match self {
+            DhcpV4Option::Pad => buf.write_u8(PAD),
+            DhcpV4Option::End => buf.write_u8(END),
+            option => {
+                buf.write_u8(u8::from(option.code()))?;
+                buf.write_u8(option.value_len() as u8)?;
+                option.emit_value(buf)
+            }
+        }
+    }
+
+    // Writes the value.
+    #[tactic(auto, unfolding(crate::specs::Value::written_value))]
+    fn emit_value(&self, buf: &mut BufferMut) -> Result<(), DhcpError>
+        ensures { Emits result buf.old buf.new (written_value self.now) }
+    {
+        match self {
+            DhcpV4Option::Pad | DhcpV4Option::End => Ok(()),
+            DhcpV4Option::SubnetMask(address)
+            | DhcpV4Option::BroadcastAddress(address)
+            | DhcpV4Option::RequestedIpAddress(address)
+            | DhcpV4Option::ServerIdentifier(address) => buf.write_ipv4(*address),
+            DhcpV4Option::IpAddressLeaseTime(seconds)
+            | DhcpV4Option::RenewalTime(seconds)
+            | DhcpV4Option::RebindingTime(seconds) => buf.write_u32_be(*seconds),
+            DhcpV4Option::InterfaceMtu(size) => buf.write_u16_be(*size),
+            DhcpV4Option::MessageType(kind) => buf.write_u8(u8::from(*kind)),
+            DhcpV4Option::Router(addresses)
+            | DhcpV4Option::DomainNameServer(addresses)
+            | DhcpV4Option::NtpServers(addresses) => emit_addresses(addresses.as_slice(), buf),
+            DhcpV4Option::HostName(text)
+            | DhcpV4Option::DomainName(text)
+            | DhcpV4Option::Message(text) => emit_text(text.as_str(), buf),
+            DhcpV4Option::ParameterRequestList(codes) => emit_codes(codes.as_slice(), buf),
+            DhcpV4Option::ClientIdentifier(bytes) => buf.write_bytes(bytes.as_slice()),
+            DhcpV4Option::ClasslessStaticRoute(routes) => emit_routes(routes.as_slice(), buf),
+            DhcpV4Option::Unknown(unknown) => buf.write_bytes(unknown.raw.as_slice()),
         }
     }
 }

@@ -2,10 +2,10 @@
 
 ghost use Rattle.std.specs.Prelude.{◌≡◌, ◌≤◌, length};
 ghost use Rattle.dhcp_wire.specs.Field.{address_of};
-ghost use Rattle.dhcp_wire.specs.Outcome.{Reads};
+ghost use Rattle.dhcp_wire.specs.Outcome.{Reads, Emits};
 ghost use Rattle.dhcp4_msg.specs.Route as routes;
 
-use dhcp_wire::{Buffer, DhcpError};
+use dhcp_wire::{Buffer, BufferMut, DhcpError};
 use std::net::Ipv4Addr;
 
 /// A route: where to, and by which router.
@@ -36,6 +36,28 @@ impl DhcpV4ClasslessRoute {
             prefix_length,
             router,
         })
+    }
+
+    /// Writes the route: its width, the significant octets of its destination, and its router.
+    #[tactic(auto, unfolding(crate::specs::Route::written_route))]
+    pub fn emit(&self, buf: &mut BufferMut) -> Result<(), DhcpError>
+        ensures { Emits result buf.old buf.new (routes.written_route self.now) }
+    {
+        buf.write_u8(self.prefix_length)?;
+        let octets = self.destination.octets();
+        buf.write_bytes(&octets[..significant_octets(self.prefix_length)])?;
+        buf.write_ipv4(self.router)
+    }
+
+    // How many bytes the written route has: nine at most.
+    #[tactic(auto, unfolding(crate::specs::Route::written_route))]
+    pub(crate) fn written_len(&self) -> usize
+        ensures len { result ≡ length (routes.written_route self.now) }
+        ensures short { result ≤ 9 }
+    {
+        let octets = self.destination.octets();
+        let significant = &octets[..significant_octets(self.prefix_length)];
+        1 + significant.len() + self.router.octets().len()
     }
 }
 
