@@ -7,6 +7,8 @@ mod mem_sink;
 mod mem_source;
 mod std_stream;
 mod stream;
+#[cfg(test)]
+mod tests;
 mod thin_output;
 mod thin_printer;
 mod thin_reader;
