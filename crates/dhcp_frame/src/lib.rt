@@ -1,0 +1,11 @@
+//! Frames that carry a UDP datagram over IPv4: Ethernet II, IPv4 (RFC 791) and UDP (RFC 768).
+#![tactic(auto)]
+
+mod checksum;
+mod frame;
+
+
+
+pub use frame::Frame;
+
+
