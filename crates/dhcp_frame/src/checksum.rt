@@ -26,7 +26,7 @@ pub(crate) fn word_sum(bytes: &[u8]) -> u32
 
 // The ones'-complement sum of words that have this plain sum: its carries are added back in.
 #[tactic(auto, using(crate::proofs::Sums::folded_twice))]
-fn carried(sum: u32) -> u16
+pub(crate) fn carried(sum: u32) -> u16
     ensures { IsCarried sum result }
 {
     let once = sum % 65536 + sum / 65536;

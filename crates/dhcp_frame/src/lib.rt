@@ -3,9 +3,7 @@
 
 mod checksum;
 mod frame;
-
-
+mod write;
 
 pub use frame::Frame;
-
-
+pub use write::{MOST_PAYLOAD, write_frame};
