@@ -3,7 +3,9 @@
 
 mod checksum;
 mod frame;
+mod read;
 mod write;
 
 pub use frame::Frame;
+pub use read::read_frame;
 pub use write::{MOST_PAYLOAD, write_frame};
