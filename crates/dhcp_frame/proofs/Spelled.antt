@@ -1,5 +1,5 @@
 -- The headers, spelled byte by byte.
-use Rattle.std.proofs.Common.{◌≡◌, ℕ, ◌+◌, List, [], ◌∷◌, ◌++◌, length, get_or, append_assoc, ap, ◌∙◌, refl, arith}
+use Rattle.std.proofs.Common.{◌≡◌, ℕ, ◌+◌, List, [], ◌∷◌, ◌++◌, length, get_or, append_assoc, append-nil, ap, sym, ◌∙◌, refl, arith}
 use Rattle.dhcp_frame.specs.declared.frame.Frame.{Frame}
 use Rattle.dhcp_frame.specs.Header.{field, udp_length, ethernet_header, ip_header, udp_header, pseudo_header}
 
@@ -13,13 +13,8 @@ front_four (a ∷ b ∷ c ∷ d ∷ []) rest four = refl
 front_four (a ∷ b ∷ c ∷ d ∷ e ∷ bytes) rest four = absurd (omega arith)
 
 -- four bytes alone
-only_four : (bytes : List ℕ) → length bytes ≡ 4 → bytes ≡ get_or bytes 0 0 ∷ get_or bytes 1 0 ∷ get_or bytes 2 0 ∷ get_or bytes 3 0 ∷ []
-only_four [] four = absurd (omega arith)
-only_four (a ∷ []) four = absurd (omega arith)
-only_four (a ∷ b ∷ []) four = absurd (omega arith)
-only_four (a ∷ b ∷ c ∷ []) four = absurd (omega arith)
-only_four (a ∷ b ∷ c ∷ d ∷ []) four = refl
-only_four (a ∷ b ∷ c ∷ d ∷ e ∷ bytes) four = absurd (omega arith)
+pub only_four : (bytes : List ℕ) → length bytes ≡ 4 → bytes ≡ get_or bytes 0 0 ∷ get_or bytes 1 0 ∷ get_or bytes 2 0 ∷ get_or bytes 3 0 ∷ []
+only_four bytes four = sym (append-nil bytes) ∙ front_four bytes [] four
 
 -- four bytes and four after them
 four_and_four : (one other : List ℕ) → length one ≡ 4 → length other ≡ 4 →
@@ -38,6 +33,10 @@ front_six (a ∷ b ∷ c ∷ d ∷ []) rest six = absurd (omega arith)
 front_six (a ∷ b ∷ c ∷ d ∷ e ∷ []) rest six = absurd (omega arith)
 front_six (a ∷ b ∷ c ∷ d ∷ e ∷ f ∷ []) rest six = refl
 front_six (a ∷ b ∷ c ∷ d ∷ e ∷ f ∷ g ∷ bytes) rest six = absurd (omega arith)
+
+-- six bytes alone
+pub only_six : (bytes : List ℕ) → length bytes ≡ 6 → bytes ≡ get_or bytes 0 0 ∷ get_or bytes 1 0 ∷ get_or bytes 2 0 ∷ get_or bytes 3 0 ∷ get_or bytes 4 0 ∷ get_or bytes 5 0 ∷ []
+only_six bytes six = sym (append-nil bytes) ∙ front_six bytes [] six
 
 -- the Ethernet header
 pub ethernet_header-spelled : (frame : Frame) → length frame.dst_mac ≡ 6 → length frame.src_mac ≡ 6 →

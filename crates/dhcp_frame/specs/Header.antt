@@ -1,5 +1,5 @@
 -- A frame as it is written: the headers of Ethernet II, IPv4 (RFC 791, section 3.1) and UDP (RFC 768), and the payload.
-use Rattle.std.specs.Prelude.{ℕ, ◌+◌, List, [], ◌∷◌, ◌++◌, length, ◌==◌, if◌then◌else◌}
+use Rattle.std.specs.Prelude.{◌≡◌, ℕ, ◌+◌, ◌<◌, List, [], ◌∷◌, ◌++◌, length, ◌==◌, if◌then◌else◌}
 use Rattle.std.specs.Int.{w16, to_be_bytes}
 use Rattle.dhcp_frame.specs.Checksum.{checksum}
 use Rattle.dhcp_frame.specs.declared.frame.Frame.{Frame}
@@ -51,3 +51,16 @@ udp_checksum frame = never_zero (covered_checksum frame)
 unfoldable pub frame_bytes : Frame → List ℕ
 frame_bytes frame =
     ethernet_header frame ++ ip_header frame (ip_checksum frame) ++ udp_header frame (udp_checksum frame) ++ frame.payload
+
+-- What the fields of a frame are by their types: Ethernet addresses of 6 bytes, IPv4 addresses of 4, ports of 16 bits.
+pub record HasMacs (frame : Frame) : Type 0 where
+  pub destination : length frame.dst_mac ≡ 6
+  pub source : length frame.src_mac ≡ 6
+
+pub record HasAddresses (frame : Frame) : Type 0 where
+  pub source : length frame.src_ip.octets ≡ 4
+  pub destination : length frame.dst_ip.octets ≡ 4
+
+pub record HasPorts (frame : Frame) : Type 0 where
+  pub source : frame.src_port < 65536
+  pub destination : frame.dst_port < 65536

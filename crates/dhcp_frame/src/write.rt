@@ -1,8 +1,10 @@
 //! Writing a frame.
 
-ghost use Rattle.std.specs.Prelude.{◌≡◌, ◌≤◌, length};
+ghost use Rattle.std.specs.Prelude.{◌≡◌, ◌≤◌, length, IfOk, Some};
 ghost use Rattle.dhcp_wire.specs.Outcome.{Makes};
 ghost use Rattle.dhcp_frame.specs.Header as Header;
+ghost use Rattle.dhcp_frame.specs.Header.{HasMacs, HasAddresses, HasPorts};
+ghost use Rattle.dhcp_frame.specs.Read as Read;
 
 use crate::Frame;
 use crate::checksum::{carried, checksum, word_sum};
@@ -16,10 +18,11 @@ pub const MOST_PAYLOAD: usize = 65507;
 const HEADERS: usize = 14 + 20 + 8;
 
 /// The bytes of a frame, with both checksums.
-#[tactic(auto, unfolding(crate::specs::Header::frame_bytes))]
+#[tactic(auto, using(crate::proofs::Back::back), unfolding(crate::specs::Header::frame_bytes))]
 pub fn write_frame(alloc: Global, frame: &Frame) -> Result<Bytes, DhcpError>
     requires { length frame.now.payload ≤ 65507 }
-    ensures { Makes (λ bytes. bytes) result (Header.frame_bytes frame.now) }
+    ensures bytes { Makes (λ bytes. bytes) result (Header.frame_bytes frame.now) }
+    ensures reads_back { IfOk result (λ bytes. Read.read_frame bytes ≡ Some frame.now) }
 {
     let mut bytes = Vec::with_capacity(alloc, HEADERS + frame.payload.len())?;
     bytes.extend_from_slice(&ethernet_header(frame))?;
@@ -32,7 +35,8 @@ pub fn write_frame(alloc: Global, frame: &Frame) -> Result<Bytes, DhcpError>
 // The Ethernet header.
 #[tactic(auto, using(crate::proofs::Spelled::spelled))]
 fn ethernet_header(frame: &Frame) -> [u8; 14]
-    ensures { result ≡ Header.ethernet_header frame.now }
+    ensures value { result ≡ Header.ethernet_header frame.now }
+    ensures macs { HasMacs frame.now }
 {
     let [d0, d1, d2, d3, d4, d5] = frame.dst_mac;
     let [s0, s1, s2, s3, s4, s5] = frame.src_mac;
@@ -51,7 +55,8 @@ fn udp_length(frame: &Frame) -> u16
 #[tactic(auto, using(crate::proofs::Spelled::spelled))]
 fn ip_header(frame: &Frame, sum: u16) -> [u8; 20]
     requires { length frame.now.payload ≤ 65507 }
-    ensures { result ≡ Header.ip_header frame.now sum }
+    ensures value { result ≡ Header.ip_header frame.now sum }
+    ensures addresses { HasAddresses frame.now }
 {
     let [l0, l1] = (20 + udp_length(frame)).to_be_bytes();
     let [c0, c1] = sum.to_be_bytes();
@@ -67,10 +72,13 @@ fn ip_header(frame: &Frame, sum: u16) -> [u8; 20]
 #[tactic(auto, using(crate::proofs::Spelled::spelled))]
 fn udp_header(frame: &Frame, sum: u16) -> [u8; 8]
     requires { length frame.now.payload ≤ 65507 }
-    ensures { result ≡ Header.udp_header frame.now sum }
+    ensures value { result ≡ Header.udp_header frame.now sum }
+    ensures ports { HasPorts frame.now }
 {
-    let [s0, s1] = frame.src_port.to_be_bytes();
-    let [d0, d1] = frame.dst_port.to_be_bytes();
+    let source = frame.src_port;
+    let destination = frame.dst_port;
+    let [s0, s1] = source.to_be_bytes();
+    let [d0, d1] = destination.to_be_bytes();
     let [l0, l1] = udp_length(frame).to_be_bytes();
     let [c0, c1] = sum.to_be_bytes();
     [s0, s1, d0, d1, l0, l1, c0, c1]

@@ -12,4 +12,4 @@ returns c =
     let sum = ones_complement_sum-parts one two three c.carried.result
     (rw (← c.word_sum.ensures.value, ← c.word_sum-2.ensures.value, ← c.word_sum-3.ensures.value) c.carried.ensures)
     (search rules) (search rules) c.word_sum.ensures.bytes c.word_sum-2.ensures.bytes c.word_sum-3.ensures.bytes in
-    rw (sum, c.pseudo_header-pseudo_header.ensures, c.udp_header-header.ensures, c.as_slice-payload.ensures) refl
+    rw (sum, c.pseudo_header-pseudo_header.ensures, c.udp_header-header.ensures.value, c.as_slice-payload.ensures) refl
