@@ -1,5 +1,5 @@
 -- What is written reads back.
-use Rattle.std.proofs.Common.{◌≡◌, ℕ, ◌+◌, ◌*◌, ◌-◌, ◌<◌, ◌≤◌, true, leb, List, [], ◌∷◌, ◌++◌, length, get_or, take, append_assoc, Option, Some, ap, sym, ◌∙◌, refl, arith}
+use Rattle.std.proofs.Common.{◌≡◌, ℕ, ◌+◌, ◌-◌, ◌<◌, ◌≤◌, List, [], ◌∷◌, ◌++◌, length, get_or, append_assoc, Option, Some, ap, sym, ◌∙◌, refl, arith}
 use Rattle.std.proofs.lemmas.List.{take_all}
 use Rattle.std.proofs.lemmas.Bool.{le-leb}
 use Rattle.dhcp_frame.specs.declared.frame.Frame.{Frame}
@@ -7,7 +7,7 @@ use Rattle.dhcp_frame.specs.Header.{field, udp_length, ethernet_header, ip_heade
 use Rattle.dhcp_frame.proofs.Spelled.{only_four, only_six, ethernet_header-spelled, ip_header-spelled, udp_header-spelled}
 use Rattle.dhcp_wire.specs.Field.{address_of}
 use Rattle.dhcp_frame.specs.Checksum.{word}
-use Rattle.dhcp_frame.specs.Read.{Ethernet, Packet, Datagram, read_ethernet, read_packet, read_datagram, read_frame}
+use Rattle.dhcp_frame.specs.Read.{Packet, read_ethernet, read_packet, read_datagram, read_frame}
 
 -- an Ethernet frame, byte by byte
 ethernet-spelled : (d0 d1 d2 d3 d4 d5 s0 s1 s2 s3 s4 s5 : ℕ) (content : List ℕ) →

@@ -1,6 +1,6 @@
 -- Which bytes are a frame with a UDP datagram: Ethernet II, IPv4 (RFC 791, section 3.1) and UDP (RFC 768), each layer by the length
 -- that its header gives. No checksum is tested, and what follows the datagram is ignored.
-use Rattle.std.specs.Prelude.{◌≡◌, ℕ, ◌+◌, ◌*◌, ◌/◌, ◌%◌, Bool, ◌&&◌, List, length, drop, slice_index, slice_range, Option, Some, None, option_and_then, nat_le, ◌==◌, if◌then◌else◌}
+use Rattle.std.specs.Prelude.{◌≡◌, ℕ, ◌+◌, ◌*◌, ◌/◌, ◌%◌, Bool, ◌&&◌, List, length, drop, slice_index, slice_range, Option, Some, None, nat_le, ◌==◌, if◌then◌else◌}
 use Rattle.std.specs.declared.net.Ipv4Addr.{Ipv4Addr}
 use Rattle.dhcp_wire.specs.Field.{◌>>=◌, address_of}
 use Rattle.dhcp_frame.specs.Checksum.{word}

@@ -4,6 +4,8 @@
 mod checksum;
 mod frame;
 mod read;
+#[cfg(test)]
+mod tests;
 mod write;
 
 pub use frame::Frame;

@@ -20,7 +20,7 @@ const HEADERS: usize = 14 + 20 + 8;
 /// The bytes of a frame, with both checksums.
 #[tactic(auto, using(crate::proofs::Back::back), unfolding(crate::specs::Header::frame_bytes))]
 pub fn write_frame(alloc: Global, frame: &Frame) -> Result<Bytes, DhcpError>
-    requires { length frame.now.payload ≤ 65507 }
+    requires { length frame.now.payload ≤ MOST_PAYLOAD }
     ensures bytes { Makes (λ bytes. bytes) result (Header.frame_bytes frame.now) }
     ensures reads_back { IfOk result (λ bytes. Read.read_frame bytes ≡ Some frame.now) }
 {
@@ -45,7 +45,7 @@ fn ethernet_header(frame: &Frame) -> [u8; 14]
 
 // The length of the UDP header and the payload.
 fn udp_length(frame: &Frame) -> u16
-    requires { length frame.now.payload ≤ 65507 }
+    requires { length frame.now.payload ≤ MOST_PAYLOAD }
     ensures { result ≡ Header.udp_length frame.now }
 {
     8 + frame.payload.len() as u16
@@ -54,7 +54,7 @@ fn udp_length(frame: &Frame) -> u16
 // The IPv4 header with this checksum.
 #[tactic(auto, using(crate::proofs::Spelled::spelled))]
 fn ip_header(frame: &Frame, sum: u16) -> [u8; 20]
-    requires { length frame.now.payload ≤ 65507 }
+    requires { length frame.now.payload ≤ MOST_PAYLOAD }
     ensures value { result ≡ Header.ip_header frame.now sum }
     ensures addresses { HasAddresses frame.now }
 {
@@ -71,7 +71,7 @@ fn ip_header(frame: &Frame, sum: u16) -> [u8; 20]
 // The UDP header with this checksum.
 #[tactic(auto, using(crate::proofs::Spelled::spelled))]
 fn udp_header(frame: &Frame, sum: u16) -> [u8; 8]
-    requires { length frame.now.payload ≤ 65507 }
+    requires { length frame.now.payload ≤ MOST_PAYLOAD }
     ensures value { result ≡ Header.udp_header frame.now sum }
     ensures ports { HasPorts frame.now }
 {
@@ -87,7 +87,7 @@ fn udp_header(frame: &Frame, sum: u16) -> [u8; 8]
 // What the UDP checksum covers before the header.
 #[tactic(auto, using(crate::proofs::Spelled::spelled))]
 fn pseudo_header(frame: &Frame) -> [u8; 12]
-    requires { length frame.now.payload ≤ 65507 }
+    requires { length frame.now.payload ≤ MOST_PAYLOAD }
     ensures { result ≡ Header.pseudo_header frame.now }
 {
     let [s0, s1, s2, s3] = frame.src_ip.octets();
@@ -98,7 +98,7 @@ fn pseudo_header(frame: &Frame) -> [u8; 12]
 
 // The UDP checksum.
 fn udp_checksum(frame: &Frame) -> u16
-    requires { length frame.now.payload ≤ 65507 }
+    requires { length frame.now.payload ≤ MOST_PAYLOAD }
     ensures { result ≡ Header.udp_checksum frame.now }
 {
     match covered_checksum(frame) {
@@ -109,7 +109,7 @@ fn udp_checksum(frame: &Frame) -> u16
 
 // The checksum of all that the UDP checksum covers, which may be 0.
 fn covered_checksum(frame: &Frame) -> u16
-    requires { length frame.now.payload ≤ 65507 }
+    requires { length frame.now.payload ≤ MOST_PAYLOAD }
     ensures { result ≡ Header.covered_checksum frame.now }
 {
     let pseudo_header = pseudo_header(frame);

@@ -1,6 +1,4 @@
-use Rattle.std.proofs.Common.{◌≡◌, ℕ, ◌-◌, refl, rules}
-use Rattle.dhcp_frame.specs.Checksum.{word_sum, ones_complement_sum, complement_of}
-use Rattle.dhcp_frame.specs.Header as Header
+use Rattle.std.proofs.Common.{refl, rules}
 use Rattle.dhcp_frame.proofs.Sums.{ones_complement_sum-parts}
 use Rattle.dhcp_frame.proofs.write.covered_checksum.Goals as goal
 
