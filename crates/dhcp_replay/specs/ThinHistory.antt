@@ -44,11 +44,20 @@ by_number list = fold (λ kept option. options.insert kept (option_number option
 -- a message of the client with these options: a request over Ethernet from its address
 unfoldable pub client_message : ThinScript → List DhcpV4Option → DhcpV4Message
 client_message script list = record {
-  op = 1; htype = 1; hlen = 6; hops = 0;
-  xid = transaction_id script; secs = 0; flags = 0;
-  ciaddr = unspecified; yiaddr = unspecified; siaddr = unspecified; giaddr = unspecified;
+  op = 1;
+  htype = 1;
+  hlen = 6;
+  hops = 0;
+  xid = transaction_id script;
+  secs = 0;
+  flags = 0;
+  ciaddr = unspecified;
+  yiaddr = unspecified;
+  siaddr = unspecified;
+  giaddr = unspecified;
   chaddr = script.mac ++ replicate 10 0;
-  sname = []; file = [];
+  sname = [];
+  file = [];
   options = by_number list;
 }
 

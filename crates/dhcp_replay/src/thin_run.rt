@@ -8,8 +8,8 @@ ghost use Rattle.dhcp_replay.specs.ThinHistory.{outputs_of};
 ghost use Rattle.dhcp_replay.specs.ThinPoll.{polled, Polls};
 
 use crate::{ThinEvent, ThinLease, ThinOutput, ThinReport, ThinScript};
-use dhcp4_msg::DhcpV4MessageType;
 use dhcp_wire::DhcpError;
+use dhcp4_msg::DhcpV4MessageType;
 use std::alloc::Global;
 
 /// What the client of a thin script waits for.

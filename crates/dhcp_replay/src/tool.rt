@@ -10,8 +10,9 @@ ghost use Rattle.dhcp_replay.specs.declared.tool.Status.TheVariants.{NoMemory};
 ghost use Rattle.dhcp_replay.specs.declared.thin_script.ThinScript.{ThinScript};
 ghost use Rattle.dhcp_replay.specs.declared.whole.TheConstants.{MAX_INPUT};
 
-use crate::{Sink, Source, Whole};
-use crate::{print_thin_outputs, read_thin_script, read_whole, replay_thin, write_whole};
+use crate::{
+    Sink, Source, Whole, print_thin_outputs, read_thin_script, read_whole, replay_thin, write_whole,
+};
 use dhcp_wire::{Bytes, DhcpError};
 use std::alloc::Global;
 
@@ -132,3 +133,6 @@ fn answer(alloc: Global, bytes: &[u8]) -> Result<Bytes, Status>
     let outputs = replay_thin(alloc, &script)?;
     Ok(print_thin_outputs(alloc, outputs.as_slice())?)
 }
+
+#[cfg(test)]
+mod tests;

@@ -28,9 +28,13 @@ pub fn discover(alloc: Global, script: &ThinScript) -> Result<Bytes, DhcpError>
     ensures { Makes (λ bytes. bytes) result (written_message (history.discover script.now)) }
 {
     let mut message = client_message(alloc, script);
-    message.options.insert(DhcpV4Option::MessageType(DhcpV4MessageType::Discovery))?;
+    message
+        .options
+        .insert(DhcpV4Option::MessageType(DhcpV4MessageType::Discovery))?;
     message.options.insert(DhcpV4Option::ParameterRequestList(codes_of(alloc, &USUAL_CODES)?))?;
-    message.options.insert(DhcpV4Option::ClientIdentifier(Bytes::new(alloc)))?;
+    message
+        .options
+        .insert(DhcpV4Option::ClientIdentifier(Bytes::new(alloc)))?;
     written(alloc, &message)
 }
 
@@ -40,11 +44,19 @@ pub fn request(alloc: Global, script: &ThinScript, lease: ThinLease) -> Result<B
     ensures { Makes (λ bytes. bytes) result (written_message (history.request script.now lease)) }
 {
     let mut message = client_message(alloc, script);
-    message.options.insert(DhcpV4Option::RequestedIpAddress(lease.yiaddr))?;
-    message.options.insert(DhcpV4Option::MessageType(DhcpV4MessageType::Request))?;
-    message.options.insert(DhcpV4Option::ServerIdentifier(server_of(lease)))?;
+    message
+        .options
+        .insert(DhcpV4Option::RequestedIpAddress(lease.yiaddr))?;
+    message
+        .options
+        .insert(DhcpV4Option::MessageType(DhcpV4MessageType::Request))?;
+    message
+        .options
+        .insert(DhcpV4Option::ServerIdentifier(server_of(lease)))?;
     message.options.insert(DhcpV4Option::ParameterRequestList(codes_of(alloc, &USUAL_CODES)?))?;
-    message.options.insert(DhcpV4Option::ClientIdentifier(Bytes::new(alloc)))?;
+    message
+        .options
+        .insert(DhcpV4Option::ClientIdentifier(Bytes::new(alloc)))?;
     written(alloc, &message)
 }
 
