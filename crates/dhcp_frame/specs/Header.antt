@@ -52,15 +52,17 @@ unfoldable pub frame_bytes : Frame → List ℕ
 frame_bytes frame =
     ethernet_header frame ++ ip_header frame (ip_checksum frame) ++ udp_header frame (udp_checksum frame) ++ frame.payload
 
--- What the fields of a frame are by their types: Ethernet addresses of 6 bytes, IPv4 addresses of 4, ports of 16 bits.
+-- by their types, its Ethernet addresses have 6 bytes
 pub record HasMacs (frame : Frame) : Type 0 where
   pub destination : length frame.dst_mac ≡ 6
   pub source : length frame.src_mac ≡ 6
 
+-- by their types, its IPv4 addresses have 4 bytes
 pub record HasAddresses (frame : Frame) : Type 0 where
   pub source : length frame.src_ip.octets ≡ 4
   pub destination : length frame.dst_ip.octets ≡ 4
 
+-- by their types, its ports have 16 bits
 pub record HasPorts (frame : Frame) : Type 0 where
   pub source : frame.src_port < 65536
   pub destination : frame.dst_port < 65536

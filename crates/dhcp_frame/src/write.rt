@@ -17,7 +17,7 @@ pub const MOST_PAYLOAD: usize = 65507;
 // The length of an Ethernet, an IPv4 and a UDP header.
 const HEADERS: usize = 14 + 20 + 8;
 
-/// The bytes of a frame, with both checksums.
+/// The bytes of a frame, with both checksums, made in one pass. They read back as the frame. Want of memory is the only error.
 #[tactic(auto, using(crate::proofs::Back::back), unfolding(crate::specs::Header::frame_bytes))]
 pub fn write_frame(alloc: Global, frame: &Frame) -> Result<Bytes, DhcpError>
     requires { length frame.now.payload ≤ MOST_PAYLOAD }
