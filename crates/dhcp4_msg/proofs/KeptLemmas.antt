@@ -6,12 +6,13 @@ use Rattle.std.specs.Map.{lookup, values_of}
 use Rattle.std.proofs.lemmas.Option.{none-some, same_Some}
 use Rattle.std.specs.Ordering.{nat_cmp}
 use Rattle.std.specs.BTreeMap.{insert_entry}
+use Rattle.std.specs.FinMap as map
 use Rattle.std.specs.FinMap.{is_sorted}
 use Rattle.std.proofs.lemmas.Bool.{and_parts, and_from, eq-eqb}
 use Rattle.dhcp4_msg.specs.declared.option.DhcpV4Option.{DhcpV4Option}
 use Rattle.dhcp4_msg.specs.Kept.{is_kept, stands_well}
 use Rattle.dhcp4_msg.specs.Value.{option_number, fits}
-use Rattle.dhcp4_msg.proofs.Entries.{is_sorted-insert_entry, list_all-insert_entry, list_all-lookup}
+use Rattle.dhcp4_msg.proofs.Entries.{passes, is_sorted-insert_entry, list_all-insert_entry, list_all-lookup}
 
 -- the keys rise
 pub is_kept-rises : (es : List (ℕ × DhcpV4Option)) → IsTrue (is_kept es) → IsTrue (is_sorted nat_cmp es)
@@ -50,3 +51,7 @@ unfolding is_kept stands_well
 lookup-fits test es None kept is = tt
 lookup-fits test es (Some option) kept is =
     (and_parts _ _ (list_all-lookup test stands_well es option.now (and_parts _ _ kept).1 (sym is)).1).1
+
+-- the map of what is kept has these entries
+pub entries-kept : (es : List (ℕ × DhcpV4Option)) → IsTrue (is_kept es) → map.entries (map.from_sorted {R = nat_cmp} es) ≡ es
+entries-kept es kept = map.entries-from_sorted nat_cmp es (passes _ (is_kept-rises es kept))

@@ -1,7 +1,15 @@
 //! The codes of options, RFC 2132.
 
-ghost use Rattle.std.specs.Prelude.{◌≡◌};
+ghost use Rattle.std.specs.Prelude.{◌≡◌, ◌==◌};
+ghost use Rattle.std.proofs.Common.{rules};
+ghost use Rattle.std.specs.Ordering.{nat_cmp, on, as_partial_cmp};
+ghost use Rattle.std.specs.Cmp.{partial_order_from_own_ties};
+ghost use Rattle.std.specs.Cmp.Rules.{comparing, hashing};
+ghost use Rattle.std.specs.Hash as fed;
 ghost use Rattle.dhcp4_msg.specs.Code.{code_of, number_of};
+
+use std::cmp::Ordering;
+use std::hash::{Hash, Hasher};
 
 /// The code of an option: a name where this library reads the option's value, else its number.
 #[derive(Clone, Copy, Debug)]
@@ -88,5 +96,55 @@ impl From<DhcpV4OptionCode> for u8 {
             DhcpV4OptionCode::End => 255,
             DhcpV4OptionCode::Other(number) => number,
         }
+    }
+}
+
+// Codes are compared, ordered and hashed by their numbers.
+
+impl PartialEq for DhcpV4OptionCode {
+    ghost eq = { on number_of ◌==◌ };
+
+    ghost laws = { Prim.search (comparing, rules) };
+
+    fn eq(&self, other: &Self) -> bool {
+        u8::from(*self) == u8::from(*other)
+    }
+}
+
+impl Eq for DhcpV4OptionCode {
+    ghost laws = { Prim.search (comparing, rules) };
+}
+
+impl PartialOrd for DhcpV4OptionCode {
+    ghost partial_cmp = { as_partial_cmp (on number_of nat_cmp) };
+
+    ghost laws = { partial_order_from_own_ties (Prim.search (comparing, rules)) (Prim.search (comparing, rules)) };
+
+    fn partial_cmp(&self, other: &Self) -> Option<Ordering> {
+        Some(self.cmp(other))
+    }
+}
+
+impl Ord for DhcpV4OptionCode {
+    ghost cmp = { on number_of nat_cmp };
+
+    ghost total = { Prim.search (comparing, rules) };
+
+    ghost matches_partial_cmp = { Prim.search (comparing, rules) };
+
+    ghost matches_eq = { Prim.search (comparing, rules) };
+
+    fn cmp(&self, other: &Self) -> Ordering {
+        u8::from(*self).cmp(&u8::from(*other))
+    }
+}
+
+impl Hash for DhcpV4OptionCode {
+    ghost hash_input = { λ code. fed.u8 (number_of code) };
+
+    ghost respects_eq = { Prim.search (hashing, rules) };
+
+    fn hash<H: Hasher>(&self, state: &mut H) {
+        u8::from(*self).hash(state);
     }
 }

@@ -1,9 +1,13 @@
 //! The options of a message, by their numbers.
 
-ghost use Rattle.std.specs.Prelude.{◌≡◌, ◌≤◌, length, OnOk, IfErr, MatchResult, IfSome, IsTrue, option_copied, option_map, vec_items};
+ghost use Rattle.std.specs.Prelude.{◌≡◌, ◌≤◌, ◌==◌, ◌&&◌, length, OnOk, IfErr, MatchResult, IfSome, IsTrue, option_copied, option_map, vec_items};
 ghost use Rattle.std.specs.List.{flat_map};
+ghost use Rattle.std.specs.Cmp.{on_per, on_equiv, and_per, and_equiv, nat_eq_equiv, partial_equiv_from_equiv};
+ghost use Rattle.std.specs.Cmp.Lexicographic.{pointwise, lists_per, lists_equiv};
 ghost use Rattle.std.specs.FinMap as map;
 ghost use Rattle.dhcp_wire.specs.Outcome.{Makes, Emits, no_memory};
+ghost use Rattle.dhcp4_msg.specs.contracts.option.DhcpV4OptionPartialEq.TheImpl.Laws as option_per;
+ghost use Rattle.dhcp4_msg.specs.contracts.option.DhcpV4OptionEq.TheImpl.Laws as option_equiv;
 ghost use Rattle.dhcp4_msg.specs.Code.{number_of};
 ghost use Rattle.dhcp4_msg.specs.Value.{option_number, written_option, fits};
 ghost use Rattle.dhcp4_msg.specs.Options.{reading_of, with_reading, read_options, written_options};
@@ -40,6 +44,25 @@ impl Model for DhcpV4Options {
     ghost invariant = { λ options. IsTrue (is_kept options.kept.entries) };
 }
 
+impl PartialEq for DhcpV4Options {
+    ghost eq = { λ x y. pointwise
+        (λ p q. (p.0 == q.0) && ⟦<DhcpV4Option as PartialEq>⟧.eq p.1 q.1) (map.entries x) (map.entries y) };
+
+    ghost laws = { on_per map.entries (lists_per (and_per
+        (on_per (λ p. p.0) (partial_equiv_from_equiv nat_eq_equiv))
+        (on_per (λ p. p.1) option_per.laws-law))) };
+
+    fn eq(&self, other: &Self) -> bool {
+        self.kept == other.kept
+    }
+}
+
+impl Eq for DhcpV4Options {
+    ghost laws = { on_equiv map.entries (lists_equiv (and_equiv
+        (on_equiv (λ p. p.0) nat_eq_equiv)
+        (on_equiv (λ p. p.1) option_equiv.laws-law))) };
+}
+
 impl DhcpV4Options {
     /// No options; takes no memory.
     pub fn new(alloc: Global) -> Self
@@ -67,6 +90,17 @@ impl DhcpV4Options {
         self.kept.insert(u8::from(option.code()), option)?;
         Ok(())
     }
+    /// A copy.
+    pub fn try_clone(&self, alloc: Global) -> Result<Self, DhcpError>
+        ensures { Makes (λ made. made) result self.now }
+    {
+        let mut copy = DhcpV4Options::new(alloc);
+        for option in self.kept.values() {
+            copy.insert(option.try_clone(alloc)?)?;
+        }
+        Ok(copy)
+    }
+
     /// Reads a list of options. Of a number that comes more than once the last option that reads is kept; an option without a
     /// reading is skipped; one that is cut short ends the list, and so does End.
     pub fn parse(alloc: Global, raw: &[u8]) -> Result<Self, DhcpError>

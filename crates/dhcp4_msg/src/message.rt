@@ -23,7 +23,7 @@ use std::net::Ipv4Addr;
 const MAGIC_COOKIE: u32 = 0x63825363;
 
 /// A message.
-#[derive(Debug, Drop)]
+#[derive(Debug, PartialEq, Eq, Drop)]
 pub struct DhcpV4Message {
     pub op: u8,
     pub htype: u8,

@@ -2,7 +2,7 @@
 
 ghost use Rattle.std.specs.Prelude.{◌≡◌, length, IsTrue};
 ghost use Rattle.dhcp4_msg.specs.Value.{option_code, written_value, written_option, fits, has_own_code};
-ghost use Rattle.dhcp_wire.specs.Outcome.{Emits};
+ghost use Rattle.dhcp_wire.specs.Outcome.{Makes, Emits};
 ghost use Rattle.dhcp4_msg.specs.Outcome.{ReadsOption};
 
 use crate::cut::{END, PAD, item_at};
@@ -16,7 +16,7 @@ use std::alloc::Global;
 use std::net::Ipv4Addr;
 
 /// An option, with its value read.
-#[derive(Debug, Drop)]
+#[derive(Debug, PartialEq, Eq, Drop)]
 pub enum DhcpV4Option {
     Pad,
     SubnetMask(Ipv4Addr),
@@ -42,12 +42,24 @@ pub enum DhcpV4Option {
 }
 
 /// An option that this library does not read.
-#[derive(Debug, Drop)]
+#[derive(Debug, PartialEq, Eq, Drop)]
 pub struct DhcpV4OptionUnknown {
     /// Its number.
     pub code: u8,
     /// The bytes of its value.
     pub raw: Bytes,
+}
+
+impl DhcpV4OptionUnknown {
+    /// A copy.
+    pub fn try_clone(&self, alloc: Global) -> Result<Self, DhcpError>
+        ensures { Makes (λ made. made) result self.now }
+    {
+        Ok(DhcpV4OptionUnknown {
+            code: self.code,
+            raw: self.raw.try_clone(alloc)?,
+        })
+    }
 }
 
 impl DhcpV4Option {
@@ -102,6 +114,53 @@ impl DhcpV4Option {
             }
         }
     }
+    /// A copy.
+    pub fn try_clone(&self, alloc: Global) -> Result<Self, DhcpError>
+        ensures { Makes (λ made. made) result self.now }
+    {
+        match self {
+            DhcpV4Option::Pad => Ok(DhcpV4Option::Pad),
+            DhcpV4Option::SubnetMask(address) => Ok(DhcpV4Option::SubnetMask(*address)),
+            DhcpV4Option::Router(addresses) => {
+                Ok(DhcpV4Option::Router(addresses.try_clone(alloc)?))
+            }
+            DhcpV4Option::DomainNameServer(addresses) => {
+                Ok(DhcpV4Option::DomainNameServer(addresses.try_clone(alloc)?))
+            }
+            DhcpV4Option::HostName(text) => Ok(DhcpV4Option::HostName(text.try_clone(alloc)?)),
+            DhcpV4Option::DomainName(text) => Ok(DhcpV4Option::DomainName(text.try_clone(alloc)?)),
+            DhcpV4Option::InterfaceMtu(size) => Ok(DhcpV4Option::InterfaceMtu(*size)),
+            DhcpV4Option::BroadcastAddress(address) => Ok(DhcpV4Option::BroadcastAddress(*address)),
+            DhcpV4Option::NtpServers(addresses) => {
+                Ok(DhcpV4Option::NtpServers(addresses.try_clone(alloc)?))
+            }
+            DhcpV4Option::RequestedIpAddress(address) => {
+                Ok(DhcpV4Option::RequestedIpAddress(*address))
+            }
+            DhcpV4Option::IpAddressLeaseTime(seconds) => {
+                Ok(DhcpV4Option::IpAddressLeaseTime(*seconds))
+            }
+            DhcpV4Option::MessageType(kind) => Ok(DhcpV4Option::MessageType(*kind)),
+            DhcpV4Option::ServerIdentifier(address) => Ok(DhcpV4Option::ServerIdentifier(*address)),
+            DhcpV4Option::ParameterRequestList(codes) => {
+                Ok(DhcpV4Option::ParameterRequestList(codes.try_clone(alloc)?))
+            }
+            DhcpV4Option::Message(text) => Ok(DhcpV4Option::Message(text.try_clone(alloc)?)),
+            DhcpV4Option::RenewalTime(seconds) => Ok(DhcpV4Option::RenewalTime(*seconds)),
+            DhcpV4Option::RebindingTime(seconds) => Ok(DhcpV4Option::RebindingTime(*seconds)),
+            DhcpV4Option::ClientIdentifier(bytes) => {
+                Ok(DhcpV4Option::ClientIdentifier(bytes.try_clone(alloc)?))
+            }
+            DhcpV4Option::ClasslessStaticRoute(routes) => {
+                Ok(DhcpV4Option::ClasslessStaticRoute(routes.try_clone(alloc)?))
+            }
+            DhcpV4Option::End => Ok(DhcpV4Option::End),
+            DhcpV4Option::Unknown(unknown) => {
+                Ok(DhcpV4Option::Unknown(unknown.try_clone(alloc)?))
+            }
+        }
+    }
+
     /// Whether the option can be written: its value has at most 255 bytes, and an unknown option has a number without a name.
     #[tactic(auto, unfolding(crate::specs::Value::fits))]
     pub fn fits(&self) -> bool
