@@ -1,0 +1,60 @@
+#!/bin/sh
+# Times the reading and writing of messages and frames.
+#
+#   tools/benchmark_messages.sh      at the repository's top, after `rt run < stdin -- frame 3` in crates/dhcp_bench has built the program
+#
+# For each input it prints how many were read and written in a second (the best of five runs), and the bytes read and written in a second.
+set -eu
+program=crates/dhcp_bench/out/dhcp_bench
+[ -x "$program" ] || { echo "$program is not built: run 'rt run < stdin -- frame 3' in crates/dhcp_bench"; exit 2; }
+input=$(mktemp)
+trap 'rm -f "$input"' EXIT
+
+# A line of hex: a message with these options, or a frame with so many bytes of payload.
+message() { # options in hex, bytes in all
+    awk -v options="$1" -v size="$2" 'BEGIN {
+        text = "0201060012345678" "00000000" "00000000" "c000020a" "c0000201" "00000000" "020000000001"
+        for (i = 0; i < 202; i++) text = text "00"
+        printf "%s63825363", text
+        for (i = 240; i + length(options) / 2 <= size; i += length(options) / 2) {
+            printf "%s", options
+            if (size <= 1500) { i += length(options) / 2; break }
+        }
+        for (; i < size; i++) printf "00"
+        printf "\n"
+    }' >"$input"
+}
+frame() { # bytes in all
+    awk -v size="$1" 'BEGIN {
+        printf "ffffffffffff0200000000020800"
+        printf "4500%04x0000000040110000c0000201ffffffff", size - 14
+        printf "00430044%04x0000", size - 34
+        for (i = 42; i < size; i++) printf "5a"
+        printf "\n"
+    }' >"$input"
+}
+
+measure() { # a name, the words of the program
+    best=
+    for _ in 1 2 3 4 5; do
+        start=$(date +%s%N)
+        total=$("$program" "$2" "$3" <"$input")
+        took=$(($(date +%s%N) - start))
+        if [ -z "$best" ] || [ "$took" -lt "$best" ]; then best=$took; fi
+    done
+    echo "$1 $3 $best ${total% bytes}" | awk '{ printf "%s: %.0f a second, %.1f MB/s\n", $1, $2 / ($3 / 1e9), $4 / ($3 / 1e9) / 1e6 }'
+}
+
+# A usual Ack: type, server, lease time, T1, T2, mask, broadcast, router, name server, host name, domain name, End.
+ack=3501053604c0000201330400000e103a04000007083b0400000c4e0104ffffff001c04c00002ff0304c00002010604c00002010c03666f6f0f036c616eff
+message "$ack" 300
+measure ack_of_300_bytes message 100000
+# Options of 64 KiB: unknown options of 30 bytes, and lease times.
+message e01c00112233445566778899aabbccddeeff00112233445566778899aabb330400000e10 65776
+measure options_of_64_KiB message 500
+message e01c00112233445566778899aabbccddeeff00112233445566778899aabb330400000e10 131312
+measure options_of_128_KiB message 250
+frame 342
+measure frame_of_342_bytes frame 200000
+frame 1500
+measure frame_of_1500_bytes frame 100000
