@@ -1,0 +1,4 @@
+pub mod Config
+pub mod Lease
+pub mod MessageTable
+pub mod State

@@ -1,0 +1,36 @@
+-- The states of a client, RFC 2131 section 4.4, as they are printed.
+use Rattle.std.specs.Prelude.{ℕ, List, ◌++◌, codes, Bool, true, false}
+use Rattle.std.specs.Net.Addr.{ipv4_octets}
+use Rattle.std.specs.Net.Text.{ipv4_text}
+use Rattle.dhcp4_client.specs.Lease.{Lease}
+use Rattle.dhcp4_client.specs.declared.state.DhcpV4State.{DhcpV4State}
+use Rattle.dhcp4_client.specs.declared.state.DhcpV4State.TheVariants.{Done, InitReboot, Selecting, Renewing, Rebinding}
+
+-- the plain contents of a state: its lease, wherever that is kept
+pub data PlainState : Type 0 where
+  done : Lease → PlainState
+  init_reboot selecting renewing rebinding : PlainState
+
+-- what a state holds
+abbrev pub plain_state : DhcpV4State → PlainState
+plain_state (Done lease) = done lease.value
+plain_state InitReboot = init_reboot
+plain_state Selecting = selecting
+plain_state Renewing = renewing
+plain_state Rebinding = rebinding
+
+-- a state as it is printed: a lease with its address
+unfoldable pub state_text : DhcpV4State → List ℕ
+state_text (Done lease) = codes "done(" ++ ipv4_text (ipv4_octets lease.value.yiaddr) ++ codes ")"
+state_text InitReboot = codes "init_reboot"
+state_text Selecting = codes "selecting"
+state_text Renewing = codes "renewing"
+state_text Rebinding = codes "rebinding"
+
+-- whether a client in this state has its lease
+abbrev pub has_lease : DhcpV4State → Bool
+has_lease (Done lease) = true
+has_lease InitReboot = false
+has_lease Selecting = false
+has_lease Renewing = false
+has_lease Rebinding = false

@@ -1,0 +1,69 @@
+//! The states of a client, RFC 2131 section 4.4.
+
+ghost use Rattle.std.specs.Prelude.{◌≡◌, Some};
+ghost use Rattle.dhcp_wire.specs.Outcome.{Makes};
+ghost use Rattle.dhcp4_client.specs.State.{has_lease, plain_state, state_text};
+
+use crate::DhcpV4Lease;
+use dhcp_wire::DhcpError;
+use std::alloc::Global;
+use std::fmt;
+
+/// The state of a client.
+#[derive(Debug, Default, PartialEq, Drop)]
+pub enum DhcpV4State {
+    /// It has a lease, and its T1 is still to come.
+    Done(Box<DhcpV4Lease>),
+    /// It searches for servers.
+    #[default]
+    InitReboot,
+    /// It has an offer, and requests it.
+    Selecting,
+    /// T1 is past: it asks the server of its lease to renew it.
+    Renewing,
+    /// T2 is past: it asks any server to extend its lease.
+    Rebinding,
+}
+
+impl DhcpV4State {
+    /// Whether the client has a lease that it need not renew yet.
+    pub fn is_done(&self) -> bool
+        ensures { result ≡ has_lease self.now }
+    {
+        matches!(self, DhcpV4State::Done(_))
+    }
+
+    /// A copy.
+    pub fn try_clone(&self, alloc: Global) -> Result<Self, DhcpError>
+        ensures { Makes plain_state result (plain_state self.now) }
+    {
+        match self {
+            DhcpV4State::Done(lease) => {
+                let copy = lease.try_clone(alloc)?;
+                Ok(DhcpV4State::Done(Box::new(alloc, copy)?))
+            }
+            DhcpV4State::InitReboot => Ok(DhcpV4State::InitReboot),
+            DhcpV4State::Selecting => Ok(DhcpV4State::Selecting),
+            DhcpV4State::Renewing => Ok(DhcpV4State::Renewing),
+            DhcpV4State::Rebinding => Ok(DhcpV4State::Rebinding),
+        }
+    }
+}
+
+impl fmt::Display for DhcpV4State {
+    ghost output = { λ state. Some (state_text state) };
+
+    #[tactic(auto, unfolding(crate::specs::State::state_text))]
+    fn fmt<W: fmt::Write>(&self, f: &mut fmt::Formatter<W>) -> fmt::Result {
+        match self {
+            DhcpV4State::Done(lease) => {
+                let address = lease.yiaddr;
+                write!(f, "done({address})")
+            }
+            DhcpV4State::InitReboot => f.write_str("init_reboot"),
+            DhcpV4State::Selecting => f.write_str("selecting"),
+            DhcpV4State::Renewing => f.write_str("renewing"),
+            DhcpV4State::Rebinding => f.write_str("rebinding"),
+        }
+    }
+}
