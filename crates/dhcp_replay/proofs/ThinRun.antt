@@ -5,7 +5,7 @@ use Rattle.dhcp4_msg.specs.declared.kind.DhcpV4MessageType.TheVariants.{Offer, A
 use Rattle.dhcp_replay.specs.declared.thin_run.ThinState.{ThinState}
 use Rattle.dhcp_replay.specs.declared.thin_run.ThinState.TheVariants.{InitReboot, Selecting, Done}
 use Rattle.dhcp_replay.specs.declared.thin_script.ThinEvent.{ThinEvent}
-use Rattle.dhcp_replay.specs.declared.thin_output.ThinLease.{ThinLease}
+use Rattle.dhcp4_client.specs.Lease.{Lease}
 use Rattle.dhcp_replay.specs.declared.thin_output.ThinOutput.{ThinOutput}
 use Rattle.dhcp_replay.specs.declared.thin_script.ThinScript.{ThinScript}
 use Rattle.dhcp_replay.specs.ThinHistory.{transaction_id, granted, first_answer, outputs_of_offer, outputs_of_acknowledgement}
@@ -22,12 +22,12 @@ pub remaining-cons : (script : ThinScript) (state : ThinState) (number : ℕ) (e
 unfolding polled first_answer
 remaining-cons script InitReboot number event later = by_lease (granted Offer (transaction_id script) event) refl
   where
-    by_lease : (lease : Option ThinLease) → granted Offer (transaction_id script) event ≡ lease → let after = on_offer script number (granted Offer (transaction_id script) event) in after.1 ++ remaining script after.0 (number + 1) later ≡ remaining script InitReboot number (event ∷ later)
+    by_lease : (lease : Option Lease) → granted Offer (transaction_id script) event ≡ lease → let after = on_offer script number (granted Offer (transaction_id script) event) in after.1 ++ remaining script after.0 (number + 1) later ≡ remaining script InitReboot number (event ∷ later)
     by_lease None is = rw is refl
     by_lease (Some lease) is = rw is refl
 remaining-cons script Selecting number event later = by_lease (granted Ack (transaction_id script) event) refl
   where
-    by_lease : (lease : Option ThinLease) → granted Ack (transaction_id script) event ≡ lease → let after = on_acknowledgement number (granted Ack (transaction_id script) event) in after.1 ++ remaining script after.0 (number + 1) later ≡ remaining script Selecting number (event ∷ later)
+    by_lease : (lease : Option Lease) → granted Ack (transaction_id script) event ≡ lease → let after = on_acknowledgement number (granted Ack (transaction_id script) event) in after.1 ++ remaining script after.0 (number + 1) later ≡ remaining script Selecting number (event ∷ later)
     by_lease None is = rw is refl
     by_lease (Some lease) is = rw is refl
 remaining-cons script Done number event later = refl

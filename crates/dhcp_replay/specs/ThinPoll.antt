@@ -3,29 +3,29 @@ use Rattle.std.specs.Prelude.{◌≡◌, ℕ, ◌+◌, List, [], ◌∷◌, ◌+
 use Rattle.dhcp_wire.specs.Outcome.{ErrorParts, no_memory}
 use Rattle.dhcp4_msg.specs.declared.kind.DhcpV4MessageType.TheVariants.{Offer, Ack}
 use Rattle.dhcp4_msg.specs.Message.{written_message}
+use Rattle.dhcp4_client.specs.Lease.{Lease}
 use Rattle.dhcp_replay.specs.declared.thin_run.ThinState.{ThinState}
 use Rattle.dhcp_replay.specs.declared.thin_run.ThinState.TheVariants as states
 use Rattle.dhcp_replay.specs.declared.thin_script.ThinEvent.{ThinEvent}
-use Rattle.dhcp_replay.specs.declared.thin_output.ThinLease.{ThinLease}
 use Rattle.dhcp_replay.specs.declared.thin_output.ThinOutput.{ThinOutput}
 use Rattle.dhcp_replay.specs.declared.thin_output.ThinReport.TheVariants.{Handed, Selecting, Done}
 use Rattle.dhcp_replay.specs.declared.thin_script.ThinScript.{ThinScript}
-use Rattle.dhcp_replay.specs.ThinHistory.{transaction_id, granted, first_answer, request, reported, outputs_of_offer, outputs_of_acknowledgement}
+use Rattle.dhcp_replay.specs.ThinHistory.{transaction_id, granted, request, reported, thin_lease}
 
 -- the state after an event, and what is reported in it
 abbrev pub Polled : Type 0
 Polled = ThinState × List ThinOutput
 
 -- an Offer leads to the Request
-abbrev pub on_offer : ThinScript → ℕ → Option ThinLease → Polled
+abbrev pub on_offer : ThinScript → ℕ → Option Lease → Polled
 on_offer script event None = (states.InitReboot, [])
 on_offer script event (Some lease) =
     (states.Selecting, reported event Selecting ∷ reported event (Handed (written_message (request script lease))) ∷ [])
 
 -- an Ack leads to the lease
-abbrev pub on_acknowledgement : ℕ → Option ThinLease → Polled
+abbrev pub on_acknowledgement : ℕ → Option Lease → Polled
 on_acknowledgement event None = (states.Selecting, [])
-on_acknowledgement event (Some lease) = (states.Done, reported event (Done lease) ∷ [])
+on_acknowledgement event (Some lease) = (states.Done, reported event (Done (thin_lease lease)) ∷ [])
 
 -- one event
 unfoldable pub polled : ThinScript → ThinState → ℕ → ThinEvent → Polled

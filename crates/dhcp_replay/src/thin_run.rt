@@ -3,11 +3,13 @@
 mod answer;
 mod request;
 
+ghost use Rattle.std.specs.Prelude.{◌≡◌};
 ghost use Rattle.dhcp_wire.specs.Outcome.{Makes};
-ghost use Rattle.dhcp_replay.specs.ThinHistory.{outputs_of};
+ghost use Rattle.dhcp_replay.specs.ThinHistory.{outputs_of, thin_lease};
 ghost use Rattle.dhcp_replay.specs.ThinPoll.{polled, Polls};
 
 use crate::{ThinEvent, ThinLease, ThinOutput, ThinReport, ThinScript};
+use dhcp4_client::DhcpV4Lease;
 use dhcp_wire::DhcpError;
 use dhcp4_msg::DhcpV4MessageType;
 use std::alloc::Global;
@@ -21,6 +23,21 @@ pub enum ThinState {
     Selecting,
     /// Nothing: it has its lease.
     Done,
+}
+
+impl From<&DhcpV4Lease> for ThinLease {
+    ghost from_gives = { λ lease seen. seen ≡ thin_lease lease.now };
+
+    fn from(lease: &DhcpV4Lease) -> Self {
+        ThinLease {
+            yiaddr: lease.yiaddr,
+            siaddr: lease.siaddr,
+            srv_id: lease.srv_id,
+            t1_sec: lease.t1_sec,
+            t2_sec: lease.t2_sec,
+            lease_time_sec: lease.lease_time_sec,
+        }
+    }
 }
 
 /// What the client of a thin script reports: the Discover in the first event, and in each event that answers its attempt the
@@ -68,7 +85,7 @@ fn poll(
             })?;
             outputs.push(ThinOutput {
                 event,
-                what: ThinReport::Handed(request::request(alloc, script, lease)?),
+                what: ThinReport::Handed(request::request(alloc, script, &lease)?),
             })?;
             Ok(ThinState::Selecting)
         }
@@ -78,7 +95,7 @@ fn poll(
             };
             outputs.push(ThinOutput {
                 event,
-                what: ThinReport::Done(lease),
+                what: ThinReport::Done(ThinLease::from(&lease)),
             })?;
             Ok(ThinState::Done)
         }

@@ -1,15 +1,16 @@
-//! The leases that a thin script's events grant, RFC 2131 section 4.4.5.
+//! The leases that the events of a thin script grant.
 
-ghost use Rattle.std.specs.Prelude.{◌≡◌, option_copied};
+ghost use Rattle.std.specs.Prelude.{◌≡◌, []};
 ghost use Rattle.dhcp_wire.specs.Outcome.{Makes};
-ghost use Rattle.dhcp4_msg.specs.Code.{number_of};
+ghost use Rattle.dhcp4_client.specs.Lease.{read_lease};
 ghost use Rattle.dhcp_replay.specs.ThinHistory as history;
 
-use crate::{ThinEvent, ThinLease};
+use crate::ThinEvent;
+use dhcp_clock::WordList;
 use dhcp_wire::{DhcpError, ErrorKind};
-use dhcp4_msg::{DhcpV4Message, DhcpV4MessageType, DhcpV4Option, DhcpV4OptionCode};
+use dhcp4_client::DhcpV4Lease;
+use dhcp4_msg::{DhcpV4Message, DhcpV4MessageType, DhcpV4OptionCode, DhcpV4Options};
 use std::alloc::Global;
-use std::net::Ipv4Addr;
 
 /// The lease that an event grants where a message of this type is awaited with this transaction id.
 #[tactic(auto, unfolding(crate::specs::ThinHistory::granted))]
@@ -18,14 +19,14 @@ pub fn granted(
     awaited: DhcpV4MessageType,
     id: u32,
     event: &ThinEvent,
-) -> Result<Option<ThinLease>, DhcpError>
+) -> Result<Option<DhcpV4Lease>, DhcpError>
     ensures { Makes (λ lease. lease) result (history.granted awaited id event.now) }
 {
     let ThinEvent::Payload(bytes) = event else {
         return Ok(None);
     };
     match DhcpV4Message::parse(alloc, bytes.as_slice()) {
-        Ok(message) => Ok(granted_by(awaited, id, &message)),
+        Ok(message) => granted_by(alloc, awaited, id, &message),
         Err(error) if error.kind() == ErrorKind::OutOfMemory => Err(error),
         Err(_) => Ok(None),
     }
@@ -33,55 +34,38 @@ pub fn granted(
 
 // The lease that a message grants there.
 #[tactic(auto, unfolding(crate::specs::ThinHistory::granted_by, dhcp4_msg::specs::Kind::type_number))]
-fn granted_by(awaited: DhcpV4MessageType, id: u32, message: &DhcpV4Message) -> Option<ThinLease>
-    ensures { result ≡ history.granted_by awaited id message.now }
+fn granted_by(
+    alloc: Global,
+    awaited: DhcpV4MessageType,
+    id: u32,
+    message: &DhcpV4Message,
+) -> Result<Option<DhcpV4Lease>, DhcpError>
+    ensures { Makes (λ lease. lease) result (history.granted_by awaited id message.now) }
 {
-    if message.xid != id || message.message_type() != Some(awaited) {
-        return None;
+    if message.xid != id || message.message_type() != Some(awaited) || !says_times(&message.options)
+    {
+        return Ok(None);
     }
-    lease_of(message)
+    lease_of(alloc, message)
 }
 
-// The lease of a message.
-#[tactic(auto, unfolding(crate::specs::ThinHistory::lease_of, dhcp4_msg::specs::Code::number_of))]
-fn lease_of(message: &DhcpV4Message) -> Option<ThinLease>
-    ensures { result ≡ history.lease_of message.now }
-{
-    let lease_time_sec = seconds(message, DhcpV4OptionCode::IpAddressLeaseTime)?;
-    let t1_sec = seconds(message, DhcpV4OptionCode::RenewalTime)?;
-    let t2_sec = seconds(message, DhcpV4OptionCode::RebindingTime)?;
-    if t1_sec > t2_sec || t2_sec > lease_time_sec {
-        return None;
-    }
-    Some(ThinLease {
-        yiaddr: message.yiaddr,
-        siaddr: message.siaddr,
-        srv_id: server_identifier(message),
-        t1_sec,
-        t2_sec,
-        lease_time_sec,
-    })
-}
-
-// The seconds that the option of this code says.
-fn seconds(message: &DhcpV4Message, code: DhcpV4OptionCode) -> Option<u32>
-    ensures { result ≡ history.seconds_of message.now (number_of code) }
-{
-    match message.options.get(code)? {
-        DhcpV4Option::IpAddressLeaseTime(seconds)
-        | DhcpV4Option::RenewalTime(seconds)
-        | DhcpV4Option::RebindingTime(seconds) => Some(*seconds),
-        _ => None,
-    }
-}
-
-// The server identifier, 0.0.0.0 where there is none.
+// Whether options say both T1 and T2.
 #[tactic(auto, unfolding(dhcp4_msg::specs::Code::number_of))]
-fn server_identifier(message: &DhcpV4Message) -> Ipv4Addr
-    ensures { result ≡ history.server_identifier message.now }
+fn says_times(options: &DhcpV4Options) -> bool
+    ensures { result ≡ history.says_times options.now }
 {
-    match message.options.get(DhcpV4OptionCode::ServerIdentifier) {
-        Some(DhcpV4Option::ServerIdentifier(address)) => *address,
-        _ => Ipv4Addr::UNSPECIFIED,
+    options.get(DhcpV4OptionCode::RenewalTime).is_some()
+        && options.get(DhcpV4OptionCode::RebindingTime).is_some()
+}
+
+// The lease of a message, if it has one, read with no words to draw.
+fn lease_of(alloc: Global, message: &DhcpV4Message) -> Result<Option<DhcpV4Lease>, DhcpError>
+    ensures { Makes (λ lease. lease) result (read_lease message.now []) }
+{
+    let mut no_words = WordList::new(Vec::new(alloc));
+    match DhcpV4Lease::new_from_msg(alloc, message, &mut no_words) {
+        Ok(lease) => Ok(Some(lease)),
+        Err(error) if error.kind() == ErrorKind::OutOfMemory => Err(error),
+        Err(_) => Ok(None),
     }
 }
