@@ -4,6 +4,7 @@ pub mod EmitLemmas
 pub mod Entries
 pub mod FieldLemmas
 pub mod KeptLemmas
+pub mod LawLemmas
 pub mod OptionsLemmas
 pub mod RouteLemmas
 pub mod ValueLemmas

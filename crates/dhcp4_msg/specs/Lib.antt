@@ -1,5 +1,6 @@
 pub mod Code
 pub mod Kind
+pub mod Laws
 pub mod Route
 pub mod Value
 pub mod Cut

@@ -19,13 +19,14 @@ OptionMap = map.FinMap nat_cmp DhcpV4Option
 abbrev pub reading_of : Item → Option (ℕ × DhcpV4Option)
 reading_of item = option_map (λ option. (item.0, option)) (value_of (code_of item.0) item.1)
 
+-- the reading of an option that was found in some bytes, and the bytes after it; where none was found, all of them
+abbrev pub read_after : List ℕ → Read Item → Option DhcpV4Option × List ℕ
+read_after bytes None = (None, bytes)
+read_after bytes (Some found) = (value_of (code_of found.0.0) found.0.1, found.1)
+
 -- The option at the front, if it reads, and the bytes after it. None reads from one that is cut short, and nothing is passed then.
 unfoldable pub option_at : List ℕ → Option DhcpV4Option × List ℕ
 option_at bytes = read_after bytes (item_at bytes)
-  where
-    read_after : List ℕ → Read Item → Option DhcpV4Option × List ℕ
-    read_after bytes None = (None, bytes)
-    read_after bytes (Some found) = (value_of (code_of found.0.0) found.0.1, found.1)
 
 -- a map with the option that an item reads as
 abbrev pub with_reading : OptionMap → Option (ℕ × DhcpV4Option) → OptionMap

@@ -1,0 +1,56 @@
+-- Values that read back as they are written.
+use Rattle.std.specs.Prelude.{◌≡◌, ℕ, ◌<◌, ◌≤◌, ◌^◌, List, length, take, map}
+use Rattle.std.specs.List.{AllByRecursion}
+use Rattle.std.specs.Str.{IsUtf8}
+use Rattle.std.specs.declared.net.Ipv4Addr.{Ipv4Addr}
+use Rattle.dhcp_wire.specs.Field.{HasNoZero}
+use Rattle.dhcp4_msg.specs.declared.route.DhcpV4ClasslessRoute.{DhcpV4ClasslessRoute}
+use Rattle.dhcp4_msg.specs.declared.option.DhcpV4Option.{DhcpV4Option}
+use Rattle.dhcp4_msg.specs.declared.option.DhcpV4Option.TheVariants.{Pad, SubnetMask, Router, DomainNameServer, HostName, DomainName, InterfaceMtu, BroadcastAddress, NtpServers, RequestedIpAddress, IpAddressLeaseTime, MessageType, ServerIdentifier, ParameterRequestList, Message, RenewalTime, RebindingTime, ClientIdentifier, ClasslessStaticRoute, End, Unknown}
+use Rattle.dhcp4_msg.specs.Code.{number_of, code_of}
+use Rattle.dhcp4_msg.specs.Route.{significant_octets, padded_octets}
+
+-- an address has four octets
+abbrev pub IsWhole : Ipv4Addr → Type 0
+IsWhole address = length address.octets ≡ 4
+
+-- a text that an option holds whole: UTF-8 without a zero byte, of at most 254 bytes
+pub record FitsOption (text : List ℕ) : Type 0 where
+  pub is_short : length text ≤ 254
+  pub is_utf8 : IsUtf8 text
+  pub has_no_zero : HasNoZero text
+
+-- a route whose octets that its width does not cover are zero
+pub record IsExact (route : DhcpV4ClasslessRoute) : Type 0 where
+  pub whole : IsWhole route.destination
+  pub destination : padded_octets (take (significant_octets route.prefix_length) route.destination.octets) ≡ route.destination.octets
+  pub router : IsWhole route.router
+
+-- the values that read back: numbers of their width, whole addresses, texts that an option holds, routes that are exact
+unfoldable pub ReadsBack : DhcpV4Option → Type 0
+ReadsBack Pad = Unit {0}
+ReadsBack (SubnetMask address) = IsWhole address
+ReadsBack (Router addresses) = AllByRecursion IsWhole addresses
+ReadsBack (DomainNameServer addresses) = AllByRecursion IsWhole addresses
+ReadsBack (HostName text) = FitsOption text
+ReadsBack (DomainName text) = FitsOption text
+ReadsBack (InterfaceMtu number) = number < 2 ^ 16
+ReadsBack (BroadcastAddress address) = IsWhole address
+ReadsBack (NtpServers addresses) = AllByRecursion IsWhole addresses
+ReadsBack (RequestedIpAddress address) = IsWhole address
+ReadsBack (IpAddressLeaseTime seconds) = seconds < 2 ^ 32
+ReadsBack (MessageType kind) = Unit {0}
+ReadsBack (ServerIdentifier address) = IsWhole address
+ReadsBack (ParameterRequestList requested) = Unit {0}
+ReadsBack (Message text) = FitsOption text
+ReadsBack (RenewalTime seconds) = seconds < 2 ^ 32
+ReadsBack (RebindingTime seconds) = seconds < 2 ^ 32
+ReadsBack (ClientIdentifier bytes) = Unit {0}
+ReadsBack (ClasslessStaticRoute routes) = AllByRecursion IsExact routes
+ReadsBack End = Unit {0}
+ReadsBack (Unknown option) = Unit {0}
+
+-- the same option, with each code that it requests under the name of its number: equal to it, since codes compare by number
+abbrev pub with_names : DhcpV4Option → DhcpV4Option
+with_names (ParameterRequestList requested) = ParameterRequestList (map (λ code. code_of (number_of code)) requested)
+with_names option = option

@@ -1,0 +1,36 @@
+//! Laws: what is written reads back. A call does nothing.
+
+ghost use Rattle.std.specs.Prelude.{◌≡◌, ◌≤◌, ◌++◌, ℕ, List, Some, IsTrue, length};
+ghost use Rattle.dhcp4_msg.specs.declared.option.DhcpV4Option.{DhcpV4Option};
+ghost use Rattle.dhcp4_msg.specs.declared.route.DhcpV4ClasslessRoute.{DhcpV4ClasslessRoute};
+ghost use Rattle.dhcp4_msg.specs.Code.{code_of, number_of};
+ghost use Rattle.dhcp4_msg.specs.Cut.{cut, cut_within};
+ghost use Rattle.dhcp4_msg.specs.Laws.{IsExact, ReadsBack, with_names};
+ghost use Rattle.dhcp4_msg.specs.Options.{option_at};
+ghost use Rattle.dhcp4_msg.specs.Route.{route_at, written_route};
+ghost use Rattle.dhcp4_msg.specs.Value.{fits, written_option};
+
+/// The number of the code of a number is that number.
+pub fn codes_read_back()
+    ensures { (number : ℕ) → number_of (code_of number) ≡ number }
+{}
+
+/// A route whose octets that its width does not cover are zero reads back, whatever follows it; and what reads as a route is
+/// written as the same bytes.
+pub fn routes_read_back()
+    ensures back { (route : DhcpV4ClasslessRoute) (rest : List ℕ) → IsExact route
+        → route_at (written_route route ++ rest) ≡ Some (route, rest) }
+    ensures again { (bytes rest : List ℕ) (route : DhcpV4ClasslessRoute) → route_at bytes ≡ Some (route, rest)
+        → bytes ≡ written_route route ++ rest }
+{}
+
+/// An option that fits reads back, whatever follows it.
+pub fn options_read_back()
+    ensures { (option : DhcpV4Option) (rest : List ℕ) → IsTrue (fits option) → ReadsBack option
+        → option_at (written_option option ++ rest) ≡ (Some (with_names option), rest) }
+{}
+
+/// A cut with as much fuel as there are bytes is the whole cut.
+pub fn fuel_is_enough()
+    ensures { (fuel : ℕ) (bytes : List ℕ) → length bytes ≤ fuel → cut_within fuel bytes ≡ cut bytes }
+{}
