@@ -42,7 +42,9 @@ fn granted_by(
 ) -> Result<Option<DhcpV4Lease>, DhcpError>
     ensures { Makes (λ lease. lease) result (history.granted_by awaited id message.now) }
 {
-    if message.xid != id || message.message_type() != Some(awaited) || !says_times(&message.options)
+    if message.xid != id
+        || message.message_type() != Some(awaited)
+        || !says_times(&message.options)
     {
         return Ok(None);
     }

@@ -31,11 +31,7 @@ pub fn discover(alloc: Global, script: &ThinScript) -> Result<Bytes, DhcpError>
 
 /// The bytes of the Request of an offer.
 #[tactic(auto, unfolding(crate::specs::ThinHistory::request))]
-pub fn request(
-    alloc: Global,
-    script: &ThinScript,
-    offer: &DhcpV4Lease,
-) -> Result<Bytes, DhcpError>
+pub fn request(alloc: Global, script: &ThinScript, offer: &DhcpV4Lease) -> Result<Bytes, DhcpError>
     ensures { Makes (λ bytes. bytes) result (written_message (history.request script.now offer.now)) }
 {
     let config = configuration(alloc, script)?;
