@@ -3,11 +3,15 @@
 
 mod builders;
 mod config;
+mod laws;
 mod lease;
 mod row;
 mod state;
+#[cfg(test)]
+mod tests;
 
 pub use builders::{new_discovery, new_rebind, new_release, new_renew, new_request};
 pub use config::DhcpV4Config;
+pub use laws::usual_times_are_in_order;
 pub use lease::DhcpV4Lease;
 pub use state::DhcpV4State;
