@@ -1,10 +1,9 @@
 -- The messages that a client sends, RFC 2131 section 4.3 and table 5: one row for each.
-use Rattle.std.specs.Prelude.{◌≡◌, ℕ, List, [], ◌∷◌, ◌++◌, length, map, fold, replicate, Option, Some, None, Result, Ok, Err, if◌then◌else◌, Bool}
+use Rattle.std.specs.Prelude.{◌≡◌, ℕ, List, [], ◌∷◌, ◌++◌, fold, replicate, Option, Some, None, Result, Ok, Err, if◌then◌else◌, Bool}
 use Rattle.std.specs.Str.{bytes_eq}
 use Rattle.dhcp_wire.specs.Outcome.{ErrorParts, no_memory}
 use Rattle.std.specs.FinMap as options
 use Rattle.std.specs.declared.net.Ipv4Addr.{Ipv4Addr}
-use Rattle.dhcp4_msg.specs.declared.kind.DhcpV4MessageType.{DhcpV4MessageType}
 use Rattle.dhcp4_msg.specs.declared.kind.DhcpV4MessageType.TheVariants.{Discovery, Request, Release}
 use Rattle.dhcp4_msg.specs.declared.option.DhcpV4Option.{DhcpV4Option}
 use Rattle.dhcp4_msg.specs.declared.option.DhcpV4Option.TheVariants.{HostName, RequestedIpAddress, MessageType, ServerIdentifier, ParameterRequestList, ClientIdentifier}

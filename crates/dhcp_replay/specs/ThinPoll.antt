@@ -1,5 +1,5 @@
 -- What one event does to the client of a thin script.
-use Rattle.std.specs.Prelude.{◌≡◌, ℕ, ◌+◌, List, [], ◌∷◌, ◌++◌, Option, Some, None, Result, Ok, Err}
+use Rattle.std.specs.Prelude.{◌≡◌, ℕ, List, [], ◌∷◌, ◌++◌, Option, Some, None, Result, Ok, Err}
 use Rattle.dhcp_wire.specs.Outcome.{ErrorParts, no_memory}
 use Rattle.dhcp4_msg.specs.declared.kind.DhcpV4MessageType.TheVariants.{Offer, Ack}
 use Rattle.dhcp4_msg.specs.Message.{written_message}

@@ -1,6 +1,5 @@
-use Rattle.std.proofs.Common.{arith, ◌+◌, ◌++◌, drop}
 use Rattle.dhcp_replay.specs.ThinHistory.{outputs_of}
-use Rattle.dhcp_replay.proofs.ThinRun.{remaining, told_more, told_all}
+use Rattle.dhcp_replay.proofs.ThinRun.{told_more, told_all}
 use Rattle.dhcp_replay.proofs.thin_run.replay_thin.Goals as goal
 
 pub loop-index-preserved : goal.loop-index-preserved
