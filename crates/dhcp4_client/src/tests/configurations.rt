@@ -2,26 +2,33 @@
 
 use crate::{DhcpV4Config, DhcpV4Lease, DhcpV4State};
 use dhcp_wire::{ErrorKind, Text};
+use std::alloc::Global;
 use std::net::Ipv4Addr;
 use std::test::Fail;
 
+// How an address is refused, if it is; a refusal leaves the configuration as it was.
+fn refusal(alloc: Global, mac: &str) -> Result<Option<ErrorKind>, Fail> {
+    let mut config = DhcpV4Config::new_proxy(alloc, "eth1", "01:02:2a:2c:f7:04")?;
+    let before = config.try_clone(alloc)?;
+    let kind = match config.set_iface_mac(alloc, mac) {
+        Ok(_config) => None,
+        Err(error) => Some(error.kind()),
+    };
+    if config != before {
+        return Err(Fail::from("the configuration has changed"));
+    }
+    Ok(kind)
+}
+
 #[test]
 fn an_address_that_is_refused_changes_nothing(rt: HostRuntime) -> Result<(), Fail> {
-    let alloc = rt.alloc();
     let cases = [
         ("01:02", ErrorKind::NotSupported),
         ("01:02:2a:2c:f7", ErrorKind::NotSupported),
         ("01:02:2a:2c:f7:g", ErrorKind::InvalidArgument),
     ];
     for (mac, kind) in cases {
-        let mut config = DhcpV4Config::new(alloc, "eth1")?;
-        config.set_iface_mac(alloc, "01:02:2a:2c:f7:04")?;
-        let before = config.try_clone(alloc)?;
-        match config.set_iface_mac(alloc, mac) {
-            Ok(_config) => assert!(rt; false, "{mac} was taken"),
-            Err(error) => assert_eq!(rt; error.kind(), kind),
-        }
-        assert!(rt; config == before);
+        assert!(rt; refusal(rt.alloc(), mac)? == Some(kind));
     }
     Ok(())
 }
@@ -41,15 +48,26 @@ fn a_proxy_asks_for_another_host(rt: HostRuntime) -> Result<(), Fail> {
     Ok(())
 }
 
-#[test]
-fn states_are_printed_by_their_names(rt: HostRuntime) -> Result<(), Fail> {
-    let alloc = rt.alloc();
+// The state of a client that has the lease of 192.0.2.10.
+fn done(alloc: Global) -> Result<DhcpV4State, Fail> {
     let mut lease = DhcpV4Lease::empty(alloc);
     lease.yiaddr = Ipv4Addr::new(192, 0, 2, 10);
-    let done = DhcpV4State::Done(Box::new(alloc, lease)?);
-    assert!(rt; done.is_done());
-    assert!(rt; done.try_clone(alloc)? == done);
-    assert_eq!(rt; format!(in alloc; "{done}")?.as_str(), "done(192.0.2.10)");
+    Ok(DhcpV4State::Done(Box::new(alloc, lease)?))
+}
+
+#[test]
+fn a_state_with_a_lease_is_done_and_prints_its_address(rt: HostRuntime) -> Result<(), Fail> {
+    let alloc = rt.alloc();
+    let state = done(alloc)?;
+    assert!(rt; state.is_done());
+    assert_eq!(rt; format!(in alloc; "{state}")?.as_str(), "done(192.0.2.10)");
+    assert!(rt; state.try_clone(alloc)? == state);
+    Ok(())
+}
+
+#[test]
+fn the_other_states_print_as_their_names(rt: HostRuntime) -> Result<(), Fail> {
+    let alloc = rt.alloc();
     let first = DhcpV4State::default();
     assert!(rt; !first.is_done());
     assert_eq!(rt; format!(in alloc; "{first}")?.as_str(), "init_reboot");

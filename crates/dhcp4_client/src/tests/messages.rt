@@ -48,31 +48,53 @@ fn written(alloc: Global, message: &DhcpV4Message) -> Result<Bytes, DhcpError> {
     Ok(bytes.into_bytes())
 }
 
-// An option of the Discover of this configuration, as it is written.
-fn option_of_discover(
-    alloc: Global,
-    config: &DhcpV4Config,
-    code: u8,
-) -> Result<Option<Vec<u8>>, Fail> {
+// Whether the Discover of this configuration has this option, as it is written.
+fn discovers(alloc: Global, config: &DhcpV4Config, option: &[u8]) -> Result<bool, Fail> {
     if !config.is_within_limits() {
         return Err(Fail::from("the configuration is outside its limits"));
     }
-    Ok(
-        new_discovery(alloc, ID, config)?
-            .options
-            .get_data_raw(alloc, code)?,
-    )
+    let message = new_discovery(alloc, ID, config)?;
+    has_option(alloc, &message, option)
 }
 
-#[test]
-fn each_message_is_its_row_byte_by_byte(rt: HostRuntime) -> Result<(), Fail> {
-    let alloc = rt.alloc();
+// Whether a message has this option, as it is written.
+fn has_option(alloc: Global, message: &DhcpV4Message, option: &[u8]) -> Result<bool, Fail> {
+    let code = option.first().copied().ok_or("no option")?;
+    match message.options.get_data_raw(alloc, code)? {
+        Some(bytes) => Ok(bytes.as_slice() == option),
+        None => Ok(false),
+    }
+}
+
+// The five messages.
+#[derive(Clone, Copy)]
+enum Sent {
+    Discover,
+    Request,
+    Renew,
+    Rebind,
+    Release,
+}
+
+// One of the five messages, of the plain configuration and the plain lease.
+fn message(alloc: Global, sent: Sent) -> Result<DhcpV4Message, Fail> {
     let config = plain_config(alloc)?;
     let lease = plain_lease(alloc);
     if !config.is_within_limits() {
         return Err(Fail::from("the configuration is outside its limits"));
     }
-    let held = [192, 0, 2, 10];
+    Ok(match sent {
+        Sent::Discover => new_discovery(alloc, ID, &config)?,
+        Sent::Request => new_request(alloc, ID, &config, &lease)?,
+        Sent::Renew => new_renew(alloc, ID, &config, &lease)?,
+        Sent::Rebind => new_rebind(alloc, ID, &config, &lease)?,
+        Sent::Release => new_release(alloc, ID, &config, &lease)?,
+    })
+}
+
+#[test]
+fn each_message_is_its_row_byte_by_byte(rt: HostRuntime) -> Result<(), Fail> {
+    let alloc = rt.alloc();
     let discover = [0x35, 1, 1, 0x37, 3, 1, 3, 6, 0x3d, 0, 255];
     let request = [
         0x32, 4, 192, 0, 2, 10, 0x35, 1, 3, 0x36, 4, 192, 0, 2, 1, 0x37, 3, 1, 3, 6, 0x3d, 0, 255,
@@ -80,16 +102,17 @@ fn each_message_is_its_row_byte_by_byte(rt: HostRuntime) -> Result<(), Fail> {
     let release = [
         0x32, 4, 192, 0, 2, 10, 0x35, 1, 7, 0x36, 4, 192, 0, 2, 1, 0x37, 3, 1, 3, 6, 0x3d, 0, 255,
     ];
-    let message = new_discovery(alloc, ID, &config)?;
-    assert!(rt; written(alloc, &message)? == payload(alloc, [0; 4], &discover)?);
-    let message = new_request(alloc, ID, &config, &lease)?;
-    assert!(rt; written(alloc, &message)? == payload(alloc, [0; 4], &request)?);
-    let message = new_renew(alloc, ID, &config, &lease)?;
-    assert!(rt; written(alloc, &message)? == payload(alloc, held, &request)?);
-    let message = new_rebind(alloc, ID, &config, &lease)?;
-    assert!(rt; written(alloc, &message)? == payload(alloc, held, &request)?);
-    let message = new_release(alloc, ID, &config, &lease)?;
-    assert!(rt; written(alloc, &message)? == payload(alloc, [0; 4], &release)?);
+    let cases: [(Sent, [u8; 4], &[u8]); 5] = [
+        (Sent::Discover, [0; 4], &discover),
+        (Sent::Request, [0; 4], &request),
+        (Sent::Renew, [192, 0, 2, 10], &request),
+        (Sent::Rebind, [192, 0, 2, 10], &request),
+        (Sent::Release, [0; 4], &release),
+    ];
+    for (sent, ciaddr, options) in cases {
+        let bytes = written(alloc, &message(alloc, sent)?)?;
+        assert!(rt; bytes == payload(alloc, ciaddr, options)?);
+    }
     Ok(())
 }
 
@@ -99,55 +122,43 @@ fn the_codes_asked_for_are_the_usual_ones_until_others_are_named(
 ) -> Result<(), Fail> {
     let alloc = rt.alloc();
     let mut config = DhcpV4Config::new(alloc, "eth0")?;
-    let usual = option_of_discover(alloc, &config, 55)?.ok_or("no option 55")?;
-    assert_eq!(rt;
-        usual.as_slice(),
-        [0x37, 9, 0x0c, 1, 3, 6, 0x0f, 0x1a, 0x2a, 0x79, 0xf9].as_slice()
-    );
+    let usual = [0x37, 9, 0x0c, 1, 3, 6, 0x0f, 0x1a, 0x2a, 0x79, 0xf9];
+    assert!(rt; discovers(alloc, &config, &usual)?);
     config.request_extra_dhcp_opts(alloc, &[3, 2])?;
-    let more = option_of_discover(alloc, &config, 55)?.ok_or("no option 55")?;
-    assert_eq!(rt;
-        more.as_slice(),
-        [0x37, 10, 1, 2, 3, 6, 0x0c, 0x0f, 0x1a, 0x2a, 0x79, 0xf9].as_slice()
-    );
+    let more = [0x37, 10, 1, 2, 3, 6, 0x0c, 0x0f, 0x1a, 0x2a, 0x79, 0xf9];
+    assert!(rt; discovers(alloc, &config, &more)?);
     Ok(())
 }
 
 #[test]
-fn the_host_name_and_the_client_identifier_stand_as_they_were_set(
+fn a_host_name_is_sent_where_there_is_one_and_may_be_the_client_identifier(
     rt: HostRuntime,
 ) -> Result<(), Fail> {
     let alloc = rt.alloc();
     let mut config = plain_config(alloc)?;
-    assert!(rt; option_of_discover(alloc, &config, 12)?.is_none());
     config.use_host_name_as_client_id(alloc)?;
-    let empty = option_of_discover(alloc, &config, 61)?.ok_or("no option 61")?;
-    assert_eq!(rt; empty.as_slice(), [0x3d, 0].as_slice());
+    assert!(rt; discovers(alloc, &config, &[0x3d, 0])?);
     config
         .set_host_name(alloc, "foo")?
         .use_host_name_as_client_id(alloc)?;
-    let name = option_of_discover(alloc, &config, 12)?.ok_or("no option 12")?;
-    assert_eq!(rt; name.as_slice(), [0x0c, 4, 0x66, 0x6f, 0x6f, 0].as_slice());
-    let by_name = option_of_discover(alloc, &config, 61)?.ok_or("no option 61")?;
-    assert_eq!(rt;
-        by_name.as_slice(),
-        [0x3d, 4, 0, 0x66, 0x6f, 0x6f].as_slice()
-    );
-    config.use_mac_as_client_id(alloc)?;
-    let by_mac = option_of_discover(alloc, &config, 61)?.ok_or("no option 61")?;
-    assert_eq!(rt;
-        by_mac.as_slice(),
-        [0x3d, 7, 1, 2, 0, 0, 0, 0, 1].as_slice()
-    );
-    config.set_client_id(alloc, 5, &[9])?;
-    let own = option_of_discover(alloc, &config, 61)?.ok_or("no option 61")?;
-    assert_eq!(rt; own.as_slice(), [0x3d, 2, 5, 9].as_slice());
+    assert!(rt; discovers(alloc, &config, &[0x0c, 4, 0x66, 0x6f, 0x6f, 0])?);
+    assert!(rt; discovers(alloc, &config, &[0x3d, 4, 0, 0x66, 0x6f, 0x6f])?);
     Ok(())
 }
 
 #[test]
-fn without_a_server_identifier_the_next_server_stands_for_it(rt: HostRuntime) -> Result<(), Fail> {
+fn a_client_identifier_is_its_type_and_its_bytes(rt: HostRuntime) -> Result<(), Fail> {
     let alloc = rt.alloc();
+    let mut config = plain_config(alloc)?;
+    config.use_mac_as_client_id(alloc)?;
+    assert!(rt; discovers(alloc, &config, &[0x3d, 7, 1, 2, 0, 0, 0, 0, 1])?);
+    config.set_client_id(alloc, 5, &[9])?;
+    assert!(rt; discovers(alloc, &config, &[0x3d, 2, 5, 9])?);
+    Ok(())
+}
+
+// The request of an offer without a server identifier, from the next server 192.0.2.7.
+fn request_without_identifier(alloc: Global) -> Result<DhcpV4Message, Fail> {
     let config = plain_config(alloc)?;
     let mut lease = plain_lease(alloc);
     lease.srv_id = Ipv4Addr::UNSPECIFIED;
@@ -155,11 +166,13 @@ fn without_a_server_identifier_the_next_server_stands_for_it(rt: HostRuntime) ->
     if !config.is_within_limits() {
         return Err(Fail::from("the configuration is outside its limits"));
     }
-    let message = new_request(alloc, ID, &config, &lease)?;
-    let server = message
-        .options
-        .get_data_raw(alloc, 54)?
-        .ok_or("no option 54")?;
-    assert_eq!(rt; server.as_slice(), [0x36, 4, 192, 0, 2, 7].as_slice());
+    Ok(new_request(alloc, ID, &config, &lease)?)
+}
+
+#[test]
+fn without_a_server_identifier_the_next_server_stands_for_it(rt: HostRuntime) -> Result<(), Fail> {
+    let alloc = rt.alloc();
+    let message = request_without_identifier(alloc)?;
+    assert!(rt; has_option(alloc, &message, &[0x36, 4, 192, 0, 2, 7])?);
     Ok(())
 }
