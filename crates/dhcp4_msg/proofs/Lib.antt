@@ -5,6 +5,8 @@ pub mod Entries
 pub mod FieldLemmas
 pub mod KeptLemmas
 pub mod LawLemmas
+pub mod MessageLaw
+pub mod OptionsLaw
 pub mod OptionsLemmas
 pub mod RouteLemmas
 pub mod ValueLemmas

@@ -51,7 +51,7 @@ abbrev pub all_entered : OptionMap → List DhcpV4Option → OptionMap
 all_entered options [] = options
 all_entered options (option ∷ later) = all_entered (map.insert options (option_number option) option) later
 
-entries_entered : OptionMap → List (ℕ × DhcpV4Option) → OptionMap
+unfoldable pub entries_entered : OptionMap → List (ℕ × DhcpV4Option) → OptionMap
 entries_entered options [] = options
 entries_entered options (e ∷ es) = entries_entered (map.insert options e.0 e.1) es
 
@@ -65,7 +65,7 @@ all_entered-entries (e ∷ es) options all =
     ap (λ number. all_entered (map.insert options number e.1) (values_of es)) own ∙ all_entered-entries es (map.insert options e.0 e.1) parts.1
 
 -- a number that is below all is not found
-find-below_all : (q : ℕ) (es : List (ℕ × DhcpV4Option)) → IsTrue (below_all nat_cmp q es) → find nat_cmp q es ≡ None
+pub find-below_all : (q : ℕ) (es : List (ℕ × DhcpV4Option)) → IsTrue (below_all nat_cmp q es) → find nat_cmp q es ≡ None
 find-below_all q [] below = refl
 find-below_all q (e ∷ es) below =
     let parts = and_parts _ _ below in
@@ -80,12 +80,12 @@ tie Less is = absurd (false≢true is)
 tie Equal is = refl
 tie Greater is = absurd (false≢true is)
 
-first_of_two : Option DhcpV4Option → Option DhcpV4Option → Option DhcpV4Option
+unfoldable pub first_of_two : Option DhcpV4Option → Option DhcpV4Option → Option DhcpV4Option
 first_of_two None other = other
 first_of_two (Some x) other = Some x
 
 -- what is found after rising entries were entered
-get-entries_entered : (es : List (ℕ × DhcpV4Option)) (options : OptionMap) (q : ℕ) → IsTrue (is_sorted nat_cmp es) → map.get (entries_entered options es) q ≡ first_of_two (find nat_cmp q es) (map.get options q)
+pub get-entries_entered : (es : List (ℕ × DhcpV4Option)) (options : OptionMap) (q : ℕ) → IsTrue (is_sorted nat_cmp es) → map.get (entries_entered options es) q ≡ first_of_two (find nat_cmp q es) (map.get options q)
 unfolding entries_entered first_of_two
 get-entries_entered [] options q rises = refl
 get-entries_entered (e ∷ es) options q rises =
@@ -97,7 +97,7 @@ get-entries_entered (e ∷ es) options q rises =
       | false ↦ λ _. refl
     ] refl
 
-alone : (found : Option DhcpV4Option) → first_of_two found None ≡ found
+pub alone : (found : Option DhcpV4Option) → first_of_two found None ≡ found
 unfolding first_of_two
 alone None = refl
 alone (Some option) = refl

@@ -1,14 +1,18 @@
 -- Values that read back as they are written.
-use Rattle.std.specs.Prelude.{◌≡◌, ℕ, ◌<◌, ◌≤◌, ◌^◌, List, length, take, map}
+use Rattle.std.specs.Prelude.{◌≡◌, ℕ, ◌<◌, ◌≤◌, ◌^◌, List, length, take, map, Some, IsTrue}
 use Rattle.std.specs.List.{AllByRecursion}
 use Rattle.std.specs.Str.{IsUtf8}
+use Rattle.std.specs.FinMap.{get, insert, entries, from_entries}
 use Rattle.std.specs.declared.net.Ipv4Addr.{Ipv4Addr}
-use Rattle.dhcp_wire.specs.Field.{HasNoZero}
+use Rattle.dhcp_wire.specs.Field.{HasNoZero, FitsField}
 use Rattle.dhcp4_msg.specs.declared.route.DhcpV4ClasslessRoute.{DhcpV4ClasslessRoute}
+use Rattle.dhcp4_msg.specs.declared.message.DhcpV4Message.{DhcpV4Message}
 use Rattle.dhcp4_msg.specs.declared.option.DhcpV4Option.{DhcpV4Option}
 use Rattle.dhcp4_msg.specs.declared.option.DhcpV4Option.TheVariants.{Pad, SubnetMask, Router, DomainNameServer, HostName, DomainName, InterfaceMtu, BroadcastAddress, NtpServers, RequestedIpAddress, IpAddressLeaseTime, MessageType, ServerIdentifier, ParameterRequestList, Message, RenewalTime, RebindingTime, ClientIdentifier, ClasslessStaticRoute, End, Unknown}
 use Rattle.dhcp4_msg.specs.Code.{number_of, code_of}
+use Rattle.dhcp4_msg.specs.Options.{OptionMap}
 use Rattle.dhcp4_msg.specs.Route.{significant_octets, padded_octets}
+use Rattle.dhcp4_msg.specs.Value.{option_number, fits}
 
 -- an address has four octets
 abbrev pub IsWhole : Ipv4Addr → Type 0
@@ -54,3 +58,41 @@ ReadsBack (Unknown option) = Unit {0}
 abbrev pub with_names : DhcpV4Option → DhcpV4Option
 with_names (ParameterRequestList requested) = ParameterRequestList (map (λ code. code_of (number_of code)) requested)
 with_names option = option
+
+-- an option that reads back under a number: it is its own and a byte, and the option fits
+pub record ReadsBackUnder (number : ℕ) (option : DhcpV4Option) : Type 0 where
+  pub is_byte : number < 2 ^ 8
+  pub is_own : option_number option ≡ number
+  pub fit : IsTrue (fits option)
+  pub reads_back : ReadsBack option
+
+-- the options of a list that reads back
+abbrev pub OptionsReadBack : OptionMap → Type 0
+OptionsReadBack options = (number : ℕ) (option : DhcpV4Option) → get options number ≡ Some option → ReadsBackUnder number option
+
+-- A message that reads back: its numbers have their widths, its addresses four octets and the hardware address sixteen bytes, its
+-- texts fit their fields, and each of its options reads back under its number.
+pub record MessageReadsBack (message : DhcpV4Message) : Type 0 where
+  pub op : message.op < 2 ^ 8
+  pub htype : message.htype < 2 ^ 8
+  pub hlen : message.hlen < 2 ^ 8
+  pub hops : message.hops < 2 ^ 8
+  pub xid : message.xid < 2 ^ 32
+  pub secs : message.secs < 2 ^ 16
+  pub flags : message.flags < 2 ^ 16
+  pub ciaddr : IsWhole message.ciaddr
+  pub yiaddr : IsWhole message.yiaddr
+  pub siaddr : IsWhole message.siaddr
+  pub giaddr : IsWhole message.giaddr
+  pub chaddr : length message.chaddr ≡ 16
+  pub sname : FitsField 64 message.sname
+  pub file : FitsField 128 message.file
+  pub options : OptionsReadBack message.options
+
+-- the same options, each with names
+abbrev pub all_with_names : OptionMap → OptionMap
+all_with_names options = from_entries (map (λ entry. (entry.0, with_names entry.1)) (entries options))
+
+-- a message as it reads back: its options with names, and End, which is written where it isn't there
+abbrev pub read_back : DhcpV4Message → DhcpV4Message
+read_back message = record message { options = insert (all_with_names message.options) 255 End }

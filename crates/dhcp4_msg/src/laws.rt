@@ -1,11 +1,13 @@
 //! Laws: what is written reads back. A call does nothing.
 
 ghost use Rattle.std.specs.Prelude.{◌≡◌, ◌≤◌, ◌++◌, ℕ, List, Some, IsTrue, length};
+ghost use Rattle.dhcp4_msg.specs.declared.message.DhcpV4Message.{DhcpV4Message};
 ghost use Rattle.dhcp4_msg.specs.declared.option.DhcpV4Option.{DhcpV4Option};
 ghost use Rattle.dhcp4_msg.specs.declared.route.DhcpV4ClasslessRoute.{DhcpV4ClasslessRoute};
 ghost use Rattle.dhcp4_msg.specs.Code.{code_of, number_of};
 ghost use Rattle.dhcp4_msg.specs.Cut.{cut, cut_within};
-ghost use Rattle.dhcp4_msg.specs.Laws.{IsExact, ReadsBack, with_names};
+ghost use Rattle.dhcp4_msg.specs.Laws.{IsExact, MessageReadsBack, ReadsBack, read_back, with_names};
+ghost use Rattle.dhcp4_msg.specs.Message.{read_message, written_message};
 ghost use Rattle.dhcp4_msg.specs.Options.{option_at};
 ghost use Rattle.dhcp4_msg.specs.Route.{route_at, written_route};
 ghost use Rattle.dhcp4_msg.specs.Value.{fits, written_option};
@@ -33,4 +35,11 @@ pub fn options_read_back()
 /// A cut with as much fuel as there are bytes is the whole cut.
 pub fn fuel_is_enough()
     ensures { (fuel : ℕ) (bytes : List ℕ) → length bytes ≤ fuel → cut_within fuel bytes ≡ cut bytes }
+{}
+
+/// A message reads back: its numbers within their widths, its texts within their fields, and each option under its own number. The
+/// codes that it requests read under their names, and End is added to its options.
+pub fn messages_read_back()
+    ensures { (message : DhcpV4Message) → MessageReadsBack message
+        → read_message (written_message message) ≡ Some (read_back message) }
 {}

@@ -16,7 +16,9 @@ mod written;
 
 pub use code::DhcpV4OptionCode;
 pub use kind::DhcpV4MessageType;
-pub use laws::{codes_read_back, fuel_is_enough, options_read_back, routes_read_back};
+pub use laws::{
+    codes_read_back, fuel_is_enough, messages_read_back, options_read_back, routes_read_back,
+};
 pub use map::DhcpV4Options;
 pub use message::DhcpV4Message;
 pub use option::{DhcpV4Option, DhcpV4OptionUnknown};
