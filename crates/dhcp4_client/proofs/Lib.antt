@@ -1,2 +1,3 @@
+pub mod BuiltMessages
 pub mod OptionLemmas
 pub mod TimesLemmas

@@ -12,6 +12,6 @@ mod tests;
 
 pub use builders::{new_discovery, new_rebind, new_release, new_renew, new_request};
 pub use config::DhcpV4Config;
-pub use laws::usual_times_are_in_order;
+pub use laws::{built_messages_read_back, usual_times_are_in_order};
 pub use lease::DhcpV4Lease;
 pub use state::DhcpV4State;
