@@ -1,29 +1,13 @@
 -- What the fields of a list of bytes say of its length.
-use Rattle.std.proofs.Common.{◌≡◌, ℕ, ◌+◌, ◌≤◌, true, false, cond, leb, List, [], ◌∷◌, ◌++◌, length, take, drop, Option, Some, None, option_map, refl, sym, ap, ◌∙◌, arith, length-drop, length-append}
+use Rattle.std.proofs.Common.{◌≡◌, ℕ, ◌+◌, ◌≤◌, true, false, cond, leb, List, [], ◌∷◌, ◌++◌, length, take, drop, Option, Some, None, option_map, refl, sym, ap, ◌∙◌, arith, length-drop}
 use Rattle.std.specs.Int.{w8, from_be_bytes}
 use Rattle.std.specs.declared.net.Ipv4Addr.{Ipv4Addr}
-use Rattle.std.proofs.lemmas.Bool.{leb-true, le-leb}
-use Rattle.std.proofs.lemmas.List.{length-take-le, take-append-drop, take_all, drop_all, take_at, drop_at}
-use Rattle.std.proofs.lemmas.Option.{cond_some, none-some, same_Some}
-use Rattle.dhcp_wire.specs.Field.{Read, ◌>>=◌, bytes_at, number_at, address_at, address_of, terminated_text_at}
+use Rattle.std.proofs.lemmas.Bool.{le-leb}
+use Rattle.std.proofs.lemmas.List.{take_all, drop_all}
+use Rattle.std.proofs.lemmas.Option.{none-some, same_Some}
+use Rattle.dhcp_wire.specs.Field.{Read, ◌>>=◌, bytes_at, number_at, address_at, terminated_text_at}
+use Rattle.dhcp_wire.proofs.FieldLaws.{bytes_at_cut, bytes_at-append}
 use Rattle.dhcp4_msg.specs.Value.{text_in}
-
--- the first n bytes are n, and the rest follows them
-pub bytes_at-split : (n : ℕ) (bytes front rest : List ℕ) → bytes_at n bytes ≡ Some (front, rest) → (bytes ≡ front ++ rest) × (length front ≡ n)
-unfolding bytes_at
-bytes_at-split n bytes front rest is =
-    let split = cond_some _ _ _ is in
-    let first = ap (λ pair. pair.0) split.1 in
-    (sym (take-append-drop n bytes) ∙ ap (λ pair. pair.0 ++ pair.1) split.1, ap length (sym first) ∙ length-take-le n bytes (leb-true _ _ split.0))
-
-pub length-bytes_at : (n : ℕ) (bytes front rest : List ℕ) → bytes_at n bytes ≡ Some (front, rest) → length front ≡ n
-length-bytes_at n bytes front rest is = (bytes_at-split n bytes front rest is).1
-
--- n bytes are read from the front
-pub bytes_at-append : (n : ℕ) (front rest : List ℕ) → length front ≡ n → bytes_at n (front ++ rest) ≡ Some (front, rest)
-unfolding bytes_at
-bytes_at-append n front rest is =
-    rw (le-leb n (length (front ++ rest)) (omega (arith, length-append front rest)), take_at front rest n is, drop_at front rest n is) refl
 
 -- a value made of what is read
 pub mapped : {A B : Type 0} (f : A → B) (read : Option A) (y : B) → option_map f read ≡ Some y → (x : A) × (read ≡ Some x) × (f x ≡ y)
@@ -43,20 +27,16 @@ number_at-cons byte rest = ap (option_map (λ read. (from_be_bytes w8 read.0, re
 pub number_at-split : (bytes rest : List ℕ) (byte : ℕ) → number_at w8 bytes ≡ Some (byte, rest) → bytes ≡ byte ∷ rest
 number_at-split bytes rest byte is =
     let found = mapped _ (bytes_at 1 bytes) _ is in
-    let split = bytes_at-split 1 bytes _ _ found.1 in
-    split.0 ∙ ap (λ front. front ++ found.0.1) (one_byte _ split.1) ∙ ap (λ pair. pair.0 ∷ pair.1) found.2
+    let split = bytes_at_cut 1 bytes _ _ found.1 in
+    split.1 ∙ ap (λ front. front ++ found.0.1) (one_byte _ split.0) ∙ ap (λ pair. pair.0 ∷ pair.1) found.2
 
 -- the octets of an address that is read stand there, and are four
 pub address_at-split : (bytes rest : List ℕ) (address : Ipv4Addr) → address_at bytes ≡ Some (address, rest) → (bytes ≡ address.octets ++ rest) × (length address.octets ≡ 4)
 address_at-split bytes rest address is =
     let found = mapped _ (bytes_at 4 bytes) _ is in
-    let split = bytes_at-split 4 bytes _ _ found.1 in
+    let split = bytes_at_cut 4 bytes _ _ found.1 in
     let octets = ap (λ pair. pair.0.octets) found.2 in
-    (split.0 ∙ ap (λ pair. pair.0.octets ++ pair.1) found.2, ap length (sym octets) ∙ split.1)
-
--- four octets read as an address
-pub address_at-append : (address : Ipv4Addr) (rest : List ℕ) → length address.octets ≡ 4 → address_at (address.octets ++ rest) ≡ Some (address, rest)
-address_at-append address rest four = ap (option_map (λ read. (address_of read.0, read.1))) (bytes_at-append 4 address.octets rest four)
+    (split.1 ∙ ap (λ pair. pair.0.octets ++ pair.1) found.2, ap length (sym octets) ∙ split.0)
 
 -- all bytes are the first so many
 pub bytes_at-whole : (bytes : List ℕ) → bytes_at (length bytes) bytes ≡ Some (bytes, [])

@@ -6,7 +6,7 @@ use Rattle.std.specs.declared.net.Ipv4Addr.{Ipv4Addr}
 use Rattle.std.proofs.lemmas.Bool.{le-leb, and_parts, eqb-true, false≢true}
 use Rattle.std.proofs.lemmas.List.{take_at, drop_at, take_all, length-take-le}
 use Rattle.dhcp_wire.specs.Field.{◌>>=◌, address_at, text_of, address_of}
-use Rattle.dhcp_wire.proofs.FieldLaws.{number_at-to_be_bytes, big_endian_16, big_endian_32, before_zero-append}
+use Rattle.dhcp_wire.proofs.FieldLaws.{bytes_at-append, address_at-octets, number_at-to_be_bytes, big_endian_16, big_endian_32, before_zero-append}
 use Rattle.dhcp_wire.proofs.Utf8.{text_of_utf8}
 use Rattle.dhcp4_msg.specs.declared.kind.DhcpV4MessageType.{DhcpV4MessageType}
 use Rattle.dhcp4_msg.specs.declared.kind.DhcpV4MessageType.TheVariants.{Discovery, Offer, Request, Decline, Ack, Nack, Release, Inform}
@@ -23,7 +23,7 @@ use Rattle.dhcp4_msg.specs.Kind.{type_of, type_number}
 use Rattle.dhcp4_msg.specs.Laws.{IsWhole, FitsOption, IsExact, ReadsBack, with_names}
 use Rattle.dhcp4_msg.specs.Route.{significant_octets, route_at, routes_of, written_route}
 use Rattle.dhcp4_msg.specs.Value.{address_in, addresses_in, number_in, text_in, type_in, written_addresses, written_text, written_option, written_value, option_code, value_of, fits, is_nameless}
-use Rattle.dhcp4_msg.proofs.FieldLemmas.{address_at-append, bytes_at-append, number_at-cons}
+use Rattle.dhcp4_msg.proofs.FieldLemmas.{number_at-cons}
 use Rattle.dhcp4_msg.proofs.RouteLemmas.{routes_of-read, routes_of-nil}
 
 -- an option that has a value, whatever follows it
@@ -33,7 +33,7 @@ item_at-valued number value rest valued =
     rw (valued, le-leb (length value) (length (value ++ rest)) (omega (arith, length-append value rest)), take_at value rest (length value) refl, drop_at value rest (length value) refl) refl
 
 address_back : (address : Ipv4Addr) → IsWhole address → address_in address.octets ≡ Some address
-address_back address whole = ap (option_map (λ read. read.0)) (subst (λ bytes. address_at bytes ≡ Some (address, [])) (append-nil address.octets) (address_at-append address [] whole))
+address_back address whole = ap (option_map (λ read. read.0)) (subst (λ bytes. address_at bytes ≡ Some (address, [])) (append-nil address.octets) (address_at-octets address [] whole))
 
 one_more_address : (octets later : List ℕ) → length octets ≡ 4 → addresses_in (octets ++ later) ≡ address_of octets ∷ addresses_in later
 one_more_address (a ∷ b ∷ c ∷ d ∷ []) later four = refl
@@ -81,7 +81,7 @@ route_back route rest exact =
     let n : ℕ = significant_octets route.prefix_length in
     let front : List ℕ = take n route.destination.octets in
     let many : length front ≡ n = length-take-le n route.destination.octets (omega (arith, exact.whole)) in
-    rw (append_assoc front route.router.octets rest, number_at-cons route.prefix_length (front ++ (route.router.octets ++ rest)), bytes_at-append n front (route.router.octets ++ rest) many, address_at-append route.router rest exact.router, exact.destination) refl
+    rw (append_assoc front route.router.octets rest, number_at-cons route.prefix_length (front ++ (route.router.octets ++ rest)), bytes_at-append n front (route.router.octets ++ rest) many, address_at-octets route.router rest exact.router, exact.destination) refl
 
 pub routes_back : (routes : List DhcpV4ClasslessRoute) → AllByRecursion IsExact routes → routes_of (flat_map written_route routes) ≡ Some routes
 routes_back [] exact = routes_of-nil

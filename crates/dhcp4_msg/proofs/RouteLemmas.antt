@@ -7,11 +7,12 @@ use Rattle.std.specs.List.{flat_map}
 use Rattle.dhcp_wire.specs.Field.{Read, ◌>>=◌, bytes_at, number_at, address_at, address_of}
 use Rattle.dhcp4_msg.specs.declared.route.DhcpV4ClasslessRoute.{DhcpV4ClasslessRoute}
 use Rattle.dhcp4_msg.specs.Route.{significant_octets, padded_octets, written_route, route_at, routes_within, routes_of}
-use Rattle.dhcp4_msg.proofs.FieldLemmas.{bytes_at-split, number_at-split, address_at-split, length-bytes_at, Within, Within-then, Within-map, Within-bytes_at}
+use Rattle.dhcp_wire.proofs.FieldLaws.{bytes_at_cut}
+use Rattle.dhcp4_msg.proofs.FieldLemmas.{number_at-split, address_at-split, Within, Within-then, Within-map, Within-bytes_at}
 
 -- the significant octets of a destination are four at most
 pub significant_octets-le : (width : ℕ) (bytes octets rest : List ℕ) → bytes_at (significant_octets width) bytes ≡ Some (octets, rest) → length octets ≤ 4
-significant_octets-le width bytes octets rest is = let many = length-bytes_at _ bytes octets rest is in omega arith
+significant_octets-le width bytes octets rest is = let many = (bytes_at_cut _ bytes octets rest is).0 in omega arith
 
 -- a route takes at least one byte
 pub Within-route_at : (n : ℕ) (bytes : List ℕ) → length bytes ≤ n + 1 → Within n (route_at bytes)
@@ -104,12 +105,12 @@ written_route-route_at bytes rest route is =
     option_and_then_some _ (number_at w8 bytes) _ is (λ width at_width then_octets.
     option_and_then_some _ (bytes_at (significant_octets width.0) width.1) _ then_octets (λ octets at_octets then_router.
     option_and_then_some _ (address_at octets.1) _ then_router (λ router at_router made.
-    let at_front = bytes_at-split _ width.1 _ _ at_octets in
+    let at_front = bytes_at_cut _ width.1 _ _ at_octets in
     subst (λ pair. bytes ≡ written_route pair.0 ++ pair.1) (same_Some _ _ made)
     (number_at-split bytes _ _ at_width
     ∙ ap (λ after. width.0 ∷ after)
-    (at_front.0 ∙ ap (λ after. octets.0 ++ after) (address_at-split octets.1 _ _ at_router).0
-    ∙ ap (λ front. front ++ (router.0.octets ++ router.1)) (sym (take-padded _ octets.0 at_front.1))
+    (at_front.1 ∙ ap (λ after. octets.0 ++ after) (address_at-split octets.1 _ _ at_router).0
+    ∙ ap (λ front. front ++ (router.0.octets ++ router.1)) (sym (take-padded _ octets.0 at_front.0))
     ∙ sym (append_assoc (take (significant_octets width.0) (padded_octets octets.0)) router.0.octets router.1))))))
 
 -- what reads as routes is written as the same bytes
