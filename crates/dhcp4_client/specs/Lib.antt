@@ -1,3 +1,4 @@
+pub mod Chain
 pub mod Config
 pub mod Laws
 pub mod Lease

@@ -1,11 +1,11 @@
 //! The configuration of a client.
 
 ghost use Rattle.std.specs.Prelude.{◌≡◌, [], ◌∷◌, ◌++◌, map, IfOk, Ok};
+ghost use Rattle.std.specs.Borrow.{sem};
 ghost use Rattle.dhcp_wire.specs.Outcome.{Answers, Gives, Makes};
 ghost use Rattle.dhcp4_msg.specs.Code.{code_of};
+ghost use Rattle.dhcp4_client.specs.Chain.{UnchangedIfRefused};
 ghost use Rattle.dhcp4_client.specs.Config.{
-  Sets,
-  SetsFree,
   config_of,
   is_within_limits,
   mac_of_bytes,
@@ -18,6 +18,7 @@ ghost use Rattle.dhcp4_client.specs.Config.{
   with_mac,
 };
 
+use crate::chain::handed_on;
 use dhcp_wire::{Bytes, DhcpError, ErrorKind, FixedText, Sequence, Text, parse_mac};
 use dhcp4_msg::DhcpV4OptionCode;
 use std::alloc::Global;
@@ -165,27 +166,27 @@ impl DhcpV4Config {
     pub fn set_iface_mac(&mut self, alloc: Global, mac: &str) -> Result<&mut Self, DhcpError>
         ensures set { Gives (λ config. config.now) result (with_mac self.old (mac_of_text mac.now)) }
         ensures same { IfOk result (λ config. config.ghost_name ≡ self.entry.ghost_name) }
+        ensures* refused { sem 𝓛 (UnchangedIfRefused self.entry result) }
     {
-        self.put_mac_text(alloc, mac)?;
-        Ok(self)
+        handed_on(self.put_mac_text(alloc, mac))
     }
 
     /// Sets the Ethernet address. `NotSupported` exactly where it is not six bytes; after an error nothing has changed.
     pub fn set_iface_mac_raw(&mut self, mac: &[u8]) -> Result<&mut Self, DhcpError>
         ensures set { Answers (λ config. config.now) result (with_mac self.old (mac_of_bytes mac.now)) }
         ensures same { IfOk result (λ config. config.ghost_name ≡ self.entry.ghost_name) }
+        ensures* refused { sem 𝓛 (UnchangedIfRefused self.entry result) }
     {
-        self.put_mac(mac)?;
-        Ok(self)
+        handed_on(self.put_mac(mac))
     }
 
     /// Sets the host name, which the client sends as option 12 where it isn't empty. After an error nothing has changed.
     pub fn set_host_name(&mut self, alloc: Global, host_name: &str) -> Result<&mut Self, DhcpError>
         ensures set { Makes (λ config. config.now) result (record self.old { host_name = host_name.now }) }
         ensures same { IfOk result (λ config. config.ghost_name ≡ self.entry.ghost_name) }
+        ensures* refused { sem 𝓛 (UnchangedIfRefused self.entry result) }
     {
-        self.put_host_name(alloc, host_name)?;
-        Ok(self)
+        handed_on(self.put_host_name(alloc, host_name))
     }
 
     /// Sets the client identifier, option 61: its type, then its bytes, RFC 2132 section 9.14. After an error nothing has changed.
@@ -197,28 +198,27 @@ impl DhcpV4Config {
     ) -> Result<&mut Self, DhcpError>
         ensures set { Makes (λ config. config.now) result (record self.old { client_id = client_id_type ∷ client_id.now }) }
         ensures same { IfOk result (λ config. config.ghost_name ≡ self.entry.ghost_name) }
+        ensures* refused { sem 𝓛 (UnchangedIfRefused self.entry result) }
     {
-        self.put_client_id(alloc, client_id_type, client_id)?;
-        Ok(self)
+        handed_on(self.put_client_id(alloc, client_id_type, client_id))
     }
 
     /// Takes the Ethernet address for the client identifier, of type 1. After an error nothing has changed.
     pub fn use_mac_as_client_id(&mut self, alloc: Global) -> Result<&mut Self, DhcpError>
         ensures set { Makes (λ config. config.now) result (record self.old { client_id = 1 ∷ self.old.src_mac }) }
         ensures same { IfOk result (λ config. config.ghost_name ≡ self.entry.ghost_name) }
+        ensures* refused { sem 𝓛 (UnchangedIfRefused self.entry result) }
     {
-        let mac = self.src_mac;
-        self.put_client_id(alloc, 1, &mac)?;
-        Ok(self)
+        handed_on(self.put_mac_as_client_id(alloc))
     }
 
     /// Takes the host name for the client identifier, of type 0; where there is none it changes nothing. Nor does an error.
     pub fn use_host_name_as_client_id(&mut self, alloc: Global) -> Result<&mut Self, DhcpError>
         ensures set { Makes (λ config. config.now) result (with_host_name_as_client_id self.old) }
         ensures same { IfOk result (λ config. config.ghost_name ≡ self.entry.ghost_name) }
+        ensures* refused { sem 𝓛 (UnchangedIfRefused self.entry result) }
     {
-        self.put_host_name_as_client_id(alloc)?;
-        Ok(self)
+        handed_on(self.put_host_name_as_client_id(alloc))
     }
 
     /// Asks for the options of these numbers too; the options asked for are then in rising order, each once. After an error
@@ -231,9 +231,9 @@ impl DhcpV4Config {
         ensures set { Makes (λ config. config.now) result
             (record self.old { request_opts = rising_codes (numbers_of self.old.request_opts ++ opts.now) }) }
         ensures same { IfOk result (λ config. config.ghost_name ≡ self.entry.ghost_name) }
+        ensures* refused { sem 𝓛 (UnchangedIfRefused self.entry result) }
     {
-        self.put_extra_opts(alloc, opts)?;
-        Ok(self)
+        handed_on(self.put_extra_opts(alloc, opts))
     }
 
     /// Asks for the options of these numbers alone, in rising order, each once. After an error nothing has changed.
@@ -244,88 +244,15 @@ impl DhcpV4Config {
     ) -> Result<&mut Self, DhcpError>
         ensures set { Makes (λ config. config.now) result (record self.old { request_opts = rising_codes opts.now }) }
         ensures same { IfOk result (λ config. config.ghost_name ≡ self.entry.ghost_name) }
+        ensures* refused { sem 𝓛 (UnchangedIfRefused self.entry result) }
     {
-        self.put_opts(alloc, opts)?;
-        Ok(self)
-    }
-}
-
-// What each setter that may fail puts; after an error nothing has changed.
-impl DhcpV4Config {
-    // Puts the Ethernet address that a text writes.
-    #[tactic(auto, unfolding(crate::specs::Config::with_mac))]
-    fn put_mac_text(&mut self, alloc: Global, mac: &str) -> Result<(), DhcpError>
-        ensures { Sets result self.old self.new (with_mac self.old (mac_of_text mac.now)) }
-    {
-        self.src_mac = mac_of_text(alloc, mac)?;
-        Ok(())
-    }
-
-    // Puts this Ethernet address.
-    #[tactic(auto, unfolding(crate::specs::Config::with_mac))]
-    fn put_mac(&mut self, mac: &[u8]) -> Result<(), DhcpError>
-        ensures { SetsFree result self.old self.new (with_mac self.old (mac_of_bytes mac.now)) }
-    {
-        self.src_mac = mac_of_bytes(mac)?;
-        Ok(())
-    }
-
-    // Puts the host name.
-    fn put_host_name(&mut self, alloc: Global, host_name: &str) -> Result<(), DhcpError>
-        ensures { Sets result self.old self.new (Ok (record self.old { host_name = host_name.now })) }
-    {
-        self.host_name = Text::from_str(alloc, host_name)?;
-        Ok(())
-    }
-
-    // Puts the client identifier of this type and these bytes.
-    fn put_client_id(
-        &mut self,
-        alloc: Global,
-        client_id_type: u8,
-        client_id: &[u8],
-    ) -> Result<(), DhcpError>
-        ensures { Sets result self.old self.new (Ok (record self.old { client_id = client_id_type ∷ client_id.now })) }
-    {
-        self.client_id = joined(alloc, client_id_type, client_id)?;
-        Ok(())
-    }
-
-    // Puts the host name as client identifier, where there is one.
-    #[tactic(auto, unfolding(crate::specs::Config::with_host_name_as_client_id))]
-    fn put_host_name_as_client_id(&mut self, alloc: Global) -> Result<(), DhcpError>
-        ensures { Sets result self.old self.new (Ok (with_host_name_as_client_id self.old)) }
-    {
-        if self.host_name.is_empty() {
-            return Ok(());
-        }
-        self.client_id = joined(alloc, 0, self.host_name.as_str().as_bytes())?;
-        Ok(())
-    }
-
-    // Puts the codes asked for and these.
-    fn put_extra_opts(&mut self, alloc: Global, opts: &[u8]) -> Result<(), DhcpError>
-        ensures { Sets result self.old self.new
-            (Ok (record self.old { request_opts = rising_codes (numbers_of self.old.request_opts ++ opts.now) })) }
-    {
-        let mut numbers = numbers_of(alloc, self.request_opts.as_slice())?;
-        numbers.extend_from_slice(opts)?;
-        self.request_opts = rising_codes(alloc, numbers.as_slice())?;
-        Ok(())
-    }
-
-    // Puts these codes.
-    fn put_opts(&mut self, alloc: Global, opts: &[u8]) -> Result<(), DhcpError>
-        ensures { Sets result self.old self.new (Ok (record self.old { request_opts = rising_codes opts.now })) }
-    {
-        self.request_opts = rising_codes(alloc, opts)?;
-        Ok(())
+        handed_on(self.put_opts(alloc, opts))
     }
 }
 
 // The Ethernet address that a text writes.
 #[tactic(auto, unfolding(crate::specs::Config::mac_of_text))]
-fn mac_of_text(alloc: Global, mac: &str) -> Result<[u8; 6], DhcpError>
+pub(crate) fn mac_of_text(alloc: Global, mac: &str) -> Result<[u8; 6], DhcpError>
     ensures { Gives (λ mac. mac) result (mac_of_text mac.now) }
 {
     let bytes = parse_mac(alloc, mac)?;
@@ -333,7 +260,7 @@ fn mac_of_text(alloc: Global, mac: &str) -> Result<[u8; 6], DhcpError>
 }
 
 // The Ethernet address of these bytes, of which there have to be six.
-fn mac_of_bytes(bytes: &[u8]) -> Result<[u8; 6], DhcpError>
+pub(crate) fn mac_of_bytes(bytes: &[u8]) -> Result<[u8; 6], DhcpError>
     ensures { Answers (λ mac. mac) result (mac_of_bytes bytes.now) }
 {
     if bytes.len() != 6 {
@@ -345,7 +272,7 @@ fn mac_of_bytes(bytes: &[u8]) -> Result<[u8; 6], DhcpError>
 }
 
 // This byte and then these.
-fn joined(alloc: Global, first: u8, bytes: &[u8]) -> Result<Bytes, DhcpError>
+pub(crate) fn joined(alloc: Global, first: u8, bytes: &[u8]) -> Result<Bytes, DhcpError>
     ensures { Makes (λ joined. joined) result (first ∷ bytes.now) }
 {
     let mut joined = Vec::new(alloc);
@@ -355,7 +282,7 @@ fn joined(alloc: Global, first: u8, bytes: &[u8]) -> Result<Bytes, DhcpError>
 }
 
 // The numbers of these codes.
-fn numbers_of(alloc: Global, asked: &[DhcpV4OptionCode]) -> Result<Vec<u8>, DhcpError>
+pub(crate) fn numbers_of(alloc: Global, asked: &[DhcpV4OptionCode]) -> Result<Vec<u8>, DhcpError>
     ensures { Makes (λ numbers. numbers.items) result (numbers_of asked.now) }
 {
     let mut numbers = Vec::new(alloc);
@@ -378,7 +305,10 @@ fn codes_of(alloc: Global, numbers: &[u8]) -> Result<Sequence<DhcpV4OptionCode>,
 
 // The codes of these numbers in rising order, each once.
 #[tactic(auto, unfolding(crate::specs::Config::rising_codes))]
-fn rising_codes(alloc: Global, numbers: &[u8]) -> Result<Sequence<DhcpV4OptionCode>, DhcpError>
+pub(crate) fn rising_codes(
+    alloc: Global,
+    numbers: &[u8],
+) -> Result<Sequence<DhcpV4OptionCode>, DhcpError>
     ensures { Makes (λ codes. codes) result (rising_codes numbers.now) }
 {
     let rising = rising(alloc, numbers)?;

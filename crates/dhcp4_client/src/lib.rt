@@ -2,6 +2,7 @@
 #![tactic(auto)]
 
 mod builders;
+mod chain;
 mod config;
 mod laws;
 mod lease;
