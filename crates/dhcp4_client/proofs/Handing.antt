@@ -69,13 +69,13 @@ module _ {M : Type 1} {𝓤 : Ura M} {𝓛 : Logic 𝓤} {K : Type 0} {Γ : List
   pub answered : K → Soaks G → (T : Ended) (c : Clauses 𝓤 T) (y : (triple_of 𝓛 T.signature (closing 𝓛 T c)).Ghost) (v : Val)
       → Laws (type_at T.signature.result y.0.0)
       → ((r : Res T.signature y.0.0) (ws : Lasts T y.0.0 y.0.3) → Typed (type_at T.signature.result y.0.0).mir (v ∷ [])
-        → Seq K 𝓛 (‵ ((type_at T.signature.result y.0.0).own_val r (v ∷ [])) ∷ raw ((c y.0.0 y.0.3).ensures y.1 r (at_exit T y.0.0 y.0.3 ws))
-          ∷ raw (alive 𝓛 T.signature y.0.0 y.0.1) ∷ Γ) G)
+      → Seq K 𝓛 (‵ ((type_at T.signature.result y.0.0).own_val r (v ∷ [])) ∷ raw ((c y.0.0 y.0.3).ensures y.1 r (at_exit T y.0.0 y.0.3 ws))
+      ∷ raw (alive 𝓛 T.signature y.0.0 y.0.1) ∷ Γ) G)
       → Seq K 𝓛 (raw ((triple_of 𝓛 T.signature (closing 𝓛 T c)).post y v) ∷ Γ) G
   answered t soaks T c y v laws k =
       let R = type_at T.signature.result y.0.0 in
       use1 𝓛 (later (some (λ (r : Res T.signature y.0.0). (raw (alive 𝓛 T.signature y.0.0 y.0.1) ⊛ ‵ (R.own_val r (v ∷ []))) ⊛
-        some (λ (ws : Lasts T y.0.0 y.0.3). ‵ (lasts T y.0.0 y.0.3 ws) ⊛ raw ((c y.0.0 y.0.3).ensures y.1 r (at_exit T y.0.0 y.0.3 ws)))))) (id⊢ 𝓤 _) $
+      some (λ (ws : Lasts T y.0.0 y.0.3). ‵ (lasts T y.0.0 y.0.3 ws) ⊛ raw ((c y.0.0 y.0.3).ensures y.1 r (at_exit T y.0.0 y.0.3 ws)))))) (id⊢ 𝓤 _) $
       await t soaks $ pick t (λ r. split t $ split t $ move t (2 ∷ []) $ pick t (λ ws. split t $ drop t $ move t (2 ∷ []) $
       peeks t R (Is R) (shows 𝓛 R) r (v ∷ []) (λ is. k r ws ((laws.lawful 𝓛).typed r (v ∷ []) is))))
 
@@ -85,12 +85,12 @@ module _ {M : Type 1} {𝓤 : Ura M} (𝓛 : Logic 𝓤) (𝓜 : Model 𝓤 𝓛
   -- Ensured is what the step ensures of its answer r, and Others are the tokens of the other lifetimes: both stay
   pub hands_on : K → (κ : Lft) (s : Share) (r : (Step κ).Denot) (v : Val)
       → Opds K 𝓛 (raw ((triple_of 𝓛 handing.signature (handing.spec 𝓛 𝓜.mem 𝓡.returns)).pre (((κ, tt), (s, tt), tt, (r, tt), (v ∷ [], tt)), tt))
-        ∷ Others ∷ Ensured ∷ Γ) E xs (v ∷ [])
+      ∷ Others ∷ Ensured ∷ Γ) E xs (v ∷ [])
       → ((v' : Val) → Typed (Answer κ).mir (v' ∷ [])
-        → Seq K 𝓛 (‵ ((Answer κ).own_val (handed_on r) (v' ∷ [])) ∷ Ensured ∷ (‵ (flft κ s) ⊛ Others) ∷ Γ)
-          (lands (tables 𝓤 𝓛.H 𝓜 𝓡 𝓡.env).C Λ E d v' rest q))
+      → Seq K 𝓛 (‵ ((Answer κ).own_val (handed_on r) (v' ∷ [])) ∷ Ensured ∷ (‵ (flft κ s) ⊛ Others) ∷ Γ)
+      (lands (tables 𝓤 𝓛.H 𝓜 𝓡 𝓡.env).C Λ E d v' rest q))
       → Seq K 𝓛 (‵ ((Step κ).own_val r (v ∷ [])) ∷ Ensured ∷ (‵ (flft κ s) ⊛ Others) ∷ Γ)
-        (runs (tables 𝓤 𝓛.H 𝓜 𝓡 𝓡.env).C Λ E (seq (call symbol.name xs d) rest) q)
+      (runs (tables 𝓤 𝓛.H 𝓜 𝓡 𝓡.env).C Λ E (seq (call symbol.name xs d) rest) q)
   hands_on t κ s r v operands k =
       let H = triple_of 𝓛 handing.signature (handing.spec 𝓛 𝓜.mem 𝓡.returns) in
       let z : H.Ghost = (((κ, tt), (s, tt), tt, (r, tt), (v ∷ [], tt)), tt) in

@@ -1,12 +1,11 @@
 -- The configuration of a DHCPv4 client.
-use Rattle.std.specs.Prelude.{◌≡◌, ◌⊎◌, ℕ, Bool, true, false, List, [], ◌∷◌, length, map, fold, replicate, Result, Ok, Err, ◌==◌, ◌&&◌, not, nat_le, if◌then◌else◌}
+use Rattle.std.specs.Prelude.{ℕ, Bool, true, false, List, [], ◌∷◌, length, map, fold, replicate, Result, Ok, Err, ◌==◌, ◌&&◌, not, nat_le, if◌then◌else◌}
 use Rattle.std.specs.List.{list_any}
 use Rattle.std.specs.Ordering.{nat_cmp}
 use Rattle.std.specs.BTreeSet.{insert_key}
 use Rattle.dhcp_wire.specs.declared.kind.ErrorKind.{ErrorKind}
 use Rattle.dhcp_wire.specs.declared.kind.ErrorKind.TheVariants.{NotSupported}
 use Rattle.dhcp_wire.specs.Mac.{bytes_of_mac}
-use Rattle.dhcp_wire.specs.Outcome.{ErrorParts, no_memory}
 use Rattle.dhcp4_msg.specs.declared.code.DhcpV4OptionCode.{DhcpV4OptionCode}
 use Rattle.dhcp4_msg.specs.Code.{code_of, number_of}
 
@@ -86,14 +85,3 @@ unfoldable pub is_within_limits : Config → Bool
 is_within_limits config =
     nat_le (length config.host_name) 254 && not (list_any (λ byte. byte == 0) config.host_name)
     && nat_le (length config.client_id) 255 && nat_le (length config.request_opts) 255
-
--- A setter that may fail, from the configuration `old` to `new`: the configuration that the definition gives; its refusal or want of
--- memory, and then nothing has changed.
-abbrev pub Sets : {X : Type 0} → Result X ErrorParts → Config → Config → Result Config ErrorKind → Type 0
-Sets (Ok _) old new expected = expected ≡ Ok new
-Sets (Err e) old new expected = ((e ≡ no_memory) ⊎ (expected ≡ Err e.kind)) × (new ≡ old)
-
--- The same for a setter that takes no memory.
-abbrev pub SetsFree : {X : Type 0} → Result X ErrorParts → Config → Config → Result Config ErrorKind → Type 0
-SetsFree (Ok _) old new expected = expected ≡ Ok new
-SetsFree (Err e) old new expected = (expected ≡ Err e.kind) × (new ≡ old)

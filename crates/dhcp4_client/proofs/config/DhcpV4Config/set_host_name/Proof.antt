@@ -20,8 +20,8 @@ set_host_name_spec 𝓤 𝓛 𝓜 𝓡 wired =
     qed 𝓛 (raw (G.pre z) ∷ []) ∵ enter ! _ _ _ _ _ $ alloc_all ! (λ l. pass_all ! refl (fit 𝓛 κs ps a are) $
     sets ! (addr ! (through ! refl (stop !))) refl (tt, tt) $
     calls_at ! (framed 𝓤 𝓛.H 𝓜 (tables 𝓤 𝓛.H 𝓜 𝓡 𝓡.env)) G
-      (met 𝓤 𝓛 𝓜 𝓡 (code.calls-dhcp4_client::config::DhcpV4Config::put_host_name 𝓡.env wired)) z
-      (and_then ! (get ! refl) (and_then ! (get ! refl) (and_then ! (get ! refl) (no_more !)))) (λ v.
+    (met 𝓤 𝓛 𝓜 𝓡 (code.calls-dhcp4_client::config::DhcpV4Config::put_host_name 𝓡.env wired)) z
+    (and_then ! (get ! refl) (and_then ! (get ! refl) (and_then ! (get ! refl) (no_more !)))) (λ v.
     answered ! tt step.ended (step.clauses 𝓛 𝓜.mem 𝓡.returns) z v (step_laws κs.0) (λ r ws fits. lands_as ! refl refl fits.0 $
     -- [the step's answer; what it ensures; the tokens]
     move ! (2 ∷ []) $ use1 𝓛 (‵ (flft κs.0 qs.0) ⊛ raw (toks 𝓛 1 κs.1 qs.1)) (id⊢ 𝓤 _) $ move ! (1 ∷ 2 ∷ 0 ∷ []) $
