@@ -109,7 +109,7 @@ fn the_streams_of_std_are_read_and_written(rt: HostRuntime) -> Result<(), Fail> 
     };
     assert_eq!(rt; bytes.as_slice(), b"text".as_slice());
 
-    let mut sink = StdSink::new(Vec::new(rt.alloc()));
+    let mut sink = StdSink::new(Vec::with_capacity(rt.alloc(), 4)?);
     assert!(rt; write_whole(&mut sink, b"text"));
     Ok(())
 }

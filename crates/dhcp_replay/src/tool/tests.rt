@@ -60,7 +60,7 @@ fn push_handed(text: &mut String, event: &str, options: &str) -> Result<(), Allo
 }
 
 // The status of a run with these words over a source of these bytes, and what the sink took. The calls of the source and of the sink
-// with these numbers fail.
+// with these numbers fail. A run that finds no memory fails the test as any other want of memory.
 fn run(
     alloc: Global,
     words: &[&str],
@@ -75,6 +75,9 @@ fn run(
     let mut source = MemSource::new(input.to_vec(alloc)?, failing_reads.to_vec(alloc)?);
     let mut sink = MemSink::new(alloc, 4096, failing_writes.to_vec(alloc)?)?;
     let status = replay_tool(alloc, owned.as_slice(), &mut source, &mut sink);
+    if status == 5 {
+        return Err(Fail::from("OutOfMemory"));
+    }
     Ok((status, sink.bytes().to_vec(alloc)?))
 }
 
