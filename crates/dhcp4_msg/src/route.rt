@@ -1,11 +1,12 @@
 //! Classless static routes, RFC 3442.
 
-ghost use Rattle.std.specs.Prelude.{◌≡◌, ◌≤◌, length};
+ghost use Rattle.std.specs.Prelude.{◌≡◌, ◌≤◌, length, ok_or};
 ghost use Rattle.dhcp_wire.specs.Field.{address_of};
-ghost use Rattle.dhcp_wire.specs.Outcome.{Reads, Emits};
+ghost use Rattle.dhcp_wire.specs.Outcome.{Emits, Gives, Reads};
 ghost use Rattle.dhcp4_msg.specs.Route as routes;
 
-use dhcp_wire::{Buffer, BufferMut, DhcpError};
+use dhcp_wire::{Buffer, BufferMut, DhcpError, ErrorKind, Sequence};
+use std::alloc::Global;
 use std::net::Ipv4Addr;
 
 /// A route: where to, and by which router.
@@ -36,6 +37,19 @@ impl DhcpV4ClasslessRoute {
             prefix_length,
             router,
         })
+    }
+
+    /// Reads routes up to the end of the bytes, as the value of option 121 has them. `InvalidDhcpMessage` exactly where the last of
+    /// them is cut off.
+    pub fn parse_list(alloc: Global, value: &[u8]) -> Result<Sequence<Self>, DhcpError>
+        ensures { Gives (λ routes. routes) result (ok_or (routes.routes_of value.now) ErrorKind.InvalidDhcpMessage) }
+    {
+        let mut routes = Sequence::new(alloc);
+        let mut rest = Buffer::new(value);
+        while !rest.is_empty() {
+            routes.push(DhcpV4ClasslessRoute::parse(&mut rest)?)?;
+        }
+        Ok(routes)
     }
 
     /// Writes the route: its width, the significant octets of its destination, and its router.

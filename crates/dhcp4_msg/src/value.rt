@@ -4,7 +4,6 @@ ghost use Rattle.std.specs.Prelude.{◌≡◌, map, ok_or};
 ghost use Rattle.std.specs.Int.{w16, w32};
 ghost use Rattle.dhcp_wire.specs.Outcome.{Gives, Makes};
 ghost use Rattle.dhcp4_msg.specs.Code.{code_of};
-ghost use Rattle.dhcp4_msg.specs.Route as routes;
 ghost use Rattle.dhcp4_msg.specs.Value.{address_in, addresses_in, number_in, text_in, type_in, value_of};
 
 use crate::{
@@ -57,7 +56,8 @@ pub(crate) fn read_value(
             Ok(DhcpV4Option::ClientIdentifier(Bytes::from_slice(alloc, value)?))
         }
         DhcpV4OptionCode::ClasslessStaticRoute => {
-            Ok(DhcpV4Option::ClasslessStaticRoute(routes_of(alloc, value)?))
+            let routes = DhcpV4ClasslessRoute::parse_list(alloc, value)?;
+            Ok(DhcpV4Option::ClasslessStaticRoute(routes))
         }
         DhcpV4OptionCode::End => Ok(DhcpV4Option::End),
         DhcpV4OptionCode::Other(code) => {
@@ -131,18 +131,6 @@ fn codes_of(alloc: Global, value: &[u8]) -> Result<Sequence<DhcpV4OptionCode>, D
         codes.push(DhcpV4OptionCode::from(*number))?;
     }
     Ok(codes)
-}
-
-// The routes that fill the bytes exactly.
-fn routes_of(alloc: Global, value: &[u8]) -> Result<Sequence<DhcpV4ClasslessRoute>, DhcpError>
-    ensures { Gives (λ routes. routes) result (ok_or (routes.routes_of value.now) ErrorKind.InvalidDhcpMessage) }
-{
-    let mut routes = Sequence::new(alloc);
-    let mut rest = Buffer::new(value);
-    while !rest.is_empty() {
-        routes.push(DhcpV4ClasslessRoute::parse(&mut rest)?)?;
-    }
-    Ok(routes)
 }
 
 // The refusal of bytes that do not read.

@@ -14,7 +14,7 @@ ghost use Rattle.dhcp4_client.specs.Lease.{
   text_in,
 };
 
-use dhcp_wire::{Buffer, DhcpError, Sequence, Text};
+use dhcp_wire::{DhcpError, ErrorKind, Sequence, Text};
 use dhcp4_msg::{DhcpV4ClasslessRoute, DhcpV4Option, DhcpV4OptionCode, DhcpV4Options};
 use std::alloc::Global;
 use std::net::Ipv4Addr;
@@ -116,13 +116,9 @@ fn routes_of(
 ) -> Result<Option<Sequence<DhcpV4ClasslessRoute>>, DhcpError>
     ensures { Makes (λ routes. routes) result (routes_of value.now) }
 {
-    let mut routes = Sequence::new(alloc);
-    let mut rest = Buffer::new(value);
-    while !rest.is_empty() {
-        match DhcpV4ClasslessRoute::parse(&mut rest) {
-            Ok(route) => routes.push(route)?,
-            Err(_) => return Ok(None),
-        }
+    match DhcpV4ClasslessRoute::parse_list(alloc, value) {
+        Ok(routes) => Ok(Some(routes)),
+        Err(error) if error.kind() == ErrorKind::OutOfMemory => Err(error),
+        Err(_) => Ok(None),
     }
-    Ok(Some(routes))
 }
