@@ -3,7 +3,7 @@ use Rattle.dhcp4_client.specs.Chain.{handed_on}
 use Rattle.dhcp4_client.specs.contracts.config.DhcpV4Config.set_iface_mac as setter
 use Rattle.dhcp4_client.specs.contracts.config.DhcpV4Config.put_mac_text as step
 use Rattle.dhcp4_client.proofs.Handing.{answered, hands_on, step_laws}
-use Rattle.dhcp4_client.proofs.Passing.{Passed, all_go, all_tell, allocator, lent_config, text, fit, nothing_asked, nothing_had, spells, stays, values}
+use Rattle.dhcp4_client.proofs.Passing.{all_go, all_tell, allocator, fit, lent_config, nothing_asked, nothing_had, Passed, spells, stays, text, values}
 use Rattle.dhcp4_client.proofs.WalkNames.{List, [], ◌∷◌, refl, ◌$◌, ◌∵◌, !, ◌⊛◌, ‵, addr, alloc_all, and_then, calls_at, done, enter, flft, framed, free_all, get, has_of, id⊢, lands_as, leaves, look_at, move, no_more, pass_all, proved, qed, raw, returns, sets, stop, suffices, tables, through, toks, triple_of, use0, use1}
 use Rattle.dhcp4_client.proofs.config.DhcpV4Config.set_iface_mac.Code as code
 use Rattle.dhcp4_client.proofs.config.DhcpV4Config.set_iface_mac.Statement.{statement}
