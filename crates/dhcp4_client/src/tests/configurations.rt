@@ -14,6 +14,9 @@ fn refusal(alloc: Global, mac: &str) -> Result<Option<ErrorKind>, Fail> {
         Ok(_config) => None,
         Err(error) => Some(error.kind()),
     };
+    if kind == Some(ErrorKind::OutOfMemory) {
+        return Err(Fail::from("OutOfMemory"));
+    }
     if config != before {
         return Err(Fail::from("the configuration has changed"));
     }

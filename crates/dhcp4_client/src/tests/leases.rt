@@ -78,6 +78,7 @@ fn refusal(alloc: Global, options: &[u8]) -> Result<Option<ErrorKind>, Fail> {
     let message = message(alloc, options)?;
     match DhcpV4Lease::new_from_msg(alloc, &message, &mut words) {
         Ok(_lease) => Ok(None),
+        Err(error) if error.kind() == ErrorKind::OutOfMemory => Err(Fail::from(error)),
         Err(error) => Ok(Some(error.kind())),
     }
 }
