@@ -1,6 +1,1 @@
-pub mod Chain
-pub mod Config
-pub mod Laws
-pub mod Lease
-pub mod MessageTable
 pub mod State

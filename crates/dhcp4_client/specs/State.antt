@@ -2,7 +2,7 @@
 use Rattle.std.specs.Prelude.{ℕ, List, ◌++◌, codes, Bool, true, false}
 use Rattle.std.specs.Net.Addr.{ipv4_octets}
 use Rattle.std.specs.Net.Text.{ipv4_text}
-use Rattle.dhcp4_client.specs.Lease.{Lease}
+use Rattle.dhcp4_lease.specs.Lease.{Lease}
 use Rattle.dhcp4_client.specs.declared.state.DhcpV4State.{DhcpV4State}
 use Rattle.dhcp4_client.specs.declared.state.DhcpV4State.TheVariants.{Done, InitReboot, Selecting, Renewing, Rebinding}
 

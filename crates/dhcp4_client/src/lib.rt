@@ -1,18 +1,10 @@
-//! A DHCPv4 client, RFC 2131.
+//! A DHCPv4 client, RFC 2131. Its configuration, its lease and its messages stand in dhcp4_lease, and are named here too.
 #![tactic(auto)]
 
-mod builders;
-mod chain;
-mod config;
-mod laws;
-mod lease;
-mod row;
 mod state;
-#[cfg(test)]
-mod tests;
 
-pub use builders::{new_discovery, new_rebind, new_release, new_renew, new_request};
-pub use config::DhcpV4Config;
-pub use laws::{built_messages_read_back, usual_times_are_in_order};
-pub use lease::DhcpV4Lease;
+pub use dhcp4_lease::{
+    DhcpV4Config, DhcpV4Lease, built_messages_read_back, new_discovery, new_rebind, new_release,
+    new_renew, new_request, usual_times_are_in_order,
+};
 pub use state::DhcpV4State;

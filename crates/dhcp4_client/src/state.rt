@@ -1,11 +1,14 @@
 //! The states of a client, RFC 2131 section 4.4.
 
+#[cfg(test)]
+mod tests;
+
 ghost use Rattle.std.specs.Prelude.{◌≡◌, Some};
 ghost use Rattle.dhcp_wire.specs.Outcome.{Makes};
 ghost use Rattle.dhcp4_client.specs.State.{has_lease, plain_state, state_text};
 
-use crate::DhcpV4Lease;
 use dhcp_wire::DhcpError;
+use dhcp4_lease::DhcpV4Lease;
 use std::alloc::Global;
 use std::fmt;
 

@@ -2,8 +2,8 @@
 use Rattle.std.proofs.Common.{◌≡◌, ℕ, Bool, true, false, ◌==◌, cond, List, [], ◌∷◌, Some, find, refl}
 use Rattle.std.specs.Prelude.{unwrap_or}
 use Rattle.std.proofs.lemmas.Bool.{eqb-true}
-use Rattle.dhcp4_msg.specs.declared.code.DhcpV4OptionCode.TheVariants.{Other}
-use Rattle.dhcp4_msg.specs.Code.{code_of, number_of, named_codes}
+use Rattle.dhcp4_msg.specs.declared.option_code.DhcpV4OptionCode.TheVariants.{Other}
+use Rattle.dhcp4_msg.specs.OptionCode.{code_of, number_of, named_codes}
 
 -- what a search finds passes its test; and else there is the default
 found_or : {X : Type 0} (test : X → Bool) (P : X → Type 0) (xs : List X) (default : X) → ((x : X) → test x ≡ true → P x) → P default → P (unwrap_or (find test xs) default)

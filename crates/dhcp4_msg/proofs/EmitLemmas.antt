@@ -3,7 +3,8 @@ use Rattle.std.proofs.Common.{◌≡◌, ℕ, ◌+◌, ◌<◌, List, [], ◌∷
 use Rattle.std.proofs.lemmas.List.{take-append-drop}
 use Rattle.std.proofs.lemmas.List.Concat.{flat_map_single, flat_map-cons}
 use Rattle.std.proofs.lemmas.Grind.{flat_map-append}
-use Rattle.dhcp_wire.specs.Outcome.{ErrorParts, no_memory, Appends, Emits, AppendsFront}
+use Rattle.dhcp_wire.specs.Error.{ErrorParts, no_memory}
+use Rattle.dhcp_wire.specs.Outcome.{Appends, Emits, AppendsFront}
 
 -- a front of what comes first is a front of all
 pub front_first : (old new first later : List ℕ) → AppendsFront old new first → AppendsFront old new (first ++ later)

@@ -8,18 +8,18 @@ use Rattle.std.proofs.lemmas.List.{take_at, drop_at, take_all, length-take-le}
 use Rattle.dhcp_wire.specs.Field.{◌>>=◌, address_at, text_of, address_of}
 use Rattle.dhcp_wire.proofs.FieldLaws.{bytes_at-append, address_at-octets, number_at-to_be_bytes, big_endian_16, big_endian_32, before_zero-append}
 use Rattle.dhcp_wire.proofs.Utf8.{text_of_utf8}
-use Rattle.dhcp4_msg.specs.declared.kind.DhcpV4MessageType.{DhcpV4MessageType}
-use Rattle.dhcp4_msg.specs.declared.kind.DhcpV4MessageType.TheVariants.{Discovery, Offer, Request, Decline, Ack, Nack, Release, Inform}
+use Rattle.dhcp4_msg.specs.declared.message_type.DhcpV4MessageType.{DhcpV4MessageType}
+use Rattle.dhcp4_msg.specs.declared.message_type.DhcpV4MessageType.TheVariants.{Discovery, Offer, Request, Decline, Ack, Nack, Release, Inform}
 use Rattle.dhcp4_msg.specs.declared.route.DhcpV4ClasslessRoute.{DhcpV4ClasslessRoute}
 use Rattle.dhcp4_msg.specs.Cut.{item_at}
-use Rattle.dhcp4_msg.specs.Code.{code_of, number_of}
+use Rattle.dhcp4_msg.specs.OptionCode.{code_of, number_of}
 use Rattle.dhcp4_msg.specs.Options.{read_after, option_at}
-use Rattle.dhcp4_msg.specs.declared.code.DhcpV4OptionCode.{DhcpV4OptionCode}
-use Rattle.dhcp4_msg.specs.declared.code.DhcpV4OptionCode.TheVariants as codes
+use Rattle.dhcp4_msg.specs.declared.option_code.DhcpV4OptionCode.{DhcpV4OptionCode}
+use Rattle.dhcp4_msg.specs.declared.option_code.DhcpV4OptionCode.TheVariants as codes
 use Rattle.dhcp4_msg.specs.declared.option.DhcpV4Option.{DhcpV4Option}
 use Rattle.dhcp4_msg.specs.declared.option.DhcpV4Option.TheVariants.{Pad, SubnetMask, Router, DomainNameServer, HostName, DomainName, InterfaceMtu, BroadcastAddress, NtpServers, RequestedIpAddress, IpAddressLeaseTime, MessageType, ServerIdentifier, ParameterRequestList, Message, RenewalTime, RebindingTime, ClientIdentifier, ClasslessStaticRoute, End, Unknown}
 use Rattle.dhcp4_msg.proofs.CodeLemmas.{number_of-code_of}
-use Rattle.dhcp4_msg.specs.Kind.{type_of, type_number}
+use Rattle.dhcp4_msg.specs.MessageType.{type_of, type_number}
 use Rattle.dhcp4_msg.specs.Laws.{IsWhole, FitsOption, IsExact, ReadsBack, with_names}
 use Rattle.dhcp4_msg.specs.Route.{significant_octets, route_at, routes_of, written_route}
 use Rattle.dhcp4_msg.specs.Value.{address_in, addresses_in, number_in, text_in, type_in, written_addresses, written_text, written_option, written_value, option_code, value_of, fits, is_nameless}

@@ -12,7 +12,7 @@ use Rattle.std.proofs.lemmas.Option.{none-some, same_Some}
 use Rattle.dhcp_wire.specs.Field.{Read}
 use Rattle.dhcp4_msg.specs.declared.option.DhcpV4Option.{DhcpV4Option}
 use Rattle.dhcp4_msg.specs.declared.option.DhcpV4Option.TheVariants.{ParameterRequestList, End}
-use Rattle.dhcp4_msg.specs.Code.{code_of, number_of}
+use Rattle.dhcp4_msg.specs.OptionCode.{code_of, number_of}
 use Rattle.dhcp4_msg.specs.Cut.{Item, item_at, left_after, with_later, cut, cut_within}
 use Rattle.dhcp4_msg.specs.Laws.{ReadsBackUnder, OptionsReadBack, with_names, all_with_names}
 use Rattle.dhcp4_msg.specs.Options.{OptionMap, with_reading, read_after, option_at, read_options, written_options}

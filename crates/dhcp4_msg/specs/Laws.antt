@@ -9,7 +9,7 @@ use Rattle.dhcp4_msg.specs.declared.route.DhcpV4ClasslessRoute.{DhcpV4ClasslessR
 use Rattle.dhcp4_msg.specs.declared.message.DhcpV4Message.{DhcpV4Message}
 use Rattle.dhcp4_msg.specs.declared.option.DhcpV4Option.{DhcpV4Option}
 use Rattle.dhcp4_msg.specs.declared.option.DhcpV4Option.TheVariants.{Pad, SubnetMask, Router, DomainNameServer, HostName, DomainName, InterfaceMtu, BroadcastAddress, NtpServers, RequestedIpAddress, IpAddressLeaseTime, MessageType, ServerIdentifier, ParameterRequestList, Message, RenewalTime, RebindingTime, ClientIdentifier, ClasslessStaticRoute, End, Unknown}
-use Rattle.dhcp4_msg.specs.Code.{number_of, code_of}
+use Rattle.dhcp4_msg.specs.OptionCode.{number_of, code_of}
 use Rattle.dhcp4_msg.specs.Options.{OptionMap}
 use Rattle.dhcp4_msg.specs.Route.{significant_octets, padded_octets}
 use Rattle.dhcp4_msg.specs.Value.{option_number, fits}

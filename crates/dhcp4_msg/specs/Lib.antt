@@ -1,5 +1,5 @@
-pub mod Code
-pub mod Kind
+pub mod OptionCode
+pub mod MessageType
 pub mod Laws
 pub mod Route
 pub mod Value

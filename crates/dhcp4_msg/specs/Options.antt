@@ -4,10 +4,10 @@ use Rattle.std.specs.Ordering.{nat_cmp}
 use Rattle.std.specs.List.{flat_map, filter_map}
 use Rattle.std.specs.FinMap as map
 use Rattle.dhcp_wire.specs.Field.{Read, ◌>>=◌}
-use Rattle.dhcp4_msg.specs.declared.kind.DhcpV4MessageType.{DhcpV4MessageType}
+use Rattle.dhcp4_msg.specs.declared.message_type.DhcpV4MessageType.{DhcpV4MessageType}
 use Rattle.dhcp4_msg.specs.declared.option.DhcpV4Option.{DhcpV4Option}
 use Rattle.dhcp4_msg.specs.declared.option.DhcpV4Option.TheVariants.{MessageType}
-use Rattle.dhcp4_msg.specs.Code.{code_of}
+use Rattle.dhcp4_msg.specs.OptionCode.{code_of}
 use Rattle.dhcp4_msg.specs.Cut.{Item, item_at, cut}
 use Rattle.dhcp4_msg.specs.Value.{value_of, written_option}
 

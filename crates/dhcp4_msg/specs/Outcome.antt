@@ -1,7 +1,7 @@
 -- What the read of one option answers.
 use Rattle.std.specs.Prelude.{◌≡◌, ◌⊎◌, ℕ, List, Result, Ok, Err, Some, None}
-use Rattle.dhcp_wire.specs.declared.kind.ErrorKind.TheVariants.{InvalidDhcpMessage}
-use Rattle.dhcp_wire.specs.Outcome.{ErrorParts, no_memory}
+use Rattle.dhcp_wire.specs.declared.error.ErrorKind.TheVariants.{InvalidDhcpMessage}
+use Rattle.dhcp_wire.specs.Error.{ErrorParts, no_memory}
 use Rattle.dhcp4_msg.specs.declared.option.DhcpV4Option.{DhcpV4Option}
 use Rattle.dhcp4_msg.specs.Options.{option_at}
 

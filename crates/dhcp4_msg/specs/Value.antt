@@ -4,13 +4,13 @@ use Rattle.std.specs.List.{flat_map}
 use Rattle.std.specs.Int.{Width, w8, w16, w32, to_be_bytes}
 use Rattle.std.specs.declared.net.Ipv4Addr.{Ipv4Addr}
 use Rattle.dhcp_wire.specs.Field.{◌>>=◌, number_at, address_of, address_at, before_zero, text_of}
-use Rattle.dhcp4_msg.specs.declared.code.DhcpV4OptionCode.{DhcpV4OptionCode}
-use Rattle.dhcp4_msg.specs.declared.code.DhcpV4OptionCode.TheVariants as codes
-use Rattle.dhcp4_msg.specs.declared.kind.DhcpV4MessageType.{DhcpV4MessageType}
+use Rattle.dhcp4_msg.specs.declared.option_code.DhcpV4OptionCode.{DhcpV4OptionCode}
+use Rattle.dhcp4_msg.specs.declared.option_code.DhcpV4OptionCode.TheVariants as codes
+use Rattle.dhcp4_msg.specs.declared.message_type.DhcpV4MessageType.{DhcpV4MessageType}
 use Rattle.dhcp4_msg.specs.declared.option.DhcpV4Option.{DhcpV4Option}
 use Rattle.dhcp4_msg.specs.declared.option.DhcpV4Option.TheVariants.{Pad, SubnetMask, Router, DomainNameServer, HostName, DomainName, InterfaceMtu, BroadcastAddress, NtpServers, RequestedIpAddress, IpAddressLeaseTime, MessageType, ServerIdentifier, ParameterRequestList, Message, RenewalTime, RebindingTime, ClientIdentifier, ClasslessStaticRoute, End, Unknown}
-use Rattle.dhcp4_msg.specs.Code.{number_of, code_of}
-use Rattle.dhcp4_msg.specs.Kind.{type_number, type_of}
+use Rattle.dhcp4_msg.specs.OptionCode.{number_of, code_of}
+use Rattle.dhcp4_msg.specs.MessageType.{type_number, type_of}
 use Rattle.dhcp4_msg.specs.Route.{routes_of, written_route}
 
 -- The kinds of values, as they read. A value of fixed size may be longer; what is beyond is ignored.

@@ -4,7 +4,7 @@ ghost use Rattle.std.specs.Prelude.{◌≡◌, ◌≤◌, ◌++◌, ℕ, List, S
 ghost use Rattle.dhcp4_msg.specs.declared.message.DhcpV4Message.{DhcpV4Message};
 ghost use Rattle.dhcp4_msg.specs.declared.option.DhcpV4Option.{DhcpV4Option};
 ghost use Rattle.dhcp4_msg.specs.declared.route.DhcpV4ClasslessRoute.{DhcpV4ClasslessRoute};
-ghost use Rattle.dhcp4_msg.specs.Code.{code_of, number_of};
+ghost use Rattle.dhcp4_msg.specs.OptionCode.{code_of, number_of};
 ghost use Rattle.dhcp4_msg.specs.Cut.{cut, cut_within};
 ghost use Rattle.dhcp4_msg.specs.Laws.{IsExact, MessageReadsBack, ReadsBack, read_back, with_names};
 ghost use Rattle.dhcp4_msg.specs.Message.{read_message, written_message};

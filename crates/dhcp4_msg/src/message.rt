@@ -68,7 +68,7 @@ impl DhcpV4Message {
     }
 
     /// The type that option 53 says, if there is one.
-    #[tactic(auto, unfolding(crate::specs::Options::message_type, crate::specs::Code::number_of))]
+    #[tactic(auto, unfolding(crate::specs::Options::message_type, crate::specs::OptionCode::number_of))]
     pub fn message_type(&self) -> Option<DhcpV4MessageType>
         ensures { result ≡ options.message_type self.now.options }
     {

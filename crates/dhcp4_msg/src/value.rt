@@ -3,7 +3,7 @@
 ghost use Rattle.std.specs.Prelude.{◌≡◌, map, ok_or};
 ghost use Rattle.std.specs.Int.{w16, w32};
 ghost use Rattle.dhcp_wire.specs.Outcome.{Gives, Makes};
-ghost use Rattle.dhcp4_msg.specs.Code.{code_of};
+ghost use Rattle.dhcp4_msg.specs.OptionCode.{code_of};
 ghost use Rattle.dhcp4_msg.specs.Value.{address_in, addresses_in, number_in, text_in, type_in, value_of};
 
 use crate::{
@@ -134,7 +134,7 @@ fn codes_of(alloc: Global, value: &[u8]) -> Result<Sequence<DhcpV4OptionCode>, D
 }
 
 // The refusal of bytes that do not read.
-#[tactic(auto, unfolding(dhcp_wire::specs::Kind::fixed_text))]
+#[tactic(auto, unfolding(dhcp_wire::specs::Error::fixed_text))]
 pub(crate) fn unreadable() -> DhcpError
     ensures { result.kind ≡ ErrorKind.InvalidDhcpMessage }
 {

@@ -3,7 +3,7 @@
 ghost use Rattle.std.specs.Prelude.{◌≡◌, length, map, take};
 ghost use Rattle.std.specs.List.{flat_map};
 ghost use Rattle.dhcp_wire.specs.Outcome.{Emits};
-ghost use Rattle.dhcp4_msg.specs.Code.{number_of};
+ghost use Rattle.dhcp4_msg.specs.OptionCode.{number_of};
 ghost use Rattle.dhcp4_msg.specs.Route.{written_route};
 ghost use Rattle.dhcp4_msg.specs.Value.{written_addresses, written_text};
 

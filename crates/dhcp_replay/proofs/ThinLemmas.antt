@@ -7,18 +7,18 @@ use Rattle.std.proofs.lemmas.List.Sums.{AllPass-from_list_all}
 use Rattle.std.proofs.lemmas.List.Concat.{flat_map-append}
 use Rattle.std.proofs.lemmas.List.Elements.{All-append, All-head, All-tail, All-weaker}
 use Rattle.hex.specs.Hex.{IsBytes, encode_lower}
-use Rattle.dhcp_wire.specs.Outcome.{ErrorParts, Makes}
-use Rattle.dhcp_replay.specs.HexText.{hex_text, is_lower_digit}
-use Rattle.dhcp_replay.specs.Line.{HasLine, NoFeed, line}
-use Rattle.dhcp_replay.specs.Reading.{IsReading, GivesReading}
+use Rattle.dhcp_wire.specs.Error.{ErrorParts}
+use Rattle.dhcp_wire.specs.Outcome.{Makes}
+use Rattle.dhcp_stream.specs.HexText.{hex_text, is_lower_digit, word_bytes, words_text}
+use Rattle.dhcp_stream.specs.Line.{HasLine, NoFeed, line}
+use Rattle.dhcp_stream.specs.Reading.{IsReading, GivesReading}
 use Rattle.dhcp_replay.specs.ThinText.{event_text, event_line, events_text, script_text, IsThinEvent, IsThinScript}
-use Rattle.dhcp_replay.specs.WordText.{word_bytes, words_text}
 use Rattle.dhcp_replay.specs.declared.thin_script.ThinEvent.{ThinEvent}
 use Rattle.dhcp_replay.specs.declared.thin_script.ThinEvent.TheVariants as events
 use Rattle.dhcp_replay.specs.declared.thin_script.ThinScript.{ThinScript}
-use Rattle.dhcp_replay.proofs.HexTextLemmas.{AllPass-encode_lower, encode_lower-unique, hex_text-unique}
-use Rattle.dhcp_replay.proofs.LineLemmas.{HasLine-unique, after_same}
-use Rattle.dhcp_replay.proofs.WordLemmas.{IsBytes-word_bytes, words_text-unique}
+use Rattle.dhcp_stream.proofs.HexTextLemmas.{AllPass-encode_lower, encode_lower-unique, hex_text-unique}
+use Rattle.dhcp_stream.proofs.LineLemmas.{HasLine-unique, after_same}
+use Rattle.dhcp_stream.proofs.WordLemmas.{IsBytes-word_bytes, words_text-unique}
 
 -- a lower-case digit is no line feed
 digit-no_feed : (c : ℕ) → is_lower_digit c ≡ true → c ≢ 10

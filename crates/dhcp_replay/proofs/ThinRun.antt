@@ -1,11 +1,11 @@
 -- What is still to be reported in the midst of a thin run, and what an event takes of it.
 use Rattle.std.proofs.Common.{◌≡◌, ℕ, suc, ◌+◌, ◌<◌, ◌≤◌, List, [], ◌∷◌, ◌++◌, length, get_or, drop, Option, Some, None, refl, sym, ap, ◌∙◌, append_assoc, add-one, drop-cons}
 use Rattle.std.proofs.lemmas.List.{append-nil, drop_all}
-use Rattle.dhcp4_msg.specs.declared.kind.DhcpV4MessageType.TheVariants.{Offer, Ack}
+use Rattle.dhcp4_msg.specs.declared.message_type.DhcpV4MessageType.TheVariants.{Offer, Ack}
 use Rattle.dhcp_replay.specs.declared.thin_run.ThinState.{ThinState}
 use Rattle.dhcp_replay.specs.declared.thin_run.ThinState.TheVariants.{InitReboot, Selecting, Done}
 use Rattle.dhcp_replay.specs.declared.thin_script.ThinEvent.{ThinEvent}
-use Rattle.dhcp4_client.specs.Lease.{Lease}
+use Rattle.dhcp4_lease.specs.Lease.{Lease}
 use Rattle.dhcp_replay.specs.declared.thin_output.ThinOutput.{ThinOutput}
 use Rattle.dhcp_replay.specs.declared.thin_script.ThinScript.{ThinScript}
 use Rattle.dhcp_replay.specs.ThinHistory.{transaction_id, granted, first_answer, outputs_of_offer, outputs_of_acknowledgement}

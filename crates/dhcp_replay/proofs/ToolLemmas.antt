@@ -4,7 +4,7 @@ use Rattle.std.specs.Prelude.{IfSome, IsTrue, ◌↔◌}
 use Rattle.std.specs.Str.{bytes_eq}
 use Rattle.std.proofs.lemmas.Slice.Eq.{bytes_eq-Decides}
 use Rattle.dhcp_wire.specs.Fault.{Rose}
-use Rattle.dhcp_replay.specs.declared.whole.TheConstants.{MAX_INPUT}
+use Rattle.dhcp_stream.specs.declared.whole.TheConstants.{MAX_INPUT}
 use Rattle.dhcp_replay.specs.declared.tool.Status.{Status}
 use Rattle.dhcp_replay.specs.declared.tool.Status.TheVariants.{Done, WrongWords, NoScript, ReadFault, WriteFault, NoMemory, TooLong}
 use Rattle.dhcp_replay.specs.Tool.{status_number, IsNoText, AnswersSource}

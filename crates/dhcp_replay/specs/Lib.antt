@@ -1,11 +1,4 @@
-pub mod Stream
-pub mod Memory
-pub mod Whole
-pub mod HexText
-pub mod Reading
-pub mod Line
-pub mod WordText
-pub mod ThinText
 pub mod ThinHistory
 pub mod ThinPoll
+pub mod ThinText
 pub mod Tool

@@ -3,15 +3,15 @@ use Rattle.std.specs.Prelude.{ℕ, ◌+◌, ◌==◌, ◌&&◌, Bool, false, Lis
 use Rattle.std.specs.Option.{option_map_or}
 use Rattle.std.specs.FinMap as map
 use Rattle.dhcp_wire.specs.Field.{◌>>=◌}
-use Rattle.dhcp4_msg.specs.declared.kind.DhcpV4MessageType.{DhcpV4MessageType}
-use Rattle.dhcp4_msg.specs.declared.kind.DhcpV4MessageType.TheVariants.{Offer, Ack}
+use Rattle.dhcp4_msg.specs.declared.message_type.DhcpV4MessageType.{DhcpV4MessageType}
+use Rattle.dhcp4_msg.specs.declared.message_type.DhcpV4MessageType.TheVariants.{Offer, Ack}
 use Rattle.dhcp4_msg.specs.declared.message.DhcpV4Message.{DhcpV4Message}
-use Rattle.dhcp4_msg.specs.Kind.{type_number}
+use Rattle.dhcp4_msg.specs.MessageType.{type_number}
 use Rattle.dhcp4_msg.specs.Options.{OptionMap, message_type}
 use Rattle.dhcp4_msg.specs.Message.{read_message, written_message}
-use Rattle.dhcp4_client.specs.Config.{Config, config_of}
-use Rattle.dhcp4_client.specs.Lease.{Lease, read_lease}
-use Rattle.dhcp4_client.specs.MessageTable as table
+use Rattle.dhcp4_lease.specs.Config.{Config, config_of}
+use Rattle.dhcp4_lease.specs.Lease.{Lease, read_lease}
+use Rattle.dhcp4_lease.specs.MessageTable as table
 use Rattle.dhcp_replay.specs.declared.thin_script.ThinEvent.{ThinEvent}
 use Rattle.dhcp_replay.specs.declared.thin_script.ThinEvent.TheVariants.{Nothing, Payload}
 use Rattle.dhcp_replay.specs.declared.thin_output.ThinLease.{ThinLease}

@@ -1,9 +1,9 @@
 -- What one event does to the client of a thin script.
 use Rattle.std.specs.Prelude.{◌≡◌, ℕ, List, [], ◌∷◌, ◌++◌, Option, Some, None, Result, Ok, Err}
-use Rattle.dhcp_wire.specs.Outcome.{ErrorParts, no_memory}
-use Rattle.dhcp4_msg.specs.declared.kind.DhcpV4MessageType.TheVariants.{Offer, Ack}
+use Rattle.dhcp_wire.specs.Error.{ErrorParts, no_memory}
+use Rattle.dhcp4_msg.specs.declared.message_type.DhcpV4MessageType.TheVariants.{Offer, Ack}
 use Rattle.dhcp4_msg.specs.Message.{written_message}
-use Rattle.dhcp4_client.specs.Lease.{Lease}
+use Rattle.dhcp4_lease.specs.Lease.{Lease}
 use Rattle.dhcp_replay.specs.declared.thin_run.ThinState.{ThinState}
 use Rattle.dhcp_replay.specs.declared.thin_run.ThinState.TheVariants as states
 use Rattle.dhcp_replay.specs.declared.thin_script.ThinEvent.{ThinEvent}

@@ -4,9 +4,8 @@ use Rattle.std.specs.List.{flat_map, join_with_byte}
 use Rattle.std.specs.Fmt.{decimal}
 use Rattle.std.specs.Net.Text.{ipv4_text}
 use Rattle.hex.specs.Hex.{IsBytes, encode_lower}
-use Rattle.dhcp_replay.specs.HexText.{IsMac, hex_text}
-use Rattle.dhcp_replay.specs.Line.{line}
-use Rattle.dhcp_replay.specs.WordText.{AreWords, words_text}
+use Rattle.dhcp_stream.specs.HexText.{IsMac, hex_text, AreWords, words_text}
+use Rattle.dhcp_stream.specs.Line.{line}
 use Rattle.dhcp_replay.specs.declared.thin_script.ThinEvent.{ThinEvent}
 use Rattle.dhcp_replay.specs.declared.thin_script.ThinEvent.TheVariants as events
 use Rattle.dhcp_replay.specs.declared.thin_script.ThinScript.{ThinScript}

@@ -1,8 +1,8 @@
 -- What the program answers: its status, from the words, from what it has read and from what it has written.
 use Rattle.std.specs.Prelude.{◌≡◌, ℕ, ◌≤◌, ◌<◌, ◌+◌, List, [], ◌∷◌, length, drop, codes, Option, option_map, IfSome, Result, Ok, Err}
 use Rattle.dhcp_wire.specs.Fault.{Rose}
-use Rattle.dhcp_replay.specs.Stream.{NoneLeft}
-use Rattle.dhcp_replay.specs.declared.whole.TheConstants.{MAX_INPUT}
+use Rattle.dhcp_stream.specs.Stream.{NoneLeft}
+use Rattle.dhcp_stream.specs.declared.whole.TheConstants.{MAX_INPUT}
 use Rattle.dhcp_replay.specs.declared.thin_script.ThinScript.{ThinScript}
 use Rattle.dhcp_replay.specs.declared.tool.Status.{Status}
 use Rattle.dhcp_replay.specs.declared.tool.Status.TheVariants.{Done, WrongWords, NoScript, ReadFault, WriteFault, NoMemory, TooLong}

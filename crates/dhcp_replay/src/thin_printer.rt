@@ -2,7 +2,7 @@
 
 ghost use Rattle.std.specs.Prelude.{◌≡◌, IfOk, string_bytes};
 ghost use Rattle.dhcp_wire.specs.Outcome.{Makes};
-ghost use Rattle.dhcp_replay.specs.HexText.{hex_text};
+ghost use Rattle.dhcp_stream.specs.HexText.{hex_text};
 ghost use Rattle.dhcp_replay.specs.ThinText.{lease_text, output_text, outputs_text, report_text};
 
 use crate::{ThinLease, ThinOutput, ThinReport};

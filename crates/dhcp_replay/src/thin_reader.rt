@@ -3,12 +3,11 @@
 ghost use Rattle.std.specs.Prelude.{◌≡◌, All};
 ghost use Rattle.dhcp_wire.specs.Outcome.{Makes};
 ghost use Rattle.dhcp_replay.specs.declared.thin_script.ThinScript.{ThinScript};
-ghost use Rattle.dhcp_replay.specs.Reading.{GivesReading};
+ghost use Rattle.dhcp_stream.specs.Reading.{GivesReading};
 ghost use Rattle.dhcp_replay.specs.ThinText.{event_text, events_text, script_text, IsThinEvent, IsThinScript};
 
-use crate::lines::tagged_line;
-use crate::words::words_field;
 use crate::{ThinEvent, ThinScript, hex_field, mac_field};
+use dhcp_stream::{tagged_line, words_field};
 use dhcp_wire::{DhcpError, Sequence};
 use std::alloc::Global;
 

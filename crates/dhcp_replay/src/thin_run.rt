@@ -10,7 +10,7 @@ ghost use Rattle.dhcp_replay.specs.ThinPoll.{polled, Polls};
 
 use crate::{ThinEvent, ThinLease, ThinOutput, ThinReport, ThinScript};
 use dhcp_wire::DhcpError;
-use dhcp4_client::DhcpV4Lease;
+use dhcp4_lease::DhcpV4Lease;
 use dhcp4_msg::DhcpV4MessageType;
 use std::alloc::Global;
 

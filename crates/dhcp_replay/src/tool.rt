@@ -2,13 +2,13 @@
 
 ghost use Rattle.std.specs.Prelude.{◌≡◌, ◌≢◌, ◌≤◌, ◌<◌, ◌⊎◌, ◌↔◌, Some, IfSome, IsTrue, length, map, string_bytes};
 ghost use Rattle.dhcp_wire.specs.Fault.{Rose};
-ghost use Rattle.dhcp_replay.specs.Stream.{behind};
-ghost use Rattle.dhcp_replay.specs.Whole.{TakesFront};
+ghost use Rattle.dhcp_stream.specs.Stream.{behind};
+ghost use Rattle.dhcp_stream.specs.Whole.{TakesFront};
 ghost use Rattle.dhcp_replay.specs.ThinText.{IsThinScript, script_text};
 ghost use Rattle.dhcp_replay.specs.Tool.{status_number, AsksForRun, IsTextOf, IsNoText, printed, HasRead, HasReadTooMany, AnswersText, AnswersSource};
 ghost use Rattle.dhcp_replay.specs.declared.tool.Status.TheVariants.{NoMemory};
 ghost use Rattle.dhcp_replay.specs.declared.thin_script.ThinScript.{ThinScript};
-ghost use Rattle.dhcp_replay.specs.declared.whole.TheConstants.{MAX_INPUT};
+ghost use Rattle.dhcp_stream.specs.declared.whole.TheConstants.{MAX_INPUT};
 
 use crate::{
     Sink, Source, Whole, print_thin_outputs, read_thin_script, read_whole, replay_thin, write_whole,

@@ -2,13 +2,13 @@
 
 ghost use Rattle.std.specs.Prelude.{◌≡◌, []};
 ghost use Rattle.dhcp_wire.specs.Outcome.{Makes};
-ghost use Rattle.dhcp4_client.specs.Lease.{read_lease};
+ghost use Rattle.dhcp4_lease.specs.Lease.{read_lease};
 ghost use Rattle.dhcp_replay.specs.ThinHistory as history;
 
 use crate::ThinEvent;
 use dhcp_clock::WordList;
 use dhcp_wire::{DhcpError, ErrorKind};
-use dhcp4_client::DhcpV4Lease;
+use dhcp4_lease::DhcpV4Lease;
 use dhcp4_msg::{DhcpV4Message, DhcpV4MessageType, DhcpV4OptionCode, DhcpV4Options};
 use std::alloc::Global;
 
@@ -33,7 +33,7 @@ pub fn granted(
 }
 
 // The lease that a message grants there.
-#[tactic(auto, unfolding(crate::specs::ThinHistory::granted_by, dhcp4_msg::specs::Kind::type_number))]
+#[tactic(auto, unfolding(crate::specs::ThinHistory::granted_by, dhcp4_msg::specs::MessageType::type_number))]
 fn granted_by(
     alloc: Global,
     awaited: DhcpV4MessageType,
@@ -52,7 +52,7 @@ fn granted_by(
 }
 
 // Whether options say both T1 and T2.
-#[tactic(auto, unfolding(dhcp4_msg::specs::Code::number_of))]
+#[tactic(auto, unfolding(dhcp4_msg::specs::OptionCode::number_of))]
 fn says_times(options: &DhcpV4Options) -> bool
     ensures { result ≡ history.says_times options.now }
 {

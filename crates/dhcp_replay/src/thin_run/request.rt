@@ -3,12 +3,12 @@
 ghost use Rattle.std.specs.Prelude.{◌≡◌, IfOk, IsTrue};
 ghost use Rattle.dhcp_wire.specs.Outcome.{Makes};
 ghost use Rattle.dhcp4_msg.specs.Message.{written_message};
-ghost use Rattle.dhcp4_client.specs.Config.{is_within_limits};
+ghost use Rattle.dhcp4_lease.specs.Config.{is_within_limits};
 ghost use Rattle.dhcp_replay.specs.ThinHistory as history;
 
 use crate::ThinScript;
 use dhcp_wire::{BufferMut, Bytes, DhcpError};
-use dhcp4_client::{DhcpV4Config, DhcpV4Lease, new_discovery, new_request};
+use dhcp4_lease::{DhcpV4Config, DhcpV4Lease, new_discovery, new_request};
 use dhcp4_msg::DhcpV4Message;
 use std::alloc::Global;
 
@@ -40,7 +40,7 @@ pub fn request(alloc: Global, script: &ThinScript, offer: &DhcpV4Lease) -> Resul
 }
 
 // The configuration of the client.
-#[tactic(auto, unfolding(dhcp4_client::specs::Config::config_of, dhcp4_client::specs::Config::with_mac, dhcp4_client::specs::Config::is_within_limits))]
+#[tactic(auto, unfolding(dhcp4_lease::specs::Config::config_of, dhcp4_lease::specs::Config::with_mac, dhcp4_lease::specs::Config::is_within_limits))]
 fn configuration(alloc: Global, script: &ThinScript) -> Result<DhcpV4Config, DhcpError>
     ensures made { Makes (λ config. config) result (history.configuration script.now) }
     ensures limits { IfOk result (λ config. IsTrue (is_within_limits config)) }

@@ -1,6 +1,6 @@
 -- The codes of the numbers so far.
 use Rattle.std.proofs.Common.{◌≡◌, map, take}
-use Rattle.dhcp4_msg.specs.Code.{code_of}
+use Rattle.dhcp4_msg.specs.OptionCode.{code_of}
 use Rattle.dhcp4_msg.proofs.value.codes_of.Given as goal
 
 abbrev pub invariant-loop-number : goal.invariant-loop-number

@@ -1,6 +1,6 @@
 -- What was written before the failure is a front of all.
 use Rattle.std.proofs.Common.{◌∙◌}
-use Rattle.dhcp4_msg.specs.Code.{number_of}
+use Rattle.dhcp4_msg.specs.OptionCode.{number_of}
 use Rattle.dhcp4_msg.proofs.EmitLemmas.{emits_exit, front_mapped}
 use Rattle.dhcp4_msg.proofs.written.emit_codes.Goals as goal
 

@@ -1,6 +1,6 @@
 -- What was written so far.
 use Rattle.std.proofs.Common.{◌≡◌, ◌++◌, map, take}
-use Rattle.dhcp4_msg.specs.Code.{number_of}
+use Rattle.dhcp4_msg.specs.OptionCode.{number_of}
 use Rattle.dhcp4_msg.proofs.written.emit_codes.Given as goal
 
 abbrev pub invariant-loop-code : goal.invariant-loop-code

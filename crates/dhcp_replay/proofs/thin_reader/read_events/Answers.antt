@@ -1,8 +1,8 @@
 use Rattle.std.proofs.Common.{codes}
 use Rattle.std.proofs.lemmas.List.Elements.{All-push}
-use Rattle.dhcp_replay.specs.Line.{line}
+use Rattle.dhcp_stream.specs.Line.{line}
 use Rattle.dhcp_replay.specs.ThinText.{IsThinEvent}
-use Rattle.dhcp_replay.proofs.LineLemmas.{not_equal}
+use Rattle.dhcp_stream.proofs.LineLemmas.{not_equal}
 use Rattle.dhcp_replay.proofs.ThinLemmas.{AnyEvents-last, AnyEvents-line, AnyEvents-unread, event_lines-push}
 use Rattle.dhcp_replay.proofs.thin_reader.read_events.Goals as goal
 

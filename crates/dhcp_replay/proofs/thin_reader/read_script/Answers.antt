@@ -1,5 +1,5 @@
 use Rattle.dhcp_replay.specs.ThinText.{events_text}
-use Rattle.dhcp_replay.specs.WordText.{words_text}
+use Rattle.dhcp_stream.specs.HexText.{words_text}
 use Rattle.hex.specs.Hex.{encode_lower}
 use Rattle.dhcp_replay.proofs.ThinLemmas.{HasLine-mac, HasLine-words, after_mac, mac-unique, words-unique}
 use Rattle.dhcp_replay.proofs.thin_reader.read_script.Goals as goal

@@ -2,7 +2,7 @@
 use Rattle.std.proofs.Common.{ap, inr, sym, ◌∙◌, Err, ok_or}
 use Rattle.std.proofs.lemmas.Bool.{both_ways}
 use Rattle.std.proofs.lemmas.Result.{err_from_is_err_and}
-use Rattle.dhcp_wire.specs.declared.kind.ErrorKind.TheVariants.{InvalidDhcpMessage}
+use Rattle.dhcp_wire.specs.declared.error.ErrorKind.TheVariants.{InvalidDhcpMessage}
 use Rattle.dhcp4_msg.proofs.RouteLemmas.{routes_more, routes_refused, routes_end, route_at-shorter}
 use Rattle.dhcp4_msg.proofs.route.DhcpV4ClasslessRoute.parse_list.Goals as goal
 

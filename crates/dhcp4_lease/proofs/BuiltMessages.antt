@@ -1,0 +1,154 @@
+-- The messages of the table are ones that read back.
+use Rattle.std.proofs.Common.{◌≡◌, ℕ, zero, suc, ◌<◌, ◌≤◌, ◌^◌, Bool, true, false, ◌==◌, cond, not, List, [], ◌∷◌, ◌++◌, length, replicate, IsTrue, IfSome, Option, Some, None, refl, sym, ◌∙◌, arith, length-append, lit<}
+use Rattle.std.specs.List.{AllByRecursion, list_any}
+use Rattle.std.specs.Cmp.{nat_cmp_total, unsigned_tied}
+use Rattle.std.specs.Ordering.{nat_cmp, eq_by_cmp}
+use Rattle.std.specs.FinMap.{get, insert, empty, get-insert, get-empty}
+use Rattle.std.specs.declared.net.Ipv4Addr.{Ipv4Addr}
+use Rattle.std.proofs.lemmas.Bool.{and_parts, and_from, or_parts, eqb-true, eqb-false, le-leb, leb-true}
+use Rattle.std.proofs.lemmas.List.{length-map}
+use Rattle.std.proofs.lemmas.Str.{IsUtf8-nil}
+use Rattle.std.proofs.lemmas.Option.{none-some, same_Some}
+use Rattle.dhcp_wire.specs.Field.{HasNoZero, FitsField}
+use Rattle.dhcp4_msg.specs.declared.option_code.DhcpV4OptionCode.{DhcpV4OptionCode}
+use Rattle.dhcp4_msg.specs.declared.message_type.DhcpV4MessageType.{DhcpV4MessageType}
+use Rattle.dhcp4_msg.specs.declared.option.DhcpV4Option.{DhcpV4Option}
+use Rattle.dhcp4_msg.specs.declared.option.DhcpV4Option.TheVariants.{HostName, RequestedIpAddress, MessageType, ServerIdentifier, ParameterRequestList, ClientIdentifier}
+use Rattle.dhcp4_msg.specs.OptionCode.{number_of}
+use Rattle.dhcp4_msg.specs.Laws.{IsWhole, FitsOption, ReadsBack, ReadsBackUnder, OptionsReadBack, MessageReadsBack}
+use Rattle.dhcp4_msg.specs.Options.{OptionMap}
+use Rattle.dhcp4_msg.specs.Value.{option_code, option_number, fits, written_value}
+use Rattle.dhcp4_lease.specs.declared.row.Row.{Row}
+use Rattle.dhcp4_lease.specs.declared.row.Subject.{Subject}
+use Rattle.dhcp4_lease.specs.Config.{Config, is_within_limits}
+use Rattle.dhcp4_lease.specs.Laws.{IsSendable, IsSubject, IsRow}
+use Rattle.dhcp4_lease.specs.MessageTable.{named, requested, addressed, options_of, with_options, table_message}
+use Rattle.dhcp4_lease.proofs.OptionLemmas.{host_name_fits}
+
+-- an option that reads back under its own number
+abbrev Stands : DhcpV4Option → Type 0
+Stands option = ReadsBackUnder (option_number option) option
+
+-- where no element passes the test for zero, none is zero
+no_zero : (bytes : List ℕ) → list_any (λ byte. byte == 0) bytes ≡ false → HasNoZero bytes
+no_zero [] none k d below = absurd (omega arith)
+no_zero (byte ∷ bytes) none zero d below = eqb-false byte 0 (or_parts _ _ none).0
+no_zero (byte ∷ bytes) none (suc k) d below = no_zero bytes (or_parts _ _ none).1 k d (omega arith)
+
+-- each option of two lists
+all_of_both : (xs ys : List DhcpV4Option) → AllByRecursion Stands xs → AllByRecursion Stands ys → AllByRecursion Stands (xs ++ ys)
+all_of_both [] ys all others = others
+all_of_both (x ∷ xs) ys all others = (all.0, all_of_both xs ys all.1 others)
+
+-- one more option
+one_more : (kept : OptionMap) (option : DhcpV4Option) → OptionsReadBack kept → Stands option → OptionsReadBack (insert kept (option_number option) option)
+one_more kept option back stands q found is =
+    elim (eq_by_cmp nat_cmp q (option_number option)) as (λ b. eq_by_cmp nat_cmp q (option_number option) ≡ b → cond b (Some option) (get kept q) ≡ Some found → ReadsBackUnder q found) [
+      | true ↦ λ tied is.
+          let same : q ≡ option_number option = eqb-true _ _ (sym (unsigned_tied q (option_number option)) ∙ tied) in
+          rw (same, ← same_Some _ _ is) stands
+      | false ↦ λ _ is. back q found is
+    ] refl (sym (get-insert nat_cmp_total kept (option_number option) option q) ∙ is)
+
+-- options that read back, added to others
+all_added : (list : List DhcpV4Option) (kept : OptionMap) → OptionsReadBack kept → AllByRecursion Stands list → OptionsReadBack (with_options kept list)
+all_added [] kept back all = back
+all_added (option ∷ list) kept back all = all_added list (insert kept (option_number option) option) (one_more kept option back all.0) all.1
+
+-- where there are none
+none_kept : OptionsReadBack empty
+none_kept number option is = absurd (none-some _ (sym (get-empty nat_cmp number) ∙ is))
+
+-- Each kind of option of a row stands.
+
+stands_host_name : (text : List ℕ) → FitsOption text → Stands (HostName text)
+unfolding option_code number_of ReadsBack
+stands_host_name text fits = record { is_byte = lit< tt; is_own = refl; fit = host_name_fits text; reads_back = fits }
+
+stands_requested : (address : Ipv4Addr) → IsWhole address → Stands (RequestedIpAddress address)
+unfolding option_code number_of ReadsBack fits written_value
+stands_requested address whole = record { is_byte = lit< tt; is_own = refl; fit = and_from _ _ (le-leb _ _ (omega arith)) refl; reads_back = whole }
+
+stands_server : (address : Ipv4Addr) → IsWhole address → Stands (ServerIdentifier address)
+unfolding option_code number_of ReadsBack fits written_value
+stands_server address whole = record { is_byte = lit< tt; is_own = refl; fit = and_from _ _ (le-leb _ _ (omega arith)) refl; reads_back = whole }
+
+stands_type : (kind : DhcpV4MessageType) → Stands (MessageType kind)
+unfolding option_code number_of ReadsBack fits written_value
+stands_type kind = record { is_byte = lit< tt; is_own = refl; fit = refl; reads_back = tt }
+
+stands_requests : (codes : List DhcpV4OptionCode) → length codes ≤ 255 → Stands (ParameterRequestList codes)
+unfolding option_code number_of ReadsBack fits written_value
+stands_requests codes few = record { is_byte = lit< tt; is_own = refl; fit = and_from _ _ (le-leb _ _ (omega (arith, length-map codes number_of))) refl; reads_back = tt }
+
+stands_client : (bytes : List ℕ) → length bytes ≤ 255 → Stands (ClientIdentifier bytes)
+unfolding option_code number_of ReadsBack fits written_value
+stands_client bytes few = record { is_byte = lit< tt; is_own = refl; fit = and_from _ _ (le-leb _ _ few) refl; reads_back = tt }
+
+-- The options of a part of a row, where there are any.
+
+all_named : (text : List ℕ) → FitsOption text → AllByRecursion Stands (named text)
+all_named [] fits = tt
+all_named (byte ∷ bytes) fits = (stands_host_name (byte ∷ bytes) fits, tt)
+
+all_requested : (about : Option Subject) → IfSome about IsSubject → AllByRecursion Stands (requested about)
+all_requested None is = tt
+all_requested (Some lease) is = (stands_requested lease.address is.address, tt)
+
+all_addressed : (about : Option Subject) → IfSome about IsSubject → AllByRecursion Stands (addressed about)
+all_addressed None is = tt
+all_addressed (Some lease) is = (stands_server lease.server is.server, tt)
+
+-- The values of a configuration that fit their options.
+record Limits (config : Config) : Type 0 where
+  host_name : FitsOption config.host_name
+  client_id : length config.client_id ≤ 255
+  request_opts : length config.request_opts ≤ 255
+
+-- a configuration within its limits has such values
+limits_of : (config : Config) → IsSendable config → Limits config
+unfolding is_within_limits
+limits_of config is =
+    let parts = and_parts _ _ is.limits in
+    let before = and_parts _ _ parts.0 in
+    let texts = and_parts _ _ before.0 in
+    record {
+      host_name = record { is_short = leb-true _ _ texts.0; is_utf8 = is.host_name; has_no_zero = no_zero config.host_name (fails _ texts.1) };
+      client_id = leb-true _ _ before.1;
+      request_opts = leb-true _ _ parts.1;
+    }
+  where
+    fails : (b : Bool) → IsTrue (not b) → b ≡ false
+    fails b = elim b as (λ b. not b ≡ true → b ≡ false) [ true ↦ λ no. sym no | false ↦ λ no. refl ]
+
+-- each option of a row reads back
+all_options : (config : Config) (row : Row) → Limits config → IsRow row → AllByRecursion Stands (options_of config row)
+all_options config row limits is =
+    all_of_both _ _
+    (all_of_both _ _ (all_of_both _ _ (all_named config.host_name limits.host_name) (all_requested row.about is.about)) (stands_type row.kind, all_addressed row.about is.about))
+    (stands_requests config.request_opts limits.request_opts, (stands_client config.client_id limits.client_id, tt))
+
+-- the empty text fits each field
+no_text : (n : ℕ) → 0 < n → FitsField n []
+no_text n some = record { is_shorter = some; is_utf8 = IsUtf8-nil; has_no_zero = λ k d below. absurd (omega arith) }
+
+-- the message of a row is one that reads back
+pub table_message_back : (id : ℕ) (config : Config) (row : Row) → id < 2 ^ 32 → IsSendable config → IsRow row → MessageReadsBack (table_message id config row)
+unfolding table_message
+table_message_back id config row small sendable is = record {
+  op = lit< tt;
+  htype = lit< tt;
+  hlen = lit< tt;
+  hops = lit< tt;
+  xid = small;
+  secs = lit< tt;
+  flags = lit< tt;
+  ciaddr = is.ciaddr;
+  yiaddr = refl;
+  siaddr = refl;
+  giaddr = refl;
+  chaddr = omega (arith, sendable.src_mac, length-append config.src_mac (replicate 10 0));
+  sname = no_text 64 (lit< tt);
+  file = no_text 128 (lit< tt);
+  options = all_added (options_of config row) empty none_kept (all_options config row (limits_of config sendable) is);
+}

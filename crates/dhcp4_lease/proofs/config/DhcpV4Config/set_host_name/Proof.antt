@@ -1,0 +1,13 @@
+-- `set_host_name` answers what its step answers, and its configuration ends as the step says.
+use Rattle.dhcp_wire.proofs.SetterWalks.{allocator, text, setter2}
+use Rattle.dhcp4_lease.specs.contracts.config.DhcpV4Config.set_host_name as setter
+use Rattle.dhcp4_lease.proofs.Configs.{configs}
+use Rattle.dhcp4_lease.proofs.config.DhcpV4Config.set_host_name.Code as code
+use Rattle.dhcp4_lease.proofs.config.DhcpV4Config.set_host_name.Statement.{statement}
+use Rattle.dhcp4_lease.proofs.config.DhcpV4Config.put_host_name.Met.{met}
+
+pub set_host_name_spec : {M : Type 1} → statement M
+set_host_name_spec 𝓤 𝓛 𝓜 𝓡 wired =
+    setter2 𝓛 configs 𝓜 𝓡 (code.calls-dhcp_wire::setter_answer 𝓡.env wired) (allocator 𝓛) (text 𝓛 1 tt)
+    (setter.clauses 𝓛 𝓜.mem 𝓡.returns) (code.unfolded 𝓤 𝓛.H 𝓜 𝓡 wired)
+    (met 𝓤 𝓛 𝓜 𝓡 (code.calls-dhcp4_lease::config::DhcpV4Config::put_host_name 𝓡.env wired))

@@ -1,0 +1,193 @@
+-- A lease, as it is read from a message: RFC 2131 sections 2 and 4.4.5, RFC 2132, RFC 3442.
+use Rattle.std.specs.Prelude.{◌≡◌, ◌≤◌, ℕ, ◌+◌, ◌-◌, ◌*◌, ◌/◌, ◌%◌, ◌&&◌, nat_lt, nat_le, Bool, List, drop, Option, Some, None, unwrap_or, replicate, Result, ok_or, if◌then◌else◌}
+use Rattle.std.specs.Option.{option_or}
+use Rattle.std.specs.FinMap as map
+use Rattle.std.specs.declared.net.Ipv4Addr.{Ipv4Addr}
+use Rattle.dhcp_wire.specs.Field.{◌>>=◌}
+use Rattle.dhcp_wire.specs.Error.{ErrorParts}
+use Rattle.dhcp_wire.specs.Outcome.{Gives}
+use Rattle.dhcp_wire.specs.declared.error.ErrorKind.TheVariants.{InvalidDhcpMessage}
+use Rattle.dhcp_clock.specs.Words.{next_of}
+use Rattle.dhcp4_msg.specs.declared.message.DhcpV4Message.{DhcpV4Message}
+use Rattle.dhcp4_msg.specs.declared.option.DhcpV4Option.{DhcpV4Option}
+use Rattle.dhcp4_msg.specs.declared.option.DhcpV4Option.TheVariants.{SubnetMask, Router, DomainNameServer, HostName, DomainName, InterfaceMtu, BroadcastAddress, NtpServers, IpAddressLeaseTime, ServerIdentifier, RenewalTime, RebindingTime, ClasslessStaticRoute, Unknown}
+use Rattle.dhcp4_msg.specs.declared.route.DhcpV4ClasslessRoute.{DhcpV4ClasslessRoute}
+use Rattle.dhcp4_lease.specs.declared.lease.times.LeaseTimes.{LeaseTimes}
+use Rattle.dhcp4_msg.specs.Message.{no_address}
+use Rattle.dhcp4_msg.specs.Options.{OptionMap}
+use Rattle.dhcp4_msg.specs.Route.{routes_of}
+
+-- what contracts see of a lease; times are in seconds from its acknowledgement
+pub record Lease : Type 0 where
+  pub siaddr : Ipv4Addr
+  pub yiaddr : Ipv4Addr
+  pub t1_sec : ℕ
+  pub t2_sec : ℕ
+  pub lease_time_sec : ℕ
+  pub srv_id : Ipv4Addr
+  pub subnet_mask : Ipv4Addr
+  pub broadcast_addr : Option Ipv4Addr
+  pub dns_srvs : Option (List Ipv4Addr)
+  pub gateways : Option (List Ipv4Addr)
+  pub ntp_srvs : Option (List Ipv4Addr)
+  pub mtu : Option ℕ
+  pub host_name : Option (List ℕ)
+  pub domain_name : Option (List ℕ)
+  pub classless_routes : Option (List DhcpV4ClasslessRoute)
+  pub srv_mac : List ℕ
+  pub options : OptionMap
+
+-- ---- what options say, by the kind of their value
+
+-- the seconds of a time
+abbrev pub seconds_in : DhcpV4Option → Option ℕ
+seconds_in (IpAddressLeaseTime seconds) = Some seconds
+seconds_in (RenewalTime seconds) = Some seconds
+seconds_in (RebindingTime seconds) = Some seconds
+seconds_in _ = None
+
+-- one address
+abbrev pub address_in : DhcpV4Option → Option Ipv4Addr
+address_in (SubnetMask address) = Some address
+address_in (BroadcastAddress address) = Some address
+address_in (ServerIdentifier address) = Some address
+address_in _ = None
+
+-- a list of addresses
+abbrev pub addresses_in : DhcpV4Option → Option (List Ipv4Addr)
+addresses_in (Router addresses) = Some addresses
+addresses_in (DomainNameServer addresses) = Some addresses
+addresses_in (NtpServers addresses) = Some addresses
+addresses_in _ = None
+
+-- a text
+abbrev pub text_in : DhcpV4Option → Option (List ℕ)
+text_in (HostName text) = Some text
+text_in (DomainName text) = Some text
+text_in _ = None
+
+-- a size
+abbrev pub size_in : DhcpV4Option → Option ℕ
+size_in (InterfaceMtu size) = Some size
+size_in _ = None
+
+-- routes; an option that isn't known may have them as its bytes
+abbrev pub routes_in : DhcpV4Option → Option (List DhcpV4ClasslessRoute)
+routes_in (ClasslessStaticRoute routes) = Some routes
+routes_in (Unknown option) = routes_of option.raw
+routes_in _ = None
+
+-- what the option of this number says
+abbrev pub said_by : {X : Type 0} → (DhcpV4Option → Option X) → OptionMap → ℕ → Option X
+said_by says options number = map.get options number >>= says
+
+-- the routes of option 121, RFC 3442; where it is absent those of option 249, in which some servers send them
+unfoldable pub classless_routes : OptionMap → Option (List DhcpV4ClasslessRoute)
+classless_routes options = option_or (map.get options 121) (map.get options 249) >>= routes_in
+
+-- ---- the times, RFC 2131 section 4.4.5
+
+-- a value, and the words that are left once it is drawn
+pub record Drawn (X : Type 0) : Type 0 where
+  pub value : X
+  pub left : List ℕ
+
+-- About this time: from 20 seconds on a word moves it by 2 seconds less to 1 second more; a shorter one takes no word.
+abbrev pub drawn_about : ℕ → List ℕ → Drawn ℕ
+drawn_about base words =
+    if nat_lt base 20 then record { value = base; left = words }
+    else record { value = base + next_of words % 4 - 2; left = drop 1 words }
+
+-- the time that an option says, or else one about this long
+unfoldable pub said_or_drawn : Option ℕ → ℕ → List ℕ → Drawn ℕ
+said_or_drawn (Some seconds) base words = record { value = seconds; left = words }
+said_or_drawn None base words = drawn_about base words
+
+-- the times of a lease that lasts so long: T1 is option 58, or about half of it; T2 is option 59, or about seven eighths of it
+unfoldable pub times_of : OptionMap → ℕ → List ℕ → Drawn LeaseTimes
+times_of options lease_time words =
+    let t1 = said_or_drawn (said_by seconds_in options 58) (lease_time / 2) words in
+    let t2 = said_or_drawn (said_by seconds_in options 59) (7 * lease_time / 8) t1.left in
+    record { value = record { t1_sec = t1.value; t2_sec = t2.value; lease_time_sec = lease_time }; left = t2.left }
+
+-- whether a lease is renewed before it is rebound, and that before it ends
+abbrev pub are_in_order : LeaseTimes → Bool
+are_in_order times = nat_le times.t1_sec times.t2_sec && nat_le times.t2_sec times.lease_time_sec
+
+-- ---- the lease
+
+-- every address and time zero, and nothing else
+unfoldable pub empty_lease : Lease
+empty_lease = record {
+  siaddr = no_address;
+  yiaddr = no_address;
+  t1_sec = 0;
+  t2_sec = 0;
+  lease_time_sec = 0;
+  srv_id = no_address;
+  subnet_mask = no_address;
+  broadcast_addr = None;
+  dns_srvs = None;
+  gateways = None;
+  ntp_srvs = None;
+  mtu = None;
+  host_name = None;
+  domain_name = None;
+  classless_routes = None;
+  srv_mac = replicate 6 255;
+  options = map.empty;
+}
+
+-- the lease of a message with these times
+unfoldable pub lease_with : DhcpV4Message → LeaseTimes → Lease
+lease_with message times = record {
+  siaddr = message.siaddr;
+  yiaddr = message.yiaddr;
+  t1_sec = times.t1_sec;
+  t2_sec = times.t2_sec;
+  lease_time_sec = times.lease_time_sec;
+  srv_id = unwrap_or (said_by address_in message.options 54) no_address;
+  subnet_mask = unwrap_or (said_by address_in message.options 1) no_address;
+  broadcast_addr = said_by address_in message.options 28;
+  dns_srvs = said_by addresses_in message.options 6;
+  gateways = said_by addresses_in message.options 3;
+  ntp_srvs = said_by addresses_in message.options 42;
+  mtu = said_by size_in message.options 26;
+  host_name = said_by text_in message.options 12;
+  domain_name = said_by text_in message.options 15;
+  classless_routes = classless_routes message.options;
+  srv_mac = replicate 6 255;
+  options = message.options;
+}
+
+-- the times of a message whose option 51 says its lease time: none where they aren't in order
+abbrev pub ordered_times : OptionMap → List ℕ → Option ℕ → Drawn (Option LeaseTimes)
+ordered_times options words None = record { value = None; left = words }
+ordered_times options words (Some lease_time) =
+    let times = times_of options lease_time words in
+    record { value = if are_in_order times.value then Some times.value else None; left = times.left }
+
+-- the times of a message, if it has a lease time and its times are in order
+unfoldable pub read_times : OptionMap → List ℕ → Drawn (Option LeaseTimes)
+read_times options words = ordered_times options words (said_by seconds_in options 51)
+
+-- the lease that a message grants, if it grants one
+abbrev pub read_lease : DhcpV4Message → List ℕ → Option Lease
+read_lease message words = (read_times message.options words).value >>= λ times. Some (lease_with message times)
+
+-- A draw from words that were `before` and are `after`: where they are told, the value and the words left are the definition's.
+abbrev pub Draws : {X : Type 0} → Option (List ℕ) → X → Option (List ℕ) → (List ℕ → Drawn X) → Type 0
+Draws None value after expected = Unit {0}
+Draws (Some words) value after expected = (value ≡ (expected words).value) × (after ≡ Some (expected words).left)
+
+-- The read of a lease: where the words are told, the lease of the message or the refusal, or want of memory; and the words left, also
+-- after a refusal and after want of memory.
+abbrev pub ReadsLease : Option (List ℕ) → Result Lease ErrorParts → Option (List ℕ) → DhcpV4Message → Type 0
+ReadsLease None result after message = Unit {0}
+ReadsLease (Some words) result after message =
+    Gives (λ lease. lease) result (ok_or (read_lease message words) InvalidDhcpMessage)
+    × (after ≡ Some (read_times message.options words).left)
+
+-- a lease is renewed before it is rebound, and that before it ends
+abbrev pub IsInOrder : Lease → Type 0
+IsInOrder lease = (lease.t1_sec ≤ lease.t2_sec) × (lease.t2_sec ≤ lease.lease_time_sec)

@@ -1,0 +1,5 @@
+pub mod Config
+pub mod Laws
+pub mod Lease
+pub mod MessageTable
+pub mod Setter

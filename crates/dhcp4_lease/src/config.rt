@@ -1,0 +1,328 @@
+//! The configuration of a client.
+
+mod setters;
+
+ghost use Rattle.std.specs.Prelude.{◌≡◌, [], ◌∷◌, ◌++◌, map, IfOk, Ok};
+ghost use Rattle.std.specs.Borrow.{sem};
+ghost use Rattle.dhcp_wire.specs.Outcome.{Answers, Gives, Makes};
+ghost use Rattle.dhcp4_msg.specs.OptionCode.{code_of};
+ghost use Rattle.dhcp4_lease.specs.Setter.{UnchangedIfRefused};
+ghost use Rattle.dhcp4_lease.specs.Config.{
+  config_of,
+  is_within_limits,
+  mac_of_bytes,
+  mac_of_text,
+  numbers_of,
+  proxy_config,
+  rising,
+  rising_codes,
+  with_host_name_as_client_id,
+  with_mac,
+};
+
+use dhcp_wire::{Bytes, DhcpError, ErrorKind, FixedText, Sequence, Text, parse_mac, setter_answer};
+use dhcp4_msg::DhcpV4OptionCode;
+use std::alloc::Global;
+use std::collections::BTreeSet;
+use std::marker::Model;
+
+// The numbers of the options that a client usually asks for.
+const USUAL_NUMBERS: [u8; 9] = [12, 1, 3, 6, 15, 26, 42, 121, 249];
+
+/// The configuration of a client. Contracts see it as the record of its fields.
+#[derive(Debug, PartialEq, Eq, Drop)]
+pub struct DhcpV4Config {
+    /// The name of the interface.
+    pub iface_name: Text,
+    /// The index of the interface; 0 is none.
+    pub iface_index: u32,
+    /// Whether the client asks for another host, whose address its packets then come from.
+    pub is_proxy: bool,
+    /// How long the client stays in a state without a lease before it gives up, in seconds; 0 is for ever.
+    pub timeout_sec: u32,
+    pub(crate) src_mac: [u8; 6],
+    pub(crate) client_id: Bytes,
+    pub(crate) host_name: Text,
+    pub(crate) request_opts: Sequence<DhcpV4OptionCode>,
+}
+
+impl Model for DhcpV4Config {
+    ghost use Rattle.dhcp4_lease.specs.Config.{Config};
+
+    ghost Value = { Config };
+
+    ghost view = { λ config. record {
+      iface_name = config.iface_name;
+      iface_index = config.iface_index;
+      is_proxy = config.is_proxy;
+      timeout_sec = config.timeout_sec;
+      src_mac = config.src_mac;
+      client_id = config.client_id;
+      host_name = config.host_name;
+      request_opts = config.request_opts;
+    } };
+
+    ghost inverse = { λ seen. record {
+      iface_name = seen.iface_name;
+      iface_index = seen.iface_index;
+      is_proxy = seen.is_proxy;
+      timeout_sec = seen.timeout_sec;
+      src_mac = seen.src_mac;
+      client_id = seen.client_id;
+      host_name = seen.host_name;
+      request_opts = seen.request_opts;
+    } };
+}
+
+impl DhcpV4Config {
+    /// A configuration with nothing set: no interface, the Ethernet address zero, and the options that are usually asked for.
+    pub fn empty(alloc: Global) -> Result<Self, DhcpError>
+        ensures { Makes (λ config. config) result (config_of []) }
+    {
+        DhcpV4Config::new(alloc, "")
+    }
+
+    /// A configuration of the interface of this name, with nothing else set.
+    #[tactic(auto, unfolding(crate::specs::Config::config_of))]
+    pub fn new(alloc: Global, iface_name: &str) -> Result<Self, DhcpError>
+        ensures { Makes (λ config. config) result (config_of iface_name.now) }
+    {
+        Ok(DhcpV4Config {
+            iface_name: Text::from_str(alloc, iface_name)?,
+            iface_index: 0,
+            is_proxy: false,
+            timeout_sec: 0,
+            src_mac: [0; 6],
+            client_id: Bytes::new(alloc),
+            host_name: Text::new(alloc),
+            request_opts: codes_of(alloc, &USUAL_NUMBERS)?,
+        })
+    }
+
+    /// A configuration that asks for another host, of this Ethernet address, on the interface of this name. `InvalidArgument`
+    /// where the text is no bytes in hex with colons between them, `NotSupported` exactly where they are not six.
+    #[tactic(auto, unfolding(crate::specs::Config::with_mac))]
+    pub fn new_proxy(
+        alloc: Global,
+        out_iface_name: &str,
+        proxy_mac: &str,
+    ) -> Result<Self, DhcpError>
+        ensures { Gives (λ config. config) result (proxy_config out_iface_name.now proxy_mac.now) }
+    {
+        let src_mac = mac_of_text(alloc, proxy_mac)?;
+        let mut config = DhcpV4Config::new(alloc, out_iface_name)?;
+        config.is_proxy = true;
+        config.src_mac = src_mac;
+        Ok(config)
+    }
+
+    /// Whether its values fit their options, as the client and its messages want: the host name has at most 254 bytes and no
+    /// zero byte, the client identifier has at most 255 bytes, and at most 255 options are asked for.
+    #[tactic(auto, unfolding(crate::specs::Config::is_within_limits))]
+    pub fn is_within_limits(&self) -> bool
+        ensures { result ≡ is_within_limits self.now }
+    {
+        self.host_name.len() <= 254
+            && !self.host_name.as_str().as_bytes().contains(&0)
+            && self.client_id.len() <= 255
+            && self.request_opts.len() <= 255
+    }
+
+    /// A copy.
+    pub fn try_clone(&self, alloc: Global) -> Result<Self, DhcpError>
+        ensures { Makes (λ config. config) result self.now }
+    {
+        Ok(DhcpV4Config {
+            iface_name: self.iface_name.try_clone(alloc)?,
+            iface_index: self.iface_index,
+            is_proxy: self.is_proxy,
+            timeout_sec: self.timeout_sec,
+            src_mac: self.src_mac,
+            client_id: self.client_id.try_clone(alloc)?,
+            host_name: self.host_name.try_clone(alloc)?,
+            request_opts: self.request_opts.try_clone(alloc)?,
+        })
+    }
+
+    /// Sets the index of the interface.
+    pub fn set_iface_index(&mut self, index: u32) -> &mut Self
+        ensures set { result.now ≡ record self.old { iface_index = index } }
+        ensures same { result.ghost_name ≡ self.entry.ghost_name }
+    {
+        self.iface_index = index;
+        self
+    }
+
+    /// Sets how long the client stays in a state without a lease, in seconds; 0 is for ever.
+    pub fn set_timeout_sec(&mut self, timeout_sec: u32) -> &mut Self
+        ensures set { result.now ≡ record self.old { timeout_sec = timeout_sec } }
+        ensures same { result.ghost_name ≡ self.entry.ghost_name }
+    {
+        self.timeout_sec = timeout_sec;
+        self
+    }
+
+    /// Sets the Ethernet address from a text as `01:02:2a:2c:f7:04`. `InvalidArgument` where it is no bytes in hex with colons
+    /// between them, `NotSupported` exactly where they are not six; after an error nothing has changed.
+    pub fn set_iface_mac(&mut self, alloc: Global, mac: &str) -> Result<&mut Self, DhcpError>
+        ensures set { Gives (λ config. config.now) result (with_mac self.old (mac_of_text mac.now)) }
+        ensures same { IfOk result (λ config. config.ghost_name ≡ self.entry.ghost_name) }
+        ensures* refused { sem 𝓛 (UnchangedIfRefused self.entry result) }
+    {
+        setter_answer(self.put_mac_text(alloc, mac))
+    }
+
+    /// Sets the Ethernet address. `NotSupported` exactly where it is not six bytes; after an error nothing has changed.
+    pub fn set_iface_mac_raw(&mut self, mac: &[u8]) -> Result<&mut Self, DhcpError>
+        ensures set { Answers (λ config. config.now) result (with_mac self.old (mac_of_bytes mac.now)) }
+        ensures same { IfOk result (λ config. config.ghost_name ≡ self.entry.ghost_name) }
+        ensures* refused { sem 𝓛 (UnchangedIfRefused self.entry result) }
+    {
+        setter_answer(self.put_mac(mac))
+    }
+
+    /// Sets the host name, which the client sends as option 12 where it isn't empty. After an error nothing has changed.
+    pub fn set_host_name(&mut self, alloc: Global, host_name: &str) -> Result<&mut Self, DhcpError>
+        ensures set { Makes (λ config. config.now) result (record self.old { host_name = host_name.now }) }
+        ensures same { IfOk result (λ config. config.ghost_name ≡ self.entry.ghost_name) }
+        ensures* refused { sem 𝓛 (UnchangedIfRefused self.entry result) }
+    {
+        setter_answer(self.put_host_name(alloc, host_name))
+    }
+
+    /// Sets the client identifier, option 61: its type, then its bytes, RFC 2132 section 9.14. After an error nothing has changed.
+    pub fn set_client_id(
+        &mut self,
+        alloc: Global,
+        client_id_type: u8,
+        client_id: &[u8],
+    ) -> Result<&mut Self, DhcpError>
+        ensures set { Makes (λ config. config.now) result (record self.old { client_id = client_id_type ∷ client_id.now }) }
+        ensures same { IfOk result (λ config. config.ghost_name ≡ self.entry.ghost_name) }
+        ensures* refused { sem 𝓛 (UnchangedIfRefused self.entry result) }
+    {
+        setter_answer(self.put_client_id(alloc, client_id_type, client_id))
+    }
+
+    /// Takes the Ethernet address for the client identifier, of type 1. After an error nothing has changed.
+    pub fn use_mac_as_client_id(&mut self, alloc: Global) -> Result<&mut Self, DhcpError>
+        ensures set { Makes (λ config. config.now) result (record self.old { client_id = 1 ∷ self.old.src_mac }) }
+        ensures same { IfOk result (λ config. config.ghost_name ≡ self.entry.ghost_name) }
+        ensures* refused { sem 𝓛 (UnchangedIfRefused self.entry result) }
+    {
+        setter_answer(self.put_mac_as_client_id(alloc))
+    }
+
+    /// Takes the host name for the client identifier, of type 0; where there is none it changes nothing. Nor does an error.
+    pub fn use_host_name_as_client_id(&mut self, alloc: Global) -> Result<&mut Self, DhcpError>
+        ensures set { Makes (λ config. config.now) result (with_host_name_as_client_id self.old) }
+        ensures same { IfOk result (λ config. config.ghost_name ≡ self.entry.ghost_name) }
+        ensures* refused { sem 𝓛 (UnchangedIfRefused self.entry result) }
+    {
+        setter_answer(self.put_host_name_as_client_id(alloc))
+    }
+
+    /// Asks for the options of these numbers too; the options asked for are then in rising order, each once. After an error
+    /// nothing has changed.
+    pub fn request_extra_dhcp_opts(
+        &mut self,
+        alloc: Global,
+        opts: &[u8],
+    ) -> Result<&mut Self, DhcpError>
+        ensures set { Makes (λ config. config.now) result
+            (record self.old { request_opts = rising_codes (numbers_of self.old.request_opts ++ opts.now) }) }
+        ensures same { IfOk result (λ config. config.ghost_name ≡ self.entry.ghost_name) }
+        ensures* refused { sem 𝓛 (UnchangedIfRefused self.entry result) }
+    {
+        setter_answer(self.put_extra_opts(alloc, opts))
+    }
+
+    /// Asks for the options of these numbers alone, in rising order, each once. After an error nothing has changed.
+    pub fn override_request_dhcp_opts(
+        &mut self,
+        alloc: Global,
+        opts: &[u8],
+    ) -> Result<&mut Self, DhcpError>
+        ensures set { Makes (λ config. config.now) result (record self.old { request_opts = rising_codes opts.now }) }
+        ensures same { IfOk result (λ config. config.ghost_name ≡ self.entry.ghost_name) }
+        ensures* refused { sem 𝓛 (UnchangedIfRefused self.entry result) }
+    {
+        setter_answer(self.put_opts(alloc, opts))
+    }
+}
+
+// The Ethernet address that a text writes.
+#[tactic(auto, unfolding(crate::specs::Config::mac_of_text))]
+pub(crate) fn mac_of_text(alloc: Global, mac: &str) -> Result<[u8; 6], DhcpError>
+    ensures { Gives (λ mac. mac) result (mac_of_text mac.now) }
+{
+    let bytes = parse_mac(alloc, mac)?;
+    mac_of_bytes(bytes.as_slice())
+}
+
+// The Ethernet address of these bytes, of which there have to be six.
+pub(crate) fn mac_of_bytes(bytes: &[u8]) -> Result<[u8; 6], DhcpError>
+    ensures { Answers (λ mac. mac) result (mac_of_bytes bytes.now) }
+{
+    if bytes.len() != 6 {
+        return Err(DhcpError::new_fixed(ErrorKind::NotSupported, FixedText::Mac));
+    }
+    let mut mac = [0; 6];
+    mac.copy_from_slice(bytes);
+    Ok(mac)
+}
+
+// This byte and then these.
+pub(crate) fn joined(alloc: Global, first: u8, bytes: &[u8]) -> Result<Bytes, DhcpError>
+    ensures { Makes (λ joined. joined) result (first ∷ bytes.now) }
+{
+    let mut joined = Vec::new(alloc);
+    joined.push(first)?;
+    joined.extend_from_slice(bytes)?;
+    Ok(Bytes::from(joined))
+}
+
+// The numbers of these codes.
+pub(crate) fn numbers_of(alloc: Global, asked: &[DhcpV4OptionCode]) -> Result<Vec<u8>, DhcpError>
+    ensures { Makes (λ numbers. numbers.items) result (numbers_of asked.now) }
+{
+    let mut numbers = Vec::new(alloc);
+    for code in asked {
+        numbers.push(u8::from(*code))?;
+    }
+    Ok(numbers)
+}
+
+// The codes of these numbers.
+fn codes_of(alloc: Global, numbers: &[u8]) -> Result<Sequence<DhcpV4OptionCode>, DhcpError>
+    ensures { Makes (λ codes. codes) result (map code_of numbers.now) }
+{
+    let mut codes = Sequence::new(alloc);
+    for number in numbers {
+        codes.push(DhcpV4OptionCode::from(*number))?;
+    }
+    Ok(codes)
+}
+
+// The codes of these numbers in rising order, each once.
+#[tactic(auto, unfolding(crate::specs::Config::rising_codes))]
+pub(crate) fn rising_codes(
+    alloc: Global,
+    numbers: &[u8],
+) -> Result<Sequence<DhcpV4OptionCode>, DhcpError>
+    ensures { Makes (λ codes. codes) result (rising_codes numbers.now) }
+{
+    let rising = rising(alloc, numbers)?;
+    codes_of(alloc, rising.as_slice())
+}
+
+// These numbers in rising order, each once.
+fn rising(alloc: Global, numbers: &[u8]) -> Result<Vec<u8>, DhcpError>
+    ensures { Makes (λ rising. rising.items) result (rising numbers.now) }
+{
+    let mut kept = BTreeSet::new(alloc);
+    for number in numbers {
+        kept.insert(*number)?;
+    }
+    Ok(kept.into_iter().collect(alloc)?)
+}

@@ -1,0 +1,257 @@
+//! A lease.
+
+mod options;
+mod times;
+
+ghost use Rattle.std.specs.Prelude.{◌≡◌, IfOk, None, count_ones, option_map, replicate};
+ghost use Rattle.std.specs.FinMap as map;
+ghost use Rattle.std.specs.Net.Addr.{ipv4_bits};
+ghost use Rattle.std.specs.Vec.{vec_items};
+ghost use Rattle.dhcp_wire.specs.Outcome.{Makes};
+ghost use Rattle.dhcp4_msg.specs.Message.{no_address};
+ghost use Rattle.dhcp4_msg.specs.Value.{written_option};
+ghost use Rattle.dhcp4_lease.specs.Lease.{IsInOrder, ReadsLease, empty_lease, lease_with};
+
+use self::options::{address, addresses, routes, size, text};
+use self::times::{LeaseTimes, read_times};
+use dhcp_clock::Words;
+use dhcp_wire::{BROADCAST_MAC_ADDRESS, DhcpError, ErrorKind, FixedText, Sequence, Text};
+use dhcp4_msg::{DhcpV4ClasslessRoute, DhcpV4Message, DhcpV4OptionCode, DhcpV4Options};
+use std::alloc::Global;
+use std::marker::Model;
+use std::net::Ipv4Addr;
+
+/// A lease. Contracts see it as the record of its fields.
+#[derive(Debug, PartialEq, Drop)]
+pub struct DhcpV4Lease {
+    /// The address of the next server, of the message's header; servers often leave it 0.0.0.0.
+    pub siaddr: Ipv4Addr,
+    /// The address that is leased.
+    pub yiaddr: Ipv4Addr,
+    /// T1: when it is renewed, in seconds.
+    pub t1_sec: u32,
+    /// T2: when it is rebound, in seconds; not before T1.
+    pub t2_sec: u32,
+    /// When it ends, in seconds; not before T2.
+    pub lease_time_sec: u32,
+    /// The server identifier, option 54; 0.0.0.0 where it is absent.
+    pub srv_id: Ipv4Addr,
+    /// The subnet mask, option 1; 0.0.0.0 where it is absent.
+    pub subnet_mask: Ipv4Addr,
+    /// The broadcast address, option 28.
+    pub broadcast_addr: Option<Ipv4Addr>,
+    /// The name servers, option 6.
+    pub dns_srvs: Option<Sequence<Ipv4Addr>>,
+    /// The routers, option 3.
+    pub gateways: Option<Sequence<Ipv4Addr>>,
+    /// The time servers, option 42.
+    pub ntp_srvs: Option<Sequence<Ipv4Addr>>,
+    /// The greatest size of a packet on the interface, option 26, in bytes.
+    pub mtu: Option<u16>,
+    /// The host name, option 12.
+    pub host_name: Option<Text>,
+    /// The domain, option 15.
+    pub domain_name: Option<Text>,
+    /// The routes of option 121, or of option 249 where that is absent.
+    pub classless_routes: Option<Sequence<DhcpV4ClasslessRoute>>,
+    /// The server's Ethernet address: always all ones.
+    pub srv_mac: [u8; 6],
+    options: DhcpV4Options,
+}
+
+impl Model for DhcpV4Lease {
+    ghost use Rattle.dhcp4_lease.specs.Lease.{Lease};
+    ghost use Rattle.dhcp4_msg.specs.contracts.options.DhcpV4Options as option_map;
+    ghost use Rattle.std.specs.Coded.{codes};
+
+    ghost Value = { Lease };
+
+    ghost coded = { Prim.hlevel (codes, option_map.the_row.coded) };
+
+    ghost view = { λ lease. record {
+      siaddr = lease.siaddr;
+      yiaddr = lease.yiaddr;
+      t1_sec = lease.t1_sec;
+      t2_sec = lease.t2_sec;
+      lease_time_sec = lease.lease_time_sec;
+      srv_id = lease.srv_id;
+      subnet_mask = lease.subnet_mask;
+      broadcast_addr = lease.broadcast_addr;
+      dns_srvs = lease.dns_srvs;
+      gateways = lease.gateways;
+      ntp_srvs = lease.ntp_srvs;
+      mtu = lease.mtu;
+      host_name = lease.host_name;
+      domain_name = lease.domain_name;
+      classless_routes = lease.classless_routes;
+      srv_mac = lease.srv_mac;
+      options = lease.options;
+    } };
+
+    ghost inverse = { λ seen. record {
+      siaddr = seen.siaddr;
+      yiaddr = seen.yiaddr;
+      t1_sec = seen.t1_sec;
+      t2_sec = seen.t2_sec;
+      lease_time_sec = seen.lease_time_sec;
+      srv_id = seen.srv_id;
+      subnet_mask = seen.subnet_mask;
+      broadcast_addr = seen.broadcast_addr;
+      dns_srvs = seen.dns_srvs;
+      gateways = seen.gateways;
+      ntp_srvs = seen.ntp_srvs;
+      mtu = seen.mtu;
+      host_name = seen.host_name;
+      domain_name = seen.domain_name;
+      classless_routes = seen.classless_routes;
+      srv_mac = seen.srv_mac;
+      options = seen.options;
+    } };
+}
+
+impl DhcpV4Lease {
+    /// A lease with every address and time zero and nothing else; takes no memory.
+    #[tactic(auto, unfolding(crate::specs::Lease::empty_lease))]
+    pub fn empty(alloc: Global) -> Self
+        ensures { result ≡ empty_lease }
+    {
+        DhcpV4Lease {
+            siaddr: Ipv4Addr::UNSPECIFIED,
+            yiaddr: Ipv4Addr::UNSPECIFIED,
+            t1_sec: 0,
+            t2_sec: 0,
+            lease_time_sec: 0,
+            srv_id: Ipv4Addr::UNSPECIFIED,
+            subnet_mask: Ipv4Addr::UNSPECIFIED,
+            broadcast_addr: None,
+            dns_srvs: None,
+            gateways: None,
+            ntp_srvs: None,
+            mtu: None,
+            host_name: None,
+            domain_name: None,
+            classless_routes: None,
+            srv_mac: BROADCAST_MAC_ADDRESS,
+            options: DhcpV4Options::new(alloc),
+        }
+    }
+
+    /// The lease that a message grants. T1 and T2 are options 58 and 59; where one is absent it is half, or seven eighths, of the
+    /// lease time, and from 20 seconds on a word of `words` moves it by 2 seconds less to 1 second more, T1 first.
+    /// `InvalidDhcpMessage` exactly where option 51 is absent, or T1 is after T2, or T2 after the end. Words that were drawn
+    /// stay drawn, whatever is answered.
+    #[tactic(auto, unfolding(crate::specs::Lease::lease_with))]
+    pub fn new_from_msg<W: Words>(
+        alloc: Global,
+        msg: &DhcpV4Message,
+        words: &mut W,
+    ) -> Result<Self, DhcpError>
+        ensures reads { ReadsLease (W.left words.old) result (W.left words.new) msg.now }
+        ensures in_order { IfOk result IsInOrder }
+    {
+        match read_times(&msg.options, words) {
+            Some(times) => Ok(lease_of(alloc, msg, times)?),
+            None => Err(out_of_order()),
+        }
+    }
+
+    /// The option of this number as its message had it: its number, the length of its value, and the value, written again.
+    pub fn get_option_raw(&self, alloc: Global, code: u8) -> Result<Option<Vec<u8>>, DhcpError>
+        ensures { Makes (option_map vec_items) result (option_map written_option (map.get self.now.options code)) }
+    {
+        self.options.get_data_raw(alloc, code)
+    }
+
+    /// The width of the subnet, in bits: how many bits of its mask are one.
+    pub fn prefix_length(&self) -> u8
+        ensures { result ≡ count_ones (ipv4_bits self.now.subnet_mask) }
+    {
+        self.subnet_mask.to_bits().count_ones() as u8
+    }
+
+    /// A copy.
+    pub fn try_clone(&self, alloc: Global) -> Result<Self, DhcpError>
+        ensures { Makes (λ lease. lease) result self.now }
+    {
+        Ok(DhcpV4Lease {
+            siaddr: self.siaddr,
+            yiaddr: self.yiaddr,
+            t1_sec: self.t1_sec,
+            t2_sec: self.t2_sec,
+            lease_time_sec: self.lease_time_sec,
+            srv_id: self.srv_id,
+            subnet_mask: self.subnet_mask,
+            broadcast_addr: self.broadcast_addr,
+            dns_srvs: copied(alloc, &self.dns_srvs)?,
+            gateways: copied(alloc, &self.gateways)?,
+            ntp_srvs: copied(alloc, &self.ntp_srvs)?,
+            mtu: self.mtu,
+            host_name: copied_text(alloc, &self.host_name)?,
+            domain_name: copied_text(alloc, &self.domain_name)?,
+            classless_routes: copied(alloc, &self.classless_routes)?,
+            srv_mac: self.srv_mac,
+            options: self.options.try_clone(alloc)?,
+        })
+    }
+}
+
+// The lease of a message with these times.
+#[tactic(auto, unfolding(crate::specs::Lease::lease_with, dhcp4_msg::specs::OptionCode::number_of))]
+fn lease_of(alloc: Global, msg: &DhcpV4Message, times: LeaseTimes) -> Result<DhcpV4Lease, DhcpError>
+    ensures { Makes (λ lease. lease) result (lease_with msg.now times) }
+{
+    let options = &msg.options;
+    Ok(DhcpV4Lease {
+        siaddr: msg.siaddr,
+        yiaddr: msg.yiaddr,
+        t1_sec: times.t1_sec,
+        t2_sec: times.t2_sec,
+        lease_time_sec: times.lease_time_sec,
+        srv_id: address(options, DhcpV4OptionCode::ServerIdentifier).unwrap_or(
+            Ipv4Addr::UNSPECIFIED,
+        ),
+        subnet_mask: address(options, DhcpV4OptionCode::SubnetMask).unwrap_or(
+            Ipv4Addr::UNSPECIFIED,
+        ),
+        broadcast_addr: address(options, DhcpV4OptionCode::BroadcastAddress),
+        dns_srvs: addresses(alloc, options, DhcpV4OptionCode::DomainNameServer)?,
+        gateways: addresses(alloc, options, DhcpV4OptionCode::Router)?,
+        ntp_srvs: addresses(alloc, options, DhcpV4OptionCode::NtpServers)?,
+        mtu: size(options, DhcpV4OptionCode::InterfaceMtu),
+        host_name: text(alloc, options, DhcpV4OptionCode::HostName)?,
+        domain_name: text(alloc, options, DhcpV4OptionCode::DomainName)?,
+        classless_routes: routes(alloc, options)?,
+        srv_mac: BROADCAST_MAC_ADDRESS,
+        options: options.try_clone(alloc)?,
+    })
+}
+
+// The refusal of a message that grants no lease.
+fn out_of_order() -> DhcpError
+    ensures { result.kind ≡ ErrorKind.InvalidDhcpMessage }
+{
+    DhcpError::new_fixed(ErrorKind::InvalidDhcpMessage, FixedText::Times)
+}
+
+// A copy of a list, if there is one.
+fn copied<T: Copy>(
+    alloc: Global,
+    kept: &Option<Sequence<T>>,
+) -> Result<Option<Sequence<T>>, DhcpError>
+    ensures { Makes (λ made. made) result kept.now }
+{
+    match kept {
+        Some(list) => Ok(Some(list.try_clone(alloc)?)),
+        None => Ok(None),
+    }
+}
+
+// A copy of a text, if there is one.
+fn copied_text(alloc: Global, kept: &Option<Text>) -> Result<Option<Text>, DhcpError>
+    ensures { Makes (λ made. made) result kept.now }
+{
+    match kept {
+        Some(text) => Ok(Some(text.try_clone(alloc)?)),
+        None => Ok(None),
+    }
+}

@@ -1,0 +1,92 @@
+//! The times of a lease, RFC 2131 section 4.4.5.
+
+ghost use Rattle.std.specs.Prelude.{◌≡◌, ◌≤◌, ◌<◌, ◌-◌, ◌*◌, ◌/◌, ◌^◌, IfSome};
+ghost use Rattle.dhcp4_msg.specs.OptionCode.{number_of};
+ghost use Rattle.dhcp4_lease.specs.Lease as leases;
+ghost use Rattle.dhcp4_lease.specs.Lease.{Draws, said_by, seconds_in};
+
+use dhcp_clock::Words;
+use dhcp4_msg::{DhcpV4Option, DhcpV4OptionCode, DhcpV4Options};
+
+/// The times of a lease, in seconds.
+#[derive(Clone, Copy)]
+pub struct LeaseTimes {
+    /// T1: when it is renewed.
+    pub t1_sec: u32,
+    /// T2: when it is rebound.
+    pub t2_sec: u32,
+    /// When it ends.
+    pub lease_time_sec: u32,
+}
+
+impl LeaseTimes {
+    // Whether a lease of these times is renewed before it is rebound, and that before it ends.
+    fn are_in_order(&self) -> bool
+        ensures { result ≡ leases.are_in_order self.now }
+    {
+        self.t1_sec <= self.t2_sec && self.t2_sec <= self.lease_time_sec
+    }
+}
+
+/// The times of a message with these options, if it has a lease time and its times are in order. Words that were drawn stay drawn.
+#[tactic(auto, unfolding(crate::specs::Lease::read_times, dhcp4_msg::specs::OptionCode::number_of))]
+pub fn read_times<W: Words>(options: &DhcpV4Options, words: &mut W) -> Option<LeaseTimes>
+    ensures told { Draws (W.left words.old) result (W.left words.new) (leases.read_times options.now) }
+    ensures in_order { IfSome result (λ times. (times.t1_sec ≤ times.t2_sec) × (times.t2_sec ≤ times.lease_time_sec)) }
+{
+    let lease_time_sec = seconds(options, DhcpV4OptionCode::IpAddressLeaseTime)?;
+    let times = times_of(options, lease_time_sec, words);
+    if times.are_in_order() {
+        Some(times)
+    } else {
+        None
+    }
+}
+
+// The times of a lease that lasts so long.
+#[tactic(auto, unfolding(crate::specs::Lease::times_of, dhcp4_msg::specs::OptionCode::number_of))]
+fn times_of<W: Words>(options: &DhcpV4Options, lease_time_sec: u32, words: &mut W) -> LeaseTimes
+    ensures { Draws (W.left words.old) result (W.left words.new) (leases.times_of options.now lease_time_sec) }
+{
+    let renewal = seconds(options, DhcpV4OptionCode::RenewalTime);
+    let t1_sec = said_or_drawn(renewal, lease_time_sec / 2, words);
+    let rebinding = seconds(options, DhcpV4OptionCode::RebindingTime);
+    let t2_sec = said_or_drawn(rebinding, seven_eighths(lease_time_sec), words);
+    LeaseTimes {
+        t1_sec,
+        t2_sec,
+        lease_time_sec,
+    }
+}
+
+// Seven eighths of this time, rounded down.
+fn seven_eighths(seconds: u32) -> u32
+    ensures { result ≡ 7 * seconds / 8 }
+{
+    (7 * u64::from(seconds) / 8) as u32
+}
+
+// The time that an option says, or else one about this long.
+#[tactic(auto, unfolding(crate::specs::Lease::said_or_drawn))]
+fn said_or_drawn<W: Words>(said: Option<u32>, base: u32, words: &mut W) -> u32
+    requires { base < 2 ^ 32 - 1 }
+    ensures { Draws (W.left words.old) result (W.left words.new) (leases.said_or_drawn said base) }
+{
+    match said {
+        Some(seconds) => seconds,
+        None if base < 20 => base,
+        None => base - 2 + words.next_word() % 4,
+    }
+}
+
+// The seconds that the option of this code says.
+fn seconds(options: &DhcpV4Options, code: DhcpV4OptionCode) -> Option<u32>
+    ensures { result ≡ said_by seconds_in options.now (number_of code) }
+{
+    match options.get(code)? {
+        DhcpV4Option::IpAddressLeaseTime(seconds)
+        | DhcpV4Option::RenewalTime(seconds)
+        | DhcpV4Option::RebindingTime(seconds) => Some(*seconds),
+        _ => None,
+    }
+}

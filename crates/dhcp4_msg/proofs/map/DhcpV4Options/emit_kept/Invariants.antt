@@ -1,9 +1,0 @@
--- What was written so far.
-use Rattle.std.proofs.Common.{◌≡◌, ◌++◌, map}
-use Rattle.std.specs.List.{flat_map}
-use Rattle.std.specs.Map.Iter.{deref}
-use Rattle.dhcp4_msg.specs.Value.{written_option}
-use Rattle.dhcp4_msg.proofs.map.DhcpV4Options.emit_kept.Given as goal
-
-abbrev pub invariant-loop-option : goal.invariant-loop-option
-invariant-loop-option l = l.buf ≡ l.initial.buf ++ flat_map written_option (map deref l.yielded)

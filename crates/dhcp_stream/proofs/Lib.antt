@@ -1,0 +1,4 @@
+pub mod HexTextLemmas
+pub mod LineLemmas
+pub mod StreamLemmas
+pub mod WordLemmas

@@ -1,0 +1,18 @@
+use Rattle.std.proofs.Common.{arith, sym, ◌∙◌}
+use Rattle.std.proofs.lemmas.Grind.{common_steps}
+use Rattle.dhcp_stream.proofs.StreamLemmas.{behind-none, behind-more}
+use Rattle.dhcp_stream.proofs.whole.write_whole.Goals as goal
+
+pub loop-done-init : goal.loop-done-init
+loop-done-init g c = record { within = omega arith; took = sym (behind-none _); counted = omega arith }
+
+pub loop-done-preserved : goal.loop-done-preserved
+loop-done-preserved g c = record {
+  within = grind (arith, common_steps);
+  took = behind-more _ _ _ _ _ _ _ c.loop-done.invariant.took (grind (arith, common_steps)) c.in-Wrote.ensures.took;
+  counted = omega arith;
+}
+
+pub returns-in-Failed-clause-front : goal.returns-in-Failed-clause-front
+returns-in-Failed-clause-front g c =
+    (c.loop-done.done, c.loop-done.invariant.within, c.in-Failed.ensures.took ∙ behind-none _ ∙ c.loop-done.invariant.took)

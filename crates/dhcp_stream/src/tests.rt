@@ -1,0 +1,153 @@
+//! Runs of the streams and the fields.
+
+ghost use Rattle.std.specs.Prelude.{◌≡◌, IfOk};
+
+use super::*;
+use std::alloc::Global;
+use std::io::{self, ErrorKind, Read, Write};
+use std::test::Fail;
+
+// A reader and a writer that give an error, then nothing.
+#[derive(Drop)]
+struct Broken {
+    was_used: bool,
+}
+
+impl Broken {
+    // An error the first time.
+    fn once(&mut self) -> io::Result<usize>
+        ensures { IfOk result (λ count. count ≡ 0) }
+    {
+        if self.was_used {
+            return Ok(0);
+        }
+        self.was_used = true;
+        Err(io::Error::from(ErrorKind::Other))
+    }
+}
+
+impl Read for Broken {
+    fn read(&mut self, _buf: &mut [u8]) -> io::Result<usize> {
+        self.once()
+    }
+}
+
+impl Write for Broken {
+    fn write(&mut self, _buf: &[u8]) -> io::Result<usize> {
+        self.once()
+    }
+
+    fn flush(&mut self) -> io::Result<()> {
+        Ok(())
+    }
+}
+
+// A source of so many bytes 7.
+fn source_of(alloc: Global, len: usize, fails: &[u32]) -> Result<MemSource, Fail> {
+    let bytes = vec![in alloc; 7u8; len]?;
+    Ok(MemSource::new(bytes, fails.to_vec(alloc)?))
+}
+
+#[test]
+fn a_source_is_read_to_its_end_up_to_the_limit(rt: HostRuntime) -> Result<(), Fail> {
+    for len in [0, 1, 8192, 20_000, MAX_INPUT] {
+        let mut source = source_of(rt.alloc(), len, &[])?;
+        let Whole::All(bytes) = read_whole(rt.alloc(), &mut source)? else {
+            return Err(Fail::from("not read"));
+        };
+        assert_eq!(rt; bytes.len(), len);
+        assert!(rt; bytes.as_slice().iter().all(|byte| *byte == 7));
+    }
+    let mut source = source_of(rt.alloc(), MAX_INPUT + 2, &[])?;
+    assert!(rt; matches!(read_whole(rt.alloc(), &mut source)?, Whole::TooLong));
+    let mut last = [0; 4];
+    assert_eq!(rt;
+        source.read(&mut last),
+        ReadOutcome::Read(1),
+        "reading stopped"
+    );
+    Ok(())
+}
+
+#[test]
+fn a_source_fails_at_the_listed_calls(rt: HostRuntime) -> Result<(), Fail> {
+    let mut source = source_of(rt.alloc(), 20_000, &[2])?;
+    assert!(rt; matches!(read_whole(rt.alloc(), &mut source)?, Whole::Failed));
+    let mut rest = [0; 16_384];
+    assert_eq!(rt; source.read(&mut rest), ReadOutcome::Read(11_808));
+    assert_eq!(rt; source.read(&mut rest), ReadOutcome::Read(0));
+    Ok(())
+}
+
+#[test]
+fn a_sink_takes_bytes_whole_or_a_prefix_of_them(rt: HostRuntime) -> Result<(), Fail> {
+    let cases = [
+        (5, 0, true, 5),
+        (4, 0, false, 4),
+        (9, 1, false, 0),
+        (9, 2, true, 5),
+    ];
+    for (room, fail, want, taken) in cases {
+        let mut sink = MemSink::new(rt.alloc(), room, [fail].to_vec(rt.alloc())?)?;
+        assert_eq!(rt; write_whole(&mut sink, b"bytes"), want, "{room} {fail}");
+        assert_eq!(rt; sink.bytes().len(), taken, "{room} {fail}");
+    }
+    Ok(())
+}
+
+#[test]
+fn the_streams_of_std_are_read_and_written(rt: HostRuntime) -> Result<(), Fail> {
+    let mut source = StdSource::new(io::Cursor::new(b"text".as_slice()));
+    let Whole::All(bytes) = read_whole(rt.alloc(), &mut source)? else {
+        return Err(Fail::from("not read"));
+    };
+    assert_eq!(rt; bytes.as_slice(), b"text".as_slice());
+
+    let mut sink = StdSink::new(Vec::with_capacity(rt.alloc(), 4)?);
+    assert!(rt; write_whole(&mut sink, b"text"));
+    Ok(())
+}
+
+#[test]
+fn an_error_of_a_reader_or_a_writer_is_a_fault(rt: HostRuntime) -> Result<(), Fail> {
+    let mut source = StdSource::new(Broken { was_used: false });
+    assert!(rt; matches!(read_whole(rt.alloc(), &mut source)?, Whole::Failed));
+    assert_eq!(rt; source.read(&mut [0; 4]), ReadOutcome::Read(0));
+
+    let mut sink = StdSink::new(Broken { was_used: false });
+    assert!(rt; !write_whole(&mut sink, b"text"));
+    assert_eq!(rt;
+        sink.write(b"text"),
+        WriteOutcome::Failed,
+        "nothing was taken"
+    );
+    assert_eq!(rt; sink.write(b""), WriteOutcome::Wrote(0));
+    Ok(())
+}
+
+#[test]
+fn hex_is_read_in_lower_case_pairs(rt: HostRuntime) -> Result<(), Fail> {
+    let cases: [(&[u8], &[u8]); 3] = [(b"-", b""), (b"00", b"\0"), (b"09afff", b"\x09\xaf\xff")];
+    for (field, want) in cases {
+        let bytes = hex_field(rt.alloc(), field)?.ok_or("refused")?;
+        assert_eq!(rt; bytes.as_slice(), want);
+    }
+    for field in ["", "0", "000", "FF", "0g", "--", "-0", " 00", "0:"] {
+        assert!(rt;
+            hex_field(rt.alloc(), field.as_bytes())?.is_none(),
+            "{field}"
+        );
+    }
+    assert_eq!(rt; mac_field(b"02000000000a"), Some([2, 0, 0, 0, 0, 10]));
+    for field in [
+        "",
+        "-",
+        "0200000000",
+        "02000000000a0b",
+        "02000000000A",
+        "0200000000g0",
+    ] {
+        assert!(rt; mac_field(field.as_bytes()).is_none(), "{field}");
+    }
+    Ok(())
+}

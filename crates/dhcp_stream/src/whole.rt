@@ -1,0 +1,61 @@
+//! Reading a source to its end, and writing bytes whole.
+
+ghost use Rattle.std.specs.Prelude.{◌≡◌, ◌≤◌, true, false};
+ghost use Rattle.dhcp_wire.specs.Fault.{Rose};
+ghost use Rattle.dhcp_stream.specs.Stream.{behind};
+ghost use Rattle.dhcp_stream.specs.Whole.{ReadsWhole, GoesOn, TakesFront};
+
+use crate::{ReadOutcome, Sink, Source, WriteOutcome};
+use dhcp_wire::{Bytes, DhcpError};
+use std::alloc::Global;
+
+/// How many bytes are read at most.
+pub const MAX_INPUT: usize = 16_777_216;
+
+/// What reading a source to its end found.
+#[derive(Debug, Drop)]
+pub enum Whole {
+    /// All the bytes that were left.
+    All(Bytes),
+    /// The source failed; the bytes that were read by then are gone.
+    Failed,
+    /// More than `MAX_INPUT` bytes were left. One more than these was read, and reading stopped there.
+    TooLong,
+}
+
+/// Reads the source to its end. After want of memory the bytes that were read by then are gone.
+pub fn read_whole<S: Source>(alloc: Global, source: &mut S) -> Result<Whole, DhcpError>
+    ensures outcome { ReadsWhole result (S.left source.old) (S.left source.new) (S.faults source.old) (S.faults source.new) }
+    ensures goes_on { GoesOn (S.left source.old) (S.left source.new) }
+    ensures counted { S.faults source.old ≤ S.faults source.new }
+{
+    let mut bytes = Vec::new(alloc);
+    let mut piece = [0u8; 8192];
+    while bytes.len() <= MAX_INPUT {
+        let room = piece.len().min(MAX_INPUT + 1 - bytes.len());
+        match source.read(&mut piece[..room]) {
+            ReadOutcome::Read(0) => return Ok(Whole::All(Bytes::from(bytes))),
+            ReadOutcome::Read(count) => bytes.extend_from_slice(&piece[..count])?,
+            ReadOutcome::Failed => return Ok(Whole::Failed),
+        }
+    }
+    Ok(Whole::TooLong)
+}
+
+/// Writes all the bytes, and says whether the sink took them. It did not only where the sink's count of faults rose in this call; what
+/// it took then is a prefix of the bytes.
+pub fn write_whole<K: Sink>(sink: &mut K, bytes: &[u8]) -> bool
+    ensures done { result ≡ true → K.taken sink.new ≡ behind (K.taken sink.old) bytes.now }
+    ensures failed { result ≡ false → Rose (K.faults sink.old) (K.faults sink.new) }
+    ensures front { TakesFront (K.taken sink.old) (K.taken sink.new) bytes.now }
+    ensures counted { K.faults sink.old ≤ K.faults sink.new }
+{
+    let mut done = 0;
+    while done < bytes.len() {
+        match sink.write(&bytes[done..]) {
+            WriteOutcome::Wrote(count) => done += count,
+            WriteOutcome::Failed => return false,
+        }
+    }
+    true
+}

@@ -1,0 +1,163 @@
+//! Reading fields from the front of a slice.
+
+ghost use Rattle.std.specs.Prelude.{◌≡◌, ◌↔◌, ℕ, ◌==◌, List, [], length, position, IsTrue, option_copied, string_bytes};
+ghost use Rattle.std.specs.Int.{w8, w16, w32};
+ghost use Rattle.dhcp_wire.specs.Outcome.{Reads, ReadsText};
+ghost use Rattle.dhcp_wire.specs.Field as Field;
+ghost use Rattle.dhcp_wire.specs.Field.{bytes_at, number_at, address_at, terminated_text_at};
+
+use crate::{DhcpError, ErrorKind, FixedText};
+use std::alloc::Global;
+use std::marker::Model;
+use std::net::Ipv4Addr;
+
+/// Reads fields from a slice, from its front on. Contracts see it as the bytes that are left.
+#[derive(Debug, Drop)]
+pub struct Buffer<'a> {
+    left: &'a [u8],
+}
+
+impl<'a> Model for Buffer<'a> {
+    ghost Value = { List ℕ };
+
+    ghost view = { λ buffer. buffer.left.now };
+}
+
+impl<'a> Buffer<'a> {
+    /// Starts at the first byte.
+    pub fn new(bytes: &'a [u8]) -> Self
+        ensures { result ≡ bytes.now }
+    {
+        Buffer { left: bytes }
+    }
+
+    /// Whether no byte is left.
+    pub fn is_empty(&self) -> bool
+        ensures { IsTrue result ↔ (self.now ≡ []) }
+    {
+        self.left.is_empty()
+    }
+
+    /// How many bytes are left.
+    pub fn remain_len(&self) -> usize
+        ensures { result ≡ length self.now }
+    {
+        self.left.len()
+    }
+
+    /// All the bytes that are left. The place stays.
+    pub fn get_remains(&mut self) -> &'a [u8]
+        ensures remains { result.now ≡ self.old }
+        ensures place { self.new ≡ self.old }
+    {
+        self.left
+    }
+
+    /// The next `len` bytes. Refused with `InvalidDhcpMessage` exactly where fewer are left.
+    #[tactic(auto, unfolding(crate::specs::Field::bytes_at))]
+    pub fn get_bytes(&mut self, len: usize) -> Result<&'a [u8], DhcpError>
+        ensures { Reads (λ bytes. bytes.now) result self.old self.new (bytes_at len self.old) }
+    {
+        if self.left.len() < len {
+            return Err(unreadable(FixedText::Short));
+        }
+        let (bytes, left) = self.left.split_at(len);
+        self.left = left;
+        Ok(bytes)
+    }
+
+    /// One byte.
+    #[tactic(auto, unfolding(crate::specs::Field::bytes_at))]
+    pub fn get_u8(&mut self) -> Result<u8, DhcpError>
+        ensures { Reads (λ number. number) result self.old self.new (number_at w8 self.old) }
+    {
+        let bytes = self.get_bytes(1)?;
+        Ok(bytes[0])
+    }
+
+    /// Two bytes, the first one the more significant.
+    #[tactic(auto, unfolding(crate::specs::Field::bytes_at))]
+    pub fn get_u16_be(&mut self) -> Result<u16, DhcpError>
+        ensures { Reads (λ number. number) result self.old self.new (number_at w16 self.old) }
+    {
+        let bytes = self.get_bytes(2)?;
+        Ok(u16::from_be_bytes([bytes[0], bytes[1]]))
+    }
+
+    /// Four bytes, the first one the most significant.
+    #[tactic(auto, unfolding(crate::specs::Field::bytes_at))]
+    pub fn get_u32_be(&mut self) -> Result<u32, DhcpError>
+        ensures { Reads (λ number. number) result self.old self.new (number_at w32 self.old) }
+    {
+        let bytes = self.get_bytes(4)?;
+        Ok(u32::from_be_bytes([bytes[0], bytes[1], bytes[2], bytes[3]]))
+    }
+
+    /// The four bytes of an address.
+    #[tactic(auto, unfolding(crate::specs::Field::bytes_at))]
+    pub fn get_ipv4(&mut self) -> Result<Ipv4Addr, DhcpError>
+        ensures { Reads (λ address. address) result self.old self.new (address_at self.old) }
+    {
+        let bytes = self.get_bytes(4)?;
+        Ok(Ipv4Addr::new(bytes[0], bytes[1], bytes[2], bytes[3]))
+    }
+
+    /// The text in a field of `fix_size` bytes, before its first zero byte. `InvalidDhcpMessage` where fewer bytes are left, and
+    /// then the place stays, or where the text is not UTF-8, and then the field is passed. Want of memory leaves the place.
+    #[tactic(auto, unfolding(crate::specs::Field::bytes_at))]
+    pub fn get_string_with_null(
+        &mut self,
+        alloc: Global,
+        fix_size: usize,
+    ) -> Result<String, DhcpError>
+        ensures { ReadsText string_bytes result self.old self.new fix_size (terminated_text_at fix_size self.old) }
+    {
+        if self.left.len() < fix_size {
+            return Err(unreadable(FixedText::Short));
+        }
+        let (field, left) = self.left.split_at(fix_size);
+        let Some(text) = utf8_of(before_zero(field)) else {
+            self.left = left;
+            return Err(unreadable(FixedText::NotUtf8));
+        };
+        let text = String::from_str(alloc, text)?;
+        self.left = left;
+        Ok(text)
+    }
+}
+
+// The refusal of bytes that do not read.
+#[tactic(auto, unfolding(crate::specs::Error::fixed_text))]
+fn unreadable(text: FixedText) -> DhcpError
+    ensures { result.kind ≡ ErrorKind.InvalidDhcpMessage }
+{
+    DhcpError::new_fixed(ErrorKind::InvalidDhcpMessage, text)
+}
+
+// The bytes before the first zero byte.
+fn before_zero(field: &[u8]) -> &[u8]
+    ensures { result.now ≡ Field.before_zero field.now }
+{
+    match first_zero(field) {
+        Some(end) => &field[..end],
+        None => field,
+    }
+}
+
+// Where the first zero byte is.
+fn first_zero(field: &[u8]) -> Option<usize>
+    ensures { result ≡ position (λ byte. byte == 0) field.now }
+{
+    field.iter().position(|byte| *byte == 0)
+}
+
+// The bytes as a text, where they are UTF-8.
+#[tactic(auto, using(crate::proofs::Utf8::text_of_utf8, crate::proofs::Utf8::text_of_other))]
+fn utf8_of(bytes: &[u8]) -> Option<&str>
+    ensures { option_copied result ≡ Field.text_of bytes.now }
+{
+    match str::from_utf8(bytes) {
+        Ok(text) => Some(text),
+        Err(_) => None,
+    }
+}
