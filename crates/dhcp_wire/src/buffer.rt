@@ -2,11 +2,11 @@
 
 ghost use Rattle.std.specs.Prelude.{◌≡◌, ◌↔◌, ℕ, ◌==◌, List, [], length, position, IsTrue, option_copied, string_bytes};
 ghost use Rattle.std.specs.Int.{w8, w16, w32};
-ghost use Rattle.dhcp_wire.specs.Outcome.{Reads, ReadsText};
+ghost use Rattle.dhcp_wire.specs.Outcome.{Reads, ReadsField, ReadsText};
 ghost use Rattle.dhcp_wire.specs.Field as Field;
 ghost use Rattle.dhcp_wire.specs.Field.{bytes_at, number_at, address_at, terminated_text_at};
 
-use crate::{DhcpError, ErrorKind, FixedText};
+use crate::{DhcpError, FixedText};
 use std::alloc::Global;
 use std::marker::Model;
 use std::net::Ipv4Addr;
@@ -24,7 +24,7 @@ impl<'a> Model for Buffer<'a> {
 }
 
 impl<'a> Buffer<'a> {
-    /// Starts at the first byte.
+    /// A reader at the first byte.
     pub fn new(bytes: &'a [u8]) -> Self
         ensures { result ≡ bytes.now }
     {
@@ -45,7 +45,7 @@ impl<'a> Buffer<'a> {
         self.left.len()
     }
 
-    /// All the bytes that are left. The place stays.
+    /// All the bytes that are left. The position does not move.
     pub fn get_remains(&mut self) -> &'a [u8]
         ensures remains { result.now ≡ self.old }
         ensures place { self.new ≡ self.old }
@@ -53,20 +53,21 @@ impl<'a> Buffer<'a> {
         self.left
     }
 
-    /// The next `len` bytes. Refused with `InvalidDhcpMessage` exactly where fewer are left.
+    /// The next `len` bytes. `InvalidDhcpMessage` if and only if fewer are left; the position then
+    /// does not move.
     #[tactic(auto, unfolding(crate::specs::Field::bytes_at))]
     pub fn get_bytes(&mut self, len: usize) -> Result<&'a [u8], DhcpError>
         ensures { Reads (λ bytes. bytes.now) result self.old self.new (bytes_at len self.old) }
     {
         if self.left.len() < len {
-            return Err(unreadable(FixedText::Short));
+            return Err(DhcpError::invalid_message(FixedText::Short));
         }
         let (bytes, left) = self.left.split_at(len);
         self.left = left;
         Ok(bytes)
     }
 
-    /// One byte.
+    /// One byte. `InvalidDhcpMessage` if and only if none is left; the position then does not move.
     #[tactic(auto, unfolding(crate::specs::Field::bytes_at))]
     pub fn get_u8(&mut self) -> Result<u8, DhcpError>
         ensures { Reads (λ number. number) result self.old self.new (number_at w8 self.old) }
@@ -75,7 +76,8 @@ impl<'a> Buffer<'a> {
         Ok(bytes[0])
     }
 
-    /// Two bytes, the first one the more significant.
+    /// A number of two bytes, the more significant first. `InvalidDhcpMessage` if and only if fewer
+    /// are left; the position then does not move.
     #[tactic(auto, unfolding(crate::specs::Field::bytes_at))]
     pub fn get_u16_be(&mut self) -> Result<u16, DhcpError>
         ensures { Reads (λ number. number) result self.old self.new (number_at w16 self.old) }
@@ -84,7 +86,8 @@ impl<'a> Buffer<'a> {
         Ok(u16::from_be_bytes([bytes[0], bytes[1]]))
     }
 
-    /// Four bytes, the first one the most significant.
+    /// A number of four bytes, the most significant first. `InvalidDhcpMessage` if and only if fewer
+    /// are left; the position then does not move.
     #[tactic(auto, unfolding(crate::specs::Field::bytes_at))]
     pub fn get_u32_be(&mut self) -> Result<u32, DhcpError>
         ensures { Reads (λ number. number) result self.old self.new (number_at w32 self.old) }
@@ -93,7 +96,8 @@ impl<'a> Buffer<'a> {
         Ok(u32::from_be_bytes([bytes[0], bytes[1], bytes[2], bytes[3]]))
     }
 
-    /// The four bytes of an address.
+    /// An address of four bytes. `InvalidDhcpMessage` if and only if fewer are left; the position
+    /// then does not move.
     #[tactic(auto, unfolding(crate::specs::Field::bytes_at))]
     pub fn get_ipv4(&mut self) -> Result<Ipv4Addr, DhcpError>
         ensures { Reads (λ address. address) result self.old self.new (address_at self.old) }
@@ -102,36 +106,44 @@ impl<'a> Buffer<'a> {
         Ok(Ipv4Addr::new(bytes[0], bytes[1], bytes[2], bytes[3]))
     }
 
-    /// The text in a field of `fix_size` bytes, before its first zero byte. `InvalidDhcpMessage` where fewer bytes are left, and
-    /// then the place stays, or where the text is not UTF-8, and then the field is passed. Want of memory leaves the place.
-    #[tactic(auto, unfolding(crate::specs::Field::bytes_at))]
+    /// The text in a field of `fix_size` bytes, before its first zero byte. `InvalidDhcpMessage` if
+    /// and only if fewer bytes are left, and then the position does not move, or the text is not
+    /// UTF-8, and then the field is skipped. Out of memory leaves the position.
     pub fn get_string_with_null(
         &mut self,
         alloc: Global,
         fix_size: usize,
     ) -> Result<String, DhcpError>
-        ensures { ReadsText string_bytes result self.old self.new fix_size (terminated_text_at fix_size self.old) }
+        ensures { ReadsText string_bytes result self.old self.new fix_size
+            (terminated_text_at fix_size self.old) }
+    {
+        let start = self.left;
+        match String::from_str(alloc, self.get_str_with_null(fix_size)?) {
+            Ok(text) => Ok(text),
+            Err(error) => {
+                self.left = start;
+                Err(DhcpError::from(error))
+            }
+        }
+    }
+
+    /// The text in a field of `fix_size` bytes, in place: as `get_string_with_null`, and does not
+    /// allocate.
+    #[tactic(auto, unfolding(crate::specs::Field::bytes_at))]
+    pub fn get_str_with_null(&mut self, fix_size: usize) -> Result<&'a str, DhcpError>
+        ensures { ReadsField (λ text. text.now) result self.old self.new fix_size
+            (terminated_text_at fix_size self.old) }
     {
         if self.left.len() < fix_size {
-            return Err(unreadable(FixedText::Short));
+            return Err(DhcpError::invalid_message(FixedText::Short));
         }
         let (field, left) = self.left.split_at(fix_size);
-        let Some(text) = utf8_of(before_zero(field)) else {
-            self.left = left;
-            return Err(unreadable(FixedText::NotUtf8));
-        };
-        let text = String::from_str(alloc, text)?;
         self.left = left;
-        Ok(text)
+        match utf8_of(before_zero(field)) {
+            Some(text) => Ok(text),
+            None => Err(DhcpError::invalid_message(FixedText::NotUtf8)),
+        }
     }
-}
-
-// The refusal of bytes that do not read.
-#[tactic(auto, unfolding(crate::specs::Error::fixed_text))]
-fn unreadable(text: FixedText) -> DhcpError
-    ensures { result.kind ≡ ErrorKind.InvalidDhcpMessage }
-{
-    DhcpError::new_fixed(ErrorKind::InvalidDhcpMessage, text)
 }
 
 // The bytes before the first zero byte.
