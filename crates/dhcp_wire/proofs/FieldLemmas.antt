@@ -1,6 +1,7 @@
 -- What the fields of a list of bytes say of its length.
 use Rattle.std.proofs.Common.{◌≡◌, ℕ, ◌+◌, ◌≤◌, true, false, cond, leb, List, [], ◌∷◌, ◌++◌, length, take, drop, Option, Some, None, option_map, refl, sym, ap, ◌∙◌, arith, length-drop}
 use Rattle.std.specs.Int.{w8, from_be_bytes}
+use Rattle.std.specs.Net.Addr.{ipv4_octets}
 use Rattle.std.specs.declared.net.Ipv4Addr.{Ipv4Addr}
 use Rattle.std.proofs.lemmas.Bool.{le-leb}
 use Rattle.std.proofs.lemmas.List.{take_all, drop_all}
@@ -31,12 +32,12 @@ number_at-split bytes rest byte is =
     split.1 ∙ ap (λ front. front ++ found.0.1) (one_byte _ split.0) ∙ ap (λ pair. pair.0 ∷ pair.1) found.2
 
 -- the octets of an address that is read stand there, and are four
-pub address_at-split : (bytes rest : List ℕ) (address : Ipv4Addr) → address_at bytes ≡ Some (address, rest) → (bytes ≡ address.octets ++ rest) × (length address.octets ≡ 4)
+pub address_at-split : (bytes rest : List ℕ) (address : Ipv4Addr) → address_at bytes ≡ Some (address, rest) → (bytes ≡ ipv4_octets address ++ rest) × (length (ipv4_octets address) ≡ 4)
 address_at-split bytes rest address is =
     let found = mapped _ (bytes_at 4 bytes) _ is in
     let split = bytes_at_cut 4 bytes _ _ found.1 in
-    let octets = ap (λ pair. pair.0.octets) found.2 in
-    (split.1 ∙ ap (λ pair. pair.0.octets ++ pair.1) found.2, ap length (sym octets) ∙ split.0)
+    let octets = ap (λ pair. ipv4_octets pair.0) found.2 in
+    (split.1 ∙ ap (λ pair. ipv4_octets pair.0 ++ pair.1) found.2, ap length (sym octets) ∙ split.0)
 
 -- all bytes are the first so many
 pub bytes_at-whole : (bytes : List ℕ) → bytes_at (length bytes) bytes ≡ Some (bytes, [])

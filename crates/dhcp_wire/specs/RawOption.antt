@@ -1,4 +1,5 @@
--- The raw options of a list: a code, the length of a value, and the value; RFC 2132 section 2, RFC 8415 section 21.1.
+-- The raw options of a list: a code, the length of a value, and the value; RFC 2132 section 2, RFC
+-- 8415 section 21.1.
 use Rattle.std.specs.Prelude.{ℕ, zero, suc, ◌^◌, ◌*◌, ◌<◌, ◌≡◌, Bool, false, ◌==◌, ◌||◌, List, [], ◌∷◌, ◌++◌, length, drop, Some, None, IsTrue, if◌then◌else◌}
 use Rattle.std.specs.Int.{Width, w8, w16, byte_len, to_be_bytes}
 use Rattle.std.specs.List.{flat_map}
@@ -34,7 +35,8 @@ raw_value_at format bytes = do
 
 -- the value of an option of this code, in the bytes after the code
 abbrev pub value_after : OptionFormat → ℕ → List ℕ → Read (List ℕ)
-value_after format code bytes = if is_code_alone format code then Some ([], bytes) else raw_value_at format bytes
+value_after format code bytes =
+    if is_code_alone format code then Some ([], bytes) else raw_value_at format bytes
 
 -- the option at the front, where it is whole
 unfoldable pub raw_option_at : OptionFormat → List ℕ → Read RawOptionParts
@@ -48,17 +50,19 @@ abbrev pub counted_after : OptionFormat → ℕ → List ℕ → List ℕ
 counted_after format code bytes = if ends_list format code then [] else bytes
 
 -- an option that is found, and the options of the bytes after it that count
-abbrev pub with_later : OptionFormat → (List ℕ → List RawOptionParts) → Read RawOptionParts → List RawOptionParts
+abbrev pub with_later : OptionFormat
+    → (List ℕ → List RawOptionParts) → Read RawOptionParts → List RawOptionParts
 with_later format later None = []
 with_later format later (Some found) = found.0 ∷ later (counted_after format found.0.code found.1)
 
 -- the options of a list, at most fuel of them
 unfoldable pub raw_options_within : OptionFormat → ℕ → List ℕ → List RawOptionParts
 raw_options_within format zero bytes = []
-raw_options_within format (suc fuel) bytes = with_later format (raw_options_within format fuel) (raw_option_at format bytes)
+raw_options_within format (suc fuel) bytes =
+    with_later format (raw_options_within format fuel) (raw_option_at format bytes)
 
--- The options of a list: the one at the front, then those of what follows, up to one that ends the list or a truncated one. There are no
--- more options than bytes.
+-- The options of a list: the one at the front, then those of what follows, up to one that ends the
+-- list or a truncated one. There are no more options than bytes.
 abbrev pub raw_options : OptionFormat → List ℕ → List RawOptionParts
 raw_options format bytes = raw_options_within format (length bytes) bytes
 
@@ -72,9 +76,11 @@ written_raw_option format option =
     to_be_bytes (width_of format) option.code
     ++ (if is_code_alone format option.code then [] else written_raw_value format option.value)
 
--- what remains of a list after its last option: nothing, bytes after one that ends the list, or a truncated option
+-- what remains of a list after its last option: nothing, bytes after one that ends the list, or a
+-- truncated option
 abbrev pub after_options : OptionFormat → List ℕ → List ℕ
-after_options format bytes = drop (length (flat_map (written_raw_option format) (raw_options format bytes))) bytes
+after_options format bytes =
+    drop (length (flat_map (written_raw_option format) (raw_options format bytes))) bytes
 
 -- a number that fits the width of a code, and of a length
 abbrev pub FitsWidth : OptionFormat → ℕ → Type 0

@@ -1,4 +1,5 @@
--- The values of options, as they read: a value of fixed size may be longer, and what is beyond is ignored.
+-- The values of options, as they read: a value of fixed size may be longer, and what is beyond is
+-- ignored.
 use Rattle.std.specs.Prelude.{ℕ, List, [], ◌∷◌, Option, option_map}
 use Rattle.std.specs.Int.{Width}
 use Rattle.std.specs.declared.net.Ipv4Addr.{Ipv4Addr}

@@ -86,8 +86,8 @@ impl<'a> Buffer<'a> {
         Ok(u16::from_be_bytes([bytes[0], bytes[1]]))
     }
 
-    /// A number of four bytes, the most significant first. `InvalidDhcpMessage` if and only if fewer
-    /// are left; the position then does not move.
+    /// A number of four bytes, the most significant first. `InvalidDhcpMessage` if and only if
+    /// fewer are left; the position then does not move.
     #[tactic(auto, unfolding(crate::specs::Field::bytes_at))]
     pub fn get_u32_be(&mut self) -> Result<u32, DhcpError>
         ensures { Reads (λ number. number) result self.old self.new (number_at w32 self.old) }

@@ -1,7 +1,7 @@
-//! The raw options of a list: a code, the length of a value, and the value; RFC 2132 section 2, RFC 8415 section 21.1.
+//! The raw options of a list: a code, the length of a value, and the value; RFC 2132 section 2, RFC
+//! 8415 section 21.1.
 
-ghost use Rattle.std.specs.Prelude.{◌≡◌, ◌<◌, ◌*◌, ◌^◌, IfSome, length};
-ghost use Rattle.std.specs.Int.{byte_len};
+ghost use Rattle.std.specs.Prelude.{◌≡◌, IfSome, length};
 ghost use Rattle.dhcp_wire.specs.Field.{number_at};
 ghost use Rattle.dhcp_wire.specs.Outcome.{Finds};
 ghost use Rattle.dhcp_wire.specs.RawOption as raw;
@@ -9,7 +9,8 @@ ghost use Rattle.dhcp_wire.specs.RawOption as raw;
 /// How the options of a list are laid out.
 #[derive(Clone, Copy, Debug, PartialEq, Eq)]
 pub enum OptionFormat {
-    /// A code and a length of one byte each. Pad (0) and End (255) are a code alone, and End ends the list. RFC 2132 section 2.
+    /// A code and a length of one byte each. Pad (0) and End (255) are a code alone, and End ends
+    /// the list. RFC 2132 section 2.
     DhcpV4,
     /// A code and a length of two bytes each, the more significant first. RFC 8415 section 21.1.
     DhcpV6,
@@ -18,26 +19,28 @@ pub enum OptionFormat {
 /// An option as it stands in a list.
 #[derive(Clone, Copy, Debug)]
 pub struct RawOption<'a> {
-    /// Its code.
+    /// Its code: at most 255 in the format of DHCPv4.
     pub code: u16,
-    /// The bytes of its value.
+    /// The bytes of its value: at most 255 in the format of DHCPv4, 65,535 in that of DHCPv6.
     pub value: &'a [u8],
 }
 
 impl OptionFormat {
-    /// The option at the front, and the bytes after it; `None` if and only if no whole option is there. Does not allocate.
-    #[tactic(auto, unfolding(crate::specs::RawOption::raw_option_at, crate::specs::Field::bytes_at))]
+    /// The option at the front, and the bytes after it; `None` if and only if no whole option is
+    /// there. Does not allocate.
+    #[tactic(auto, unfolding(crate::specs::RawOption::raw_option_at))]
     pub fn raw_option_at(self, bytes: &[u8]) -> Option<(RawOption<'_>, &[u8])>
-        ensures found { Finds (λ found. (record { code = found.0.code; value = found.0.value.now }, found.1.now))
+        ensures found { Finds
+            (λ found. (record { code = found.0.code; value = found.0.value.now }, found.1.now))
             result (raw.raw_option_at self bytes.now) }
-        ensures short { IfSome result (λ found. length found.0.value.now < 2 ^ (8 * byte_len (raw.width_of self))) }
+        ensures fit { IfSome result (λ found. raw.FitsWidth self found.0.code
+            × raw.FitsWidth self (length found.0.value.now)) }
     {
         let (code, rest) = self.number_at(bytes)?;
         if self.is_code_alone(code) {
             return Some((RawOption { code, value: &[] }, rest));
         }
-        let (len, rest) = self.number_at(rest)?;
-        let (value, rest) = rest.split_at_checked(usize::from(len))?;
+        let (value, rest) = self.raw_value_at(rest)?;
         Some((RawOption { code, value }, rest))
     }
 
@@ -61,11 +64,23 @@ impl OptionFormat {
         }
     }
 
+    // The value whose length is at the front, and the bytes after it.
+    #[tactic(auto, unfolding(crate::specs::Field::bytes_at))]
+    fn raw_value_at(self, bytes: &[u8]) -> Option<(&[u8], &[u8])>
+        ensures found { Finds (λ found. (found.0.now, found.1.now)) result
+            (raw.raw_value_at self bytes.now) }
+        ensures fit { IfSome result (λ found. raw.FitsWidth self (length found.0.now)) }
+    {
+        let (len, rest) = self.number_at(bytes)?;
+        rest.split_at_checked(usize::from(len))
+    }
+
     // The code or the length at the front, and the bytes after it.
     #[tactic(auto, unfolding(crate::specs::Field::bytes_at))]
     fn number_at(self, bytes: &[u8]) -> Option<(u16, &[u8])>
-        ensures found { Finds (λ found. (found.0, found.1.now)) result (number_at (raw.width_of self) bytes.now) }
-        ensures fit { IfSome result (λ found. found.0 < 2 ^ (8 * byte_len (raw.width_of self))) }
+        ensures found { Finds (λ found. (found.0, found.1.now)) result
+            (number_at (raw.width_of self) bytes.now) }
+        ensures fit { IfSome result (λ found. raw.FitsWidth self found.0) }
     {
         match (self, bytes) {
             (OptionFormat::DhcpV4, [number, rest @ ..]) => Some((u16::from(*number), rest)),

@@ -1,4 +1,5 @@
-//! Readings of an option's value: one for each kind of value that several options have.
+//! Readings of an option's value: one for each kind of value that several options have. A value of
+//! fixed size may be longer; what is beyond is ignored.
 
 ghost use Rattle.std.specs.Prelude.{◌≡◌, ok_or};
 ghost use Rattle.std.specs.Int.{w8, w16, w32};
@@ -17,7 +18,8 @@ pub fn u8_in(value: &[u8]) -> Result<u8, DhcpError>
     Buffer::new(value).get_u8()
 }
 
-/// The number of the first two bytes, the more significant first. `InvalidDhcpMessage` if and only if there are fewer.
+/// The number of the first two bytes, the more significant first. `InvalidDhcpMessage` if and only
+/// if there are fewer.
 pub fn u16_in(value: &[u8]) -> Result<u16, DhcpError>
     ensures { Answers (λ number. number) result
         (ok_or (values.number_in w16 value.now) ErrorKind.InvalidDhcpMessage) }
@@ -25,7 +27,8 @@ pub fn u16_in(value: &[u8]) -> Result<u16, DhcpError>
     Buffer::new(value).get_u16_be()
 }
 
-/// The number of the first four bytes, the most significant first. `InvalidDhcpMessage` if and only if there are fewer.
+/// The number of the first four bytes, the most significant first. `InvalidDhcpMessage` if and only
+/// if there are fewer.
 pub fn u32_in(value: &[u8]) -> Result<u32, DhcpError>
     ensures { Answers (λ number. number) result
         (ok_or (values.number_in w32 value.now) ErrorKind.InvalidDhcpMessage) }
@@ -41,7 +44,8 @@ pub fn address_in(value: &[u8]) -> Result<Ipv4Addr, DhcpError>
     Buffer::new(value).get_ipv4()
 }
 
-/// An address for each whole group of four bytes; up to three bytes after the last are ignored.
+/// An address for each whole group of four bytes; up to three bytes after the last are ignored. Out
+/// of memory is the only error.
 pub fn addresses_in(alloc: Global, value: &[u8]) -> Result<Sequence<Ipv4Addr>, DhcpError>
     ensures { Makes (λ addresses. addresses) result (values.addresses_in value.now) }
 {
@@ -54,7 +58,8 @@ pub fn addresses_in(alloc: Global, value: &[u8]) -> Result<Sequence<Ipv4Addr>, D
     Ok(addresses)
 }
 
-/// The text before the first zero byte, or of all the bytes. `InvalidDhcpMessage` if and only if it is not UTF-8.
+/// The text before the first zero byte, or of all the bytes. `InvalidDhcpMessage` if and only if it
+/// is not UTF-8.
 #[tactic(auto, using(crate::proofs::FieldLemmas::whole_field))]
 pub fn text_in(alloc: Global, value: &[u8]) -> Result<Text, DhcpError>
     ensures { Gives (λ text. text) result
