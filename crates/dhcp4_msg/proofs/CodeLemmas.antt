@@ -1,9 +1,12 @@
 -- Codes of options and their numbers.
-use Rattle.std.proofs.Common.{◌≡◌, ℕ, Bool, true, false, ◌==◌, cond, List, [], ◌∷◌, Some, find, refl}
+use Rattle.std.proofs.Common.{◌≡◌, ℕ, Bool, true, false, ◌==◌, cond, List, [], ◌∷◌, Some, find, refl, sym, ap, ◌∙◌}
 use Rattle.std.specs.Prelude.{unwrap_or}
-use Rattle.std.proofs.lemmas.Bool.{eqb-true}
+use Rattle.std.proofs.lemmas.Bool.{eqb-true, false≢true}
+use Rattle.dhcp4_msg.specs.declared.option_code.DhcpV4OptionCode.{DhcpV4OptionCode}
+use Rattle.dhcp4_msg.specs.declared.option_code.DhcpV4OptionCode.TheVariants as codes
 use Rattle.dhcp4_msg.specs.declared.option_code.DhcpV4OptionCode.TheVariants.{Other}
 use Rattle.dhcp4_msg.specs.OptionCode.{code_of, number_of, named_codes}
+use Rattle.dhcp4_msg.specs.Value.{is_nameless}
 
 -- what a search finds passes its test; and else there is the default
 found_or : {X : Type 0} (test : X → Bool) (P : X → Type 0) (xs : List X) (default : X) → ((x : X) → test x ≡ true → P x) → P default → P (unwrap_or (find test xs) default)
@@ -20,3 +23,9 @@ unfolding code_of number_of
 number_of-code_of number =
     found_or (λ code. number_of code == number) (λ code. number_of code ≡ number) named_codes (Other number)
     (λ code is. eqb-true _ _ is) refl
+
+-- a number without a name has its own code
+pub nameless : (number : ℕ) (code : DhcpV4OptionCode) → code_of number ≡ code → is_nameless code ≡ true → code_of number ≡ codes.Other number
+unfolding number_of
+nameless number (codes.Other other) own is = own ∙ ap codes.Other (sym (ap number_of own) ∙ number_of-code_of number)
+nameless number _ own is = absurd (false≢true is)

@@ -18,7 +18,7 @@ use Rattle.dhcp4_msg.specs.declared.option_code.DhcpV4OptionCode.{DhcpV4OptionCo
 use Rattle.dhcp4_msg.specs.declared.option_code.DhcpV4OptionCode.TheVariants as codes
 use Rattle.dhcp4_msg.specs.declared.option.DhcpV4Option.{DhcpV4Option}
 use Rattle.dhcp4_msg.specs.declared.option.DhcpV4Option.TheVariants.{Pad, SubnetMask, Router, DomainNameServer, HostName, DomainName, InterfaceMtu, BroadcastAddress, NtpServers, RequestedIpAddress, IpAddressLeaseTime, MessageType, ServerIdentifier, ParameterRequestList, Message, RenewalTime, RebindingTime, ClientIdentifier, ClasslessStaticRoute, End, Unknown}
-use Rattle.dhcp4_msg.proofs.CodeLemmas.{number_of-code_of}
+use Rattle.dhcp4_msg.proofs.CodeLemmas.{nameless, number_of-code_of}
 use Rattle.dhcp4_msg.specs.MessageType.{type_of, type_number}
 use Rattle.dhcp4_msg.specs.Laws.{IsWhole, FitsOption, IsExact, ReadsBack, with_names}
 use Rattle.dhcp4_msg.specs.Route.{significant_octets, route_at, routes_of, written_route}
@@ -100,12 +100,6 @@ back code number value rest option own valued reads =
     ap (read_after (number ∷ length value ∷ (value ++ rest))) (item_at-valued number value rest valued)
     ∙ ap (λ read. (read, rest)) (ap (λ code. value_of code value) own ∙ reads)
 
--- a number without a name has its own code
-nameless : (number : ℕ) (code : DhcpV4OptionCode) → code_of number ≡ code → is_nameless code ≡ true → code_of number ≡ codes.Other number
-unfolding number_of
-nameless number (codes.Other other) own is = own ∙ ap codes.Other (sym (ap number_of own) ∙ number_of-code_of number)
-nameless number _ own is = absurd (false≢true is)
-
 nameless_valued : (number : ℕ) → is_nameless (code_of number) ≡ true → ((number == 0) || (number == 255)) ≡ false
 unfolding code_of number_of
 nameless_valued number is =
@@ -142,4 +136,5 @@ option_back (ClientIdentifier x) rest fit has = back codes.ClientIdentifier 61 (
 option_back (ClasslessStaticRoute x) rest fit has = back codes.ClasslessStaticRoute 121 (flat_map written_route x) rest (with_names (ClasslessStaticRoute x)) refl refl (ap (option_map ClasslessStaticRoute) (routes_back x has))
 option_back (Unknown x) rest fit has =
     let own = (and_parts _ _ fit).1 in
-    back (codes.Other x.code) x.code x.raw rest (Unknown x) (nameless x.code _ refl own) (nameless_valued x.code own) refl
+    subst (λ number. option_at (number ∷ length x.raw ∷ (x.raw ++ rest)) ≡ (Some (Unknown x), rest)) (sym (number_of-code_of x.code))
+    (back (codes.Other x.code) x.code x.raw rest (Unknown x) (nameless x.code _ refl own) (nameless_valued x.code own) refl)

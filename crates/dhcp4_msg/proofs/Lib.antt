@@ -3,10 +3,11 @@ pub mod CutLemmas
 pub mod EmitLemmas
 pub mod Entries
 pub mod FieldLemmas
-pub mod KeptLemmas
+pub mod SlotLemmas
 pub mod LawLemmas
 pub mod MessageLaw
 pub mod OptionsLaw
 pub mod OptionsLemmas
+pub mod RisingLemmas
 pub mod RouteLemmas
 pub mod ValueLemmas

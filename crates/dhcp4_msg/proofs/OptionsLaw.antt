@@ -83,7 +83,7 @@ abbrev end_after : List (ℕ × DhcpV4Option) → List ℕ
 end_after es = cond (is_some (find nat_cmp 255 es)) [] (255 ∷ [])
 
 -- what the order answers below
-is_below : (a b : ℕ) → is_lt (nat_cmp a b) ≡ true → a < b
+pub is_below : (a b : ℕ) → is_lt (nat_cmp a b) ≡ true → a < b
 is_below a b is =
     elim (nat_cmp a b) as (λ r. r ≡ nat_cmp a b → is_lt r ≡ true → a < b) [
       | Less ↦ λ same _. ranked a b Less same

@@ -1,7 +1,6 @@
 -- Options entered in a map one after the other.
 use Rattle.std.proofs.Common.{◌≡◌, ℕ, true, false, cond, List, [], ◌∷◌, IsTrue, Option, Some, None, filter_map, refl, sym, ap, subst, ◌∙◌}
-use Rattle.std.specs.List.{cons_option, list_all}
-use Rattle.std.specs.Map.{values_of}
+use Rattle.std.specs.List.{cons_option}
 use Rattle.std.specs.Cmp.{nat_cmp_total}
 use Rattle.std.specs.Ordering.{nat_cmp, is_lt, is_eq}
 use Rattle.std.specs.declared.cmp.Ordering.TheVariants.{Less, Equal, Greater}
@@ -9,15 +8,12 @@ use mathlib.Core.List.{reverse_aux}
 use Rattle.std.specs.FinMap as map
 use Rattle.std.specs.FinMap.{is_sorted, find, nat_cmp-IsAntisymmetric}
 use Rattle.std.specs.FinMap.Entries.{below_all}
-use Rattle.std.proofs.lemmas.Bool.{and_parts, eqb-true, false≢true}
+use Rattle.std.proofs.lemmas.Bool.{and_parts, false≢true}
 use Rattle.std.specs.declared.cmp.Ordering.{Ordering}
 use Rattle.dhcp4_msg.specs.declared.option.DhcpV4Option.{DhcpV4Option}
 use Rattle.dhcp4_msg.specs.Cut.{Item, item_at, left_after, with_later, cut}
-use Rattle.dhcp4_msg.specs.Kept.{is_kept, stands_well}
 use Rattle.dhcp4_msg.specs.Options.{OptionMap, reading_of, with_reading, read_options}
-use Rattle.dhcp4_msg.specs.Value.{option_number}
 use Rattle.dhcp4_msg.proofs.CutLemmas.{cut-item_at}
-use Rattle.dhcp4_msg.proofs.Entries.{passes}
 
 -- the options of some items, entered in turn
 abbrev pub entered : OptionMap → List Item → OptionMap
@@ -46,23 +42,9 @@ entered_more options bytes later item all so_far is =
 pub entered_end : (options : OptionMap) (bytes : List ℕ) (all : OptionMap) → entered options (cut bytes) ≡ all → item_at bytes ≡ None → options ≡ all
 entered_end options bytes all so_far is = sym (ap (entered options) (cut-item_at bytes ∙ ap (with_later cut) is)) ∙ so_far
 
--- options entered in turn, each under its own number
-abbrev pub all_entered : OptionMap → List DhcpV4Option → OptionMap
-all_entered options [] = options
-all_entered options (option ∷ later) = all_entered (map.insert options (option_number option) option) later
-
 unfoldable pub entries_entered : OptionMap → List (ℕ × DhcpV4Option) → OptionMap
 entries_entered options [] = options
 entries_entered options (e ∷ es) = entries_entered (map.insert options e.0 e.1) es
-
--- each option that is kept stands under its own number
-all_entered-entries : (es : List (ℕ × DhcpV4Option)) (options : OptionMap) → IsTrue (list_all stands_well es) → all_entered options (values_of es) ≡ entries_entered options es
-unfolding stands_well entries_entered
-all_entered-entries [] options all = refl
-all_entered-entries (e ∷ es) options all =
-    let parts = and_parts _ _ all in
-    let own = eqb-true _ _ (and_parts _ _ parts.0).0 in
-    ap (λ number. all_entered (map.insert options number e.1) (values_of es)) own ∙ all_entered-entries es (map.insert options e.0 e.1) parts.1
 
 -- a number that is below all is not found
 pub find-below_all : (q : ℕ) (es : List (ℕ × DhcpV4Option)) → IsTrue (below_all nat_cmp q es) → find nat_cmp q es ≡ None
@@ -101,12 +83,3 @@ pub alone : (found : Option DhcpV4Option) → first_of_two found None ≡ found
 unfolding first_of_two
 alone None = refl
 alone (Some option) = refl
-
--- the options of rising entries, entered in turn, are their map
-pub all_entered-kept : (es : List (ℕ × DhcpV4Option)) → IsTrue (is_kept es) → all_entered map.empty (values_of es) ≡ map.from_sorted {R = nat_cmp} es
-unfolding is_kept
-all_entered-kept es kept =
-    let parts = and_parts _ _ kept in
-    all_entered-entries es map.empty parts.1
-    ∙ map.same_map nat_cmp_total nat_cmp-IsAntisymmetric _ _ (λ q. get-entries_entered es map.empty q parts.0
-    ∙ ap (first_of_two (find nat_cmp q es)) (map.get-empty nat_cmp q) ∙ alone _ ∙ sym (map.get-from_sorted nat_cmp es q (passes _ parts.0)))

@@ -4,7 +4,7 @@ pub mod Laws
 pub mod Route
 pub mod Value
 pub mod Cut
-pub mod Kept
+pub mod Slots
 pub mod Options
 pub mod Message
 pub mod View

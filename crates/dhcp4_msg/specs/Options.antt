@@ -2,14 +2,15 @@
 use Rattle.std.specs.Prelude.{ℕ, List, [], ◌∷◌, ◌++◌, reverse, Option, Some, None, option_map, if◌then◌else◌}
 use Rattle.std.specs.Ordering.{nat_cmp}
 use Rattle.std.specs.List.{flat_map, filter_map}
+use Rattle.std.specs.Option.{option_or}
 use Rattle.std.specs.FinMap as map
 use Rattle.dhcp_wire.specs.Field.{Read, ◌>>=◌}
 use Rattle.dhcp4_msg.specs.declared.message_type.DhcpV4MessageType.{DhcpV4MessageType}
 use Rattle.dhcp4_msg.specs.declared.option.DhcpV4Option.{DhcpV4Option}
-use Rattle.dhcp4_msg.specs.declared.option.DhcpV4Option.TheVariants.{MessageType}
+use Rattle.dhcp4_msg.specs.declared.route.DhcpV4ClasslessRoute.{DhcpV4ClasslessRoute}
 use Rattle.dhcp4_msg.specs.OptionCode.{code_of}
 use Rattle.dhcp4_msg.specs.Cut.{Item, item_at, cut}
-use Rattle.dhcp4_msg.specs.Value.{value_of, written_option}
+use Rattle.dhcp4_msg.specs.Value.{value_of, written_option, type_said, routes_said}
 
 -- options by their numbers
 abbrev pub OptionMap : Type 0
@@ -49,11 +50,14 @@ added_end options = if map.contains_key options 255 then [] else 255 ∷ []
 unfoldable pub written_options : OptionMap → List ℕ
 written_options options = flat_map written_option (map.values options) ++ added_end options
 
--- the type that an option says
-abbrev pub type_in_option : DhcpV4Option → Option DhcpV4MessageType
-type_in_option (MessageType kind) = Some kind
-type_in_option _ = None
+-- what the option of this number says
+abbrev pub said_by : {X : Type 0} → (DhcpV4Option → Option X) → OptionMap → ℕ → Option X
+said_by says options number = map.get options number >>= says
 
 -- the type of a message with these options, of option 53
 unfoldable pub message_type : OptionMap → Option DhcpV4MessageType
-message_type options = map.get options 53 >>= type_in_option
+message_type options = said_by type_said options 53
+
+-- the routes of option 121, RFC 3442; where it is absent those of option 249, in which some servers send them
+unfoldable pub classless_routes : OptionMap → Option (List DhcpV4ClasslessRoute)
+classless_routes options = option_or (map.get options 121) (map.get options 249) >>= routes_said

@@ -1,5 +1,5 @@
 -- The values of options, RFC 2132: how each reads, and how it is written.
-use Rattle.std.specs.Prelude.{ℕ, ◌&&◌, nat_le, Bool, true, false, List, [], ◌∷◌, ◌++◌, length, map, take, Option, Some, option_map}
+use Rattle.std.specs.Prelude.{◌≡◌, ℕ, ◌&&◌, nat_le, Bool, true, false, List, [], ◌∷◌, ◌++◌, length, map, take, Option, Some, None, IsTrue, option_map}
 use Rattle.std.specs.List.{flat_map}
 use Rattle.std.specs.Int.{Width, w8, w16, w32, to_be_bytes}
 use Rattle.std.specs.declared.net.Ipv4Addr.{Ipv4Addr}
@@ -9,6 +9,7 @@ use Rattle.dhcp4_msg.specs.declared.option_code.DhcpV4OptionCode.TheVariants as 
 use Rattle.dhcp4_msg.specs.declared.message_type.DhcpV4MessageType.{DhcpV4MessageType}
 use Rattle.dhcp4_msg.specs.declared.option.DhcpV4Option.{DhcpV4Option}
 use Rattle.dhcp4_msg.specs.declared.option.DhcpV4Option.TheVariants.{Pad, SubnetMask, Router, DomainNameServer, HostName, DomainName, InterfaceMtu, BroadcastAddress, NtpServers, RequestedIpAddress, IpAddressLeaseTime, MessageType, ServerIdentifier, ParameterRequestList, Message, RenewalTime, RebindingTime, ClientIdentifier, ClasslessStaticRoute, End, Unknown}
+use Rattle.dhcp4_msg.specs.declared.route.DhcpV4ClasslessRoute.{DhcpV4ClasslessRoute}
 use Rattle.dhcp4_msg.specs.OptionCode.{number_of, code_of}
 use Rattle.dhcp4_msg.specs.MessageType.{type_number, type_of}
 use Rattle.dhcp4_msg.specs.Route.{routes_of, written_route}
@@ -94,7 +95,7 @@ written_value (ClasslessStaticRoute routes) = flat_map written_route routes
 written_value End = []
 written_value (Unknown option) = option.raw
 
--- the code of each option
+-- the code of each option; that of an unknown one is the name that its number has, if any
 unfoldable pub option_code : DhcpV4Option → DhcpV4OptionCode
 option_code Pad = codes.Pad
 option_code (SubnetMask address) = codes.SubnetMask
@@ -116,7 +117,7 @@ option_code (RebindingTime seconds) = codes.RebindingTime
 option_code (ClientIdentifier bytes) = codes.ClientIdentifier
 option_code (ClasslessStaticRoute routes) = codes.ClasslessStaticRoute
 option_code End = codes.End
-option_code (Unknown option) = codes.Other option.code
+option_code (Unknown option) = code_of option.code
 
 -- the number of an option
 abbrev pub option_number : DhcpV4Option → ℕ
@@ -141,3 +142,97 @@ has_own_code _ = true
 -- whether an option can be written: its value has at most 255 bytes
 unfoldable pub fits : DhcpV4Option → Bool
 fits option = nat_le (length (written_value option)) 255 && has_own_code option
+
+-- ---- what an option says, by the kind of its value
+
+-- one address
+abbrev pub address_said : DhcpV4Option → Option Ipv4Addr
+address_said (SubnetMask address) = Some address
+address_said (BroadcastAddress address) = Some address
+address_said (RequestedIpAddress address) = Some address
+address_said (ServerIdentifier address) = Some address
+address_said _ = None
+
+-- a list of addresses
+abbrev pub addresses_said : DhcpV4Option → Option (List Ipv4Addr)
+addresses_said (Router addresses) = Some addresses
+addresses_said (DomainNameServer addresses) = Some addresses
+addresses_said (NtpServers addresses) = Some addresses
+addresses_said _ = None
+
+-- a text
+abbrev pub text_said : DhcpV4Option → Option (List ℕ)
+text_said (HostName text) = Some text
+text_said (DomainName text) = Some text
+text_said (Message text) = Some text
+text_said _ = None
+
+-- a size in bytes
+abbrev pub size_said : DhcpV4Option → Option ℕ
+size_said (InterfaceMtu size) = Some size
+size_said _ = None
+
+-- a time in seconds
+abbrev pub seconds_said : DhcpV4Option → Option ℕ
+seconds_said (IpAddressLeaseTime seconds) = Some seconds
+seconds_said (RenewalTime seconds) = Some seconds
+seconds_said (RebindingTime seconds) = Some seconds
+seconds_said _ = None
+
+-- a message type
+abbrev pub type_said : DhcpV4Option → Option DhcpV4MessageType
+type_said (MessageType kind) = Some kind
+type_said _ = None
+
+-- the codes that are requested
+abbrev pub codes_said : DhcpV4Option → Option (List DhcpV4OptionCode)
+codes_said (ParameterRequestList requested) = Some requested
+codes_said _ = None
+
+-- bytes as they stand: a client identifier, or the value of an unknown option
+abbrev pub bytes_said : DhcpV4Option → Option (List ℕ)
+bytes_said (ClientIdentifier bytes) = Some bytes
+bytes_said (Unknown option) = Some option.raw
+bytes_said _ = None
+
+-- routes; those of an unknown option are the ones that fill its bytes exactly
+abbrev pub routes_said : DhcpV4Option → Option (List DhcpV4ClasslessRoute)
+routes_said (ClasslessStaticRoute routes) = Some routes
+routes_said (Unknown option) = routes_of option.raw
+routes_said _ = None
+
+-- ---- the options of each code
+
+-- an option of one variant
+abbrev pub IsMadeBy : {X : Type 0} → (X → DhcpV4Option) → DhcpV4Option → Type 0
+IsMadeBy {X = X} make option = (value : X) × (option ≡ make value)
+
+-- The options of a code: of a name those of its variant, of a number alone those of that number.
+abbrev pub IsOfCode : DhcpV4OptionCode → DhcpV4Option → Type 0
+IsOfCode codes.Pad option = option ≡ Pad
+IsOfCode codes.SubnetMask option = IsMadeBy SubnetMask option
+IsOfCode codes.Router option = IsMadeBy Router option
+IsOfCode codes.DomainNameServer option = IsMadeBy DomainNameServer option
+IsOfCode codes.HostName option = IsMadeBy HostName option
+IsOfCode codes.DomainName option = IsMadeBy DomainName option
+IsOfCode codes.InterfaceMtu option = IsMadeBy InterfaceMtu option
+IsOfCode codes.BroadcastAddress option = IsMadeBy BroadcastAddress option
+IsOfCode codes.NtpServers option = IsMadeBy NtpServers option
+IsOfCode codes.RequestedIpAddress option = IsMadeBy RequestedIpAddress option
+IsOfCode codes.IpAddressLeaseTime option = IsMadeBy IpAddressLeaseTime option
+IsOfCode codes.MessageType option = IsMadeBy MessageType option
+IsOfCode codes.ServerIdentifier option = IsMadeBy ServerIdentifier option
+IsOfCode codes.ParameterRequestList option = IsMadeBy ParameterRequestList option
+IsOfCode codes.Message option = IsMadeBy Message option
+IsOfCode codes.RenewalTime option = IsMadeBy RenewalTime option
+IsOfCode codes.RebindingTime option = IsMadeBy RebindingTime option
+IsOfCode codes.ClientIdentifier option = IsMadeBy ClientIdentifier option
+IsOfCode codes.ClasslessStaticRoute option = IsMadeBy ClasslessStaticRoute option
+IsOfCode codes.End option = option ≡ End
+IsOfCode (codes.Other number) option = option_number option ≡ number
+
+-- an option that is kept under a code: it has the number of that code, can be written, and is of that code
+pub record IsKeptAs (code : DhcpV4OptionCode) (option : DhcpV4Option) : Type 0 where
+  pub own : option_number option ≡ number_of code
+  pub fit : IsTrue (fits option)
+  pub kind : IsOfCode code option

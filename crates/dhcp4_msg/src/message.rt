@@ -1,6 +1,7 @@
 //! DHCPv4 messages, RFC 2131 section 2.
 
-ghost use Rattle.std.specs.Prelude.{◌≡◌, ok_or};
+ghost use Rattle.std.specs.Prelude.{◌≡◌, ◌↔◌, None, ok_or};
+ghost use Rattle.std.specs.FinMap as map;
 ghost use Rattle.dhcp_wire.specs.Outcome.{Gives, Reads, Emits};
 ghost use Rattle.dhcp_wire.specs.Field.{bytes_at};
 ghost use Rattle.dhcp4_msg.specs.Options as options;
@@ -14,7 +15,7 @@ ghost use Rattle.dhcp4_msg.specs.Message.{
 };
 
 use crate::value::unreadable;
-use crate::{DhcpV4MessageType, DhcpV4Option, DhcpV4OptionCode, DhcpV4Options};
+use crate::{DhcpV4MessageType, DhcpV4OptionCode, DhcpV4Options};
 use dhcp_wire::{Buffer, BufferMut, DhcpError, ErrorKind, Text};
 use std::alloc::Global;
 use std::net::Ipv4Addr;
@@ -67,15 +68,15 @@ impl DhcpV4Message {
         }
     }
 
-    /// The type that option 53 says, if there is one.
+    /// The type that option 53 says, RFC 2132 section 9.6: none if and only if there is no option 53.
     #[tactic(auto, unfolding(crate::specs::Options::message_type, crate::specs::OptionCode::number_of))]
     pub fn message_type(&self) -> Option<DhcpV4MessageType>
-        ensures { result ≡ options.message_type self.now.options }
+        ensures value { result ≡ options.message_type self.now.options }
+        ensures none { (result ≡ None) ↔ (map.get self.now.options 53 ≡ None) }
     {
-        match self.options.get(DhcpV4OptionCode::MessageType) {
-            Some(DhcpV4Option::MessageType(kind)) => Some(*kind),
-            _ => None,
-        }
+        self.options
+            .get(DhcpV4OptionCode::MessageType)?
+            .message_type()
     }
 
     /// Reads a message. `InvalidDhcpMessage` exactly where it has fewer than 240 bytes, where the cookie is not there, or where

@@ -1,6 +1,6 @@
 //! Options, RFC 2132.
 
-ghost use Rattle.std.specs.Prelude.{◌≡◌, length, IsTrue};
+ghost use Rattle.std.specs.Prelude.{◌≡◌, length, IsTrue, IfOk};
 ghost use Rattle.dhcp4_msg.specs.Value.{option_code, written_value, written_option, fits, has_own_code};
 ghost use Rattle.dhcp_wire.specs.Outcome.{Makes, Emits};
 ghost use Rattle.dhcp4_msg.specs.Outcome.{ReadsOption};
@@ -63,7 +63,7 @@ impl DhcpV4OptionUnknown {
 }
 
 impl DhcpV4Option {
-    /// The code of the option.
+    /// The code of the option; that of an unknown option is the name that its number has, if any.
     #[tactic(auto, unfolding(crate::specs::Value::option_code))]
     pub fn code(&self) -> DhcpV4OptionCode
         ensures { result ≡ option_code self.now }
@@ -89,14 +89,17 @@ impl DhcpV4Option {
             DhcpV4Option::ClientIdentifier(_) => DhcpV4OptionCode::ClientIdentifier,
             DhcpV4Option::ClasslessStaticRoute(_) => DhcpV4OptionCode::ClasslessStaticRoute,
             DhcpV4Option::End => DhcpV4OptionCode::End,
-            DhcpV4Option::Unknown(unknown) => DhcpV4OptionCode::Other(unknown.code),
+            DhcpV4Option::Unknown(unknown) => DhcpV4OptionCode::from(unknown.code),
         }
     }
-    /// Reads the option at the place. `InvalidDhcpMessage` exactly where it is cut short, and then the place stays, or where its
-    /// value has no reading, and then the option is passed. Want of memory leaves the place.
+
+    /// Reads the option at the position, RFC 2132 section 2. `InvalidDhcpMessage` if and only if it is truncated, and then
+    /// the position does not move, or its value has no reading, and then the option is skipped. When out of memory the
+    /// position does not move. The option fits.
     #[tactic(auto, unfolding(crate::specs::Options::option_at))]
     pub fn parse(alloc: Global, buf: &mut Buffer) -> Result<Self, DhcpError>
-        ensures { ReadsOption result buf.old buf.new }
+        ensures read { ReadsOption result buf.old buf.new }
+        ensures fit { IfOk result (λ option. IsTrue (fits option)) }
     {
         let Some((item, later)) = item_at(buf.get_remains()) else {
             return Err(unreadable());
@@ -114,6 +117,7 @@ impl DhcpV4Option {
             }
         }
     }
+
     /// A copy.
     pub fn try_clone(&self, alloc: Global) -> Result<Self, DhcpError>
         ensures { Makes (λ made. made) result self.now }

@@ -1,7 +1,8 @@
 //! The options of a message, by their numbers.
 
-ghost use Rattle.std.specs.Prelude.{◌≡◌, ◌≤◌, ◌==◌, ◌&&◌, length, OnOk, IfErr, MatchResult, IfSome, IsTrue, option_copied, option_map, vec_items};
+ghost use Rattle.std.specs.Prelude.{◌≡◌, ◌≤◌, ◌<◌, ◌==◌, ◌&&◌, length, OnOk, IfErr, MatchResult, IfSome, IsTrue, option_copied, option_map, slice_set, vec_items};
 ghost use Rattle.std.specs.List.{flat_map};
+ghost use Rattle.std.specs.Option.{option_eq};
 ghost use Rattle.std.specs.Cmp.{on_per, on_equiv, and_per, and_equiv, nat_eq_equiv, partial_equiv_from_equiv};
 ghost use Rattle.std.specs.Cmp.Lexicographic.{pointwise, lists_per, lists_equiv};
 ghost use Rattle.std.specs.FinMap as map;
@@ -10,21 +11,46 @@ ghost use Rattle.dhcp_wire.specs.Outcome.{Makes, Emits};
 ghost use Rattle.dhcp4_msg.specs.contracts.option.DhcpV4OptionPartialEq.TheImpl.Laws as option_per;
 ghost use Rattle.dhcp4_msg.specs.contracts.option.DhcpV4OptionEq.TheImpl.Laws as option_equiv;
 ghost use Rattle.dhcp4_msg.specs.OptionCode.{number_of};
-ghost use Rattle.dhcp4_msg.specs.Value.{option_number, written_option, fits};
-ghost use Rattle.dhcp4_msg.specs.Options.{reading_of, with_reading, read_options, written_options};
+ghost use Rattle.dhcp4_msg.specs.Value.{
+  address_said,
+  addresses_said,
+  bytes_said,
+  codes_said,
+  fits,
+  IsKeptAs,
+  option_number,
+  seconds_said,
+  size_said,
+  text_said,
+  written_option,
+};
+ghost use Rattle.dhcp4_msg.specs.Options.{
+  classless_routes,
+  read_options,
+  reading_of,
+  said_by,
+  with_reading,
+  written_options,
+};
 
 use crate::cut::{END, Item, item_at, left_after};
 use crate::value::read_value;
-use crate::{DhcpV4Option, DhcpV4OptionCode};
-use dhcp_wire::{BufferMut, DhcpError, ErrorKind};
+use crate::{DhcpV4ClasslessRoute, DhcpV4Option, DhcpV4OptionCode};
+use dhcp_wire::{BufferMut, Bytes, DhcpError, ErrorKind, Sequence, Text};
 use std::alloc::Global;
-use std::collections::BTreeMap;
 use std::marker::Model;
+use std::net::Ipv4Addr;
 
-/// The options of a message. Contracts see it as a finite map from number to option.
+// The number of the option in which some servers send routes.
+const PRIVATE_ROUTES: u8 = 249;
+
+/// The options of a message, RFC 2132. Contracts see it as a finite map from number to option.
 #[derive(Debug, Drop)]
 pub struct DhcpV4Options {
-    kept: BTreeMap<u8, DhcpV4Option>,
+    // The options that are kept.
+    kept: Vec<DhcpV4Option>,
+    // For each number the place of its option among them, if it is there.
+    places: [Option<u8>; 256],
 }
 
 impl Model for DhcpV4Options {
@@ -37,12 +63,11 @@ impl Model for DhcpV4Options {
 
     ghost coded = { map.code coded_ℕ option.the_row.coded };
 
-    ghost use Rattle.std.specs.Prelude.{IsTrue};
-    ghost use Rattle.dhcp4_msg.specs.Kept.{is_kept};
+    ghost use Rattle.dhcp4_msg.specs.Slots.{IsIndexed, map_of};
 
-    ghost view = { λ options. map.from_sorted options.kept.entries };
+    ghost view = { λ options. map_of options.kept.items };
 
-    ghost invariant = { λ options. IsTrue (is_kept options.kept.entries) };
+    ghost invariant = { λ options. IsIndexed options.kept.items options.places };
 }
 
 impl PartialEq for DhcpV4Options {
@@ -54,7 +79,14 @@ impl PartialEq for DhcpV4Options {
         (on_per (λ p. p.1) option_per.laws-law))) };
 
     fn eq(&self, other: &Self) -> bool {
-        self.kept == other.kept
+        let _ = &self.kept;
+        let _ = &other.kept;
+        for number in 0..=u8::MAX {
+            if !self.agrees_at(other, number) {
+                return false;
+            }
+        }
+        true
     }
 }
 
@@ -70,16 +102,86 @@ impl DhcpV4Options {
         ensures { result ≡ map.empty }
     {
         DhcpV4Options {
-            kept: BTreeMap::new(alloc),
+            kept: Vec::new(alloc),
+            places: [None; 256],
         }
     }
 
-    /// The option of that number, if it is kept.
+    /// The option of that code, if it is kept: it is of that code, and can be written.
     #[tactic(auto, unfolding(crate::specs::OptionCode::number_of))]
     pub fn get(&self, code: DhcpV4OptionCode) -> Option<&DhcpV4Option>
-        ensures { option_copied result ≡ map.get self.now (number_of code) }
+        ensures value { option_copied result ≡ map.get self.now (number_of code) }
+        ensures kept { IfSome result (λ option. IsKeptAs code option.now) }
     {
-        self.kept.get(&u8::from(code))
+        self.kept_at(u8::from(code))
+    }
+
+    /// The address that the option of this code says: of codes 1, 28, 50 and 54.
+    pub fn address(&self, code: DhcpV4OptionCode) -> Option<Ipv4Addr>
+        ensures { result ≡ said_by address_said self.now (number_of code) }
+    {
+        self.get(code)?.address()
+    }
+
+    /// The addresses that the option of this code says: of codes 3, 6 and 42.
+    pub fn addresses(&self, code: DhcpV4OptionCode) -> Option<&Sequence<Ipv4Addr>>
+        ensures { option_copied result ≡ said_by addresses_said self.now (number_of code) }
+    {
+        self.get(code)?.addresses()
+    }
+
+    /// The text that the option of this code says: of codes 12, 15 and 56.
+    pub fn text(&self, code: DhcpV4OptionCode) -> Option<&Text>
+        ensures { option_copied result ≡ said_by text_said self.now (number_of code) }
+    {
+        self.get(code)?.text()
+    }
+
+    /// The size in bytes that the option of this code says: of code 26.
+    pub fn size(&self, code: DhcpV4OptionCode) -> Option<u16>
+        ensures { result ≡ said_by size_said self.now (number_of code) }
+    {
+        self.get(code)?.size()
+    }
+
+    /// The time in seconds that the option of this code says: of codes 51, 58 and 59.
+    pub fn seconds(&self, code: DhcpV4OptionCode) -> Option<u32>
+        ensures { result ≡ said_by seconds_said self.now (number_of code) }
+    {
+        self.get(code)?.seconds()
+    }
+
+    /// The bytes that the option of this code says: of code 61, or of a number without a name.
+    pub fn bytes(&self, code: DhcpV4OptionCode) -> Option<&Bytes>
+        ensures { option_copied result ≡ said_by bytes_said self.now (number_of code) }
+    {
+        self.get(code)?.bytes()
+    }
+
+    /// The codes that option 55 requests, RFC 2132 section 9.8.
+    #[tactic(auto, unfolding(crate::specs::OptionCode::number_of))]
+    pub fn requested_codes(&self) -> Option<&Sequence<DhcpV4OptionCode>>
+        ensures { option_copied result ≡ said_by codes_said self.now 55 }
+    {
+        self.get(DhcpV4OptionCode::ParameterRequestList)?
+            .requested_codes()
+    }
+
+    /// A copy of the routes of option 121, RFC 3442; where it is absent the routes that fill the value of option 249.
+    #[tactic(auto, unfolding(crate::specs::Options::classless_routes, crate::specs::OptionCode::number_of))]
+    pub fn classless_routes(
+        &self,
+        alloc: Global,
+    ) -> Result<Option<Sequence<DhcpV4ClasslessRoute>>, DhcpError>
+        ensures { Makes (λ routes. routes) result (classless_routes self.now) }
+    {
+        if let Some(option) = self.get(DhcpV4OptionCode::ClasslessStaticRoute) {
+            return option.routes(alloc);
+        }
+        match self.get(DhcpV4OptionCode::Other(PRIVATE_ROUTES)) {
+            Some(option) => option.routes(alloc),
+            None => Ok(None),
+        }
     }
 
     /// Keeps the option in place of the one of its number. After an error nothing has changed.
@@ -88,18 +190,30 @@ impl DhcpV4Options {
         ensures ok { OnOk result (self.new ≡ map.insert self.old (option_number option) option) }
         ensures err { IfErr result (λ e. (e ≡ no_memory) × (self.new ≡ self.old)) }
     {
-        self.kept.insert(u8::from(option.code()), option)?;
+        let number = usize::from(u8::from(option.code()));
+        match self.places[number] {
+            Some(place) => put(&mut self.kept, usize::from(place), option),
+            None => {
+                let place = self.kept.len();
+                self.kept.push(option)?;
+                self.places[number] = Some(place as u8);
+            }
+        }
         Ok(())
     }
+
     /// A copy.
     pub fn try_clone(&self, alloc: Global) -> Result<Self, DhcpError>
         ensures { Makes (λ made. made) result self.now }
     {
-        let mut copy = DhcpV4Options::new(alloc);
-        for option in self.kept.values() {
-            copy.insert(option.try_clone(alloc)?)?;
+        let mut kept = Vec::with_capacity(alloc, self.kept.len())?;
+        for option in &self.kept {
+            kept.push(option.try_clone(alloc)?)?;
         }
-        Ok(copy)
+        Ok(DhcpV4Options {
+            kept,
+            places: self.places,
+        })
     }
 
     /// Reads a list of options. Of a number that comes more than once the last option that reads is kept; an option without a
@@ -146,9 +260,20 @@ impl DhcpV4Options {
     // The option of that number, if it is kept: it fits.
     fn kept_at(&self, number: u8) -> Option<&DhcpV4Option>
         ensures value { option_copied result ≡ map.get self.now number }
+        ensures own { IfSome result (λ option. option_number option.now ≡ number) }
         ensures fit { IfSome result (λ option. IsTrue (fits option.now)) }
     {
-        self.kept.get(&number)
+        match self.places[usize::from(number)] {
+            Some(place) => Some(&self.kept[usize::from(place)]),
+            None => None,
+        }
+    }
+
+    // Whether both keep equal options under this number, or none.
+    fn agrees_at(&self, other: &Self, number: u8) -> bool
+        ensures { result ≡ option_eq ⟦<DhcpV4Option as PartialEq>⟧.eq (map.get self.now number) (map.get other.now number) }
+    {
+        self.kept_at(number) == other.kept_at(number)
     }
 
     /// Writes the options by rising number, and End last, also where it is not among them.
@@ -167,9 +292,19 @@ impl DhcpV4Options {
     fn emit_kept(&self, buf: &mut BufferMut) -> Result<(), DhcpError>
         ensures { Emits result buf.old buf.new (flat_map written_option (map.values self.now)) }
     {
-        for option in self.kept.values() {
-            option.emit(buf)?;
+        for place in &self.places {
+            if let Some(place) = place {
+                self.kept[usize::from(*place)].emit(buf)?;
+            }
         }
         Ok(())
     }
+}
+
+// Puts the option in place of the one that stands there.
+fn put(kept: &mut Vec<DhcpV4Option>, place: usize, option: DhcpV4Option)
+    requires { place < length kept.old.items }
+    ensures { kept.new.items ≡ slice_set kept.old.items place option }
+{
+    kept[place] = option;
 }

@@ -1,10 +1,27 @@
 //! The values of options, as they read, RFC 2132: one function for each kind of value, one row for each code.
 
-ghost use Rattle.std.specs.Prelude.{◌≡◌, map, ok_or};
+ghost use Rattle.std.specs.Prelude.{◌≡◌, map, ok_or, option_copied};
 ghost use Rattle.std.specs.Int.{w16, w32};
 ghost use Rattle.dhcp_wire.specs.Outcome.{Gives, Makes};
 ghost use Rattle.dhcp4_msg.specs.OptionCode.{code_of};
-ghost use Rattle.dhcp4_msg.specs.Value.{address_in, addresses_in, number_in, text_in, type_in, value_of};
+ghost use Rattle.dhcp4_msg.specs.Route.{routes_of};
+ghost use Rattle.dhcp4_msg.specs.Value.{
+  address_in,
+  address_said,
+  addresses_in,
+  addresses_said,
+  bytes_said,
+  codes_said,
+  number_in,
+  routes_said,
+  seconds_said,
+  size_said,
+  text_in,
+  text_said,
+  type_in,
+  type_said,
+  value_of,
+};
 
 use crate::{
     DhcpV4ClasslessRoute, DhcpV4MessageType, DhcpV4Option, DhcpV4OptionCode, DhcpV4OptionUnknown,
@@ -139,4 +156,121 @@ pub(crate) fn unreadable() -> DhcpError
     ensures { result.kind ≡ ErrorKind.InvalidDhcpMessage }
 {
     DhcpError::new_fixed(ErrorKind::InvalidDhcpMessage, FixedText::Unreadable)
+}
+
+impl DhcpV4Option {
+    /// The address of an option that has one: 1, 28, 50 and 54.
+    pub fn address(&self) -> Option<Ipv4Addr>
+        ensures { result ≡ address_said self.now }
+    {
+        match self {
+            DhcpV4Option::SubnetMask(address)
+            | DhcpV4Option::BroadcastAddress(address)
+            | DhcpV4Option::RequestedIpAddress(address)
+            | DhcpV4Option::ServerIdentifier(address) => Some(*address),
+            _ => None,
+        }
+    }
+
+    /// The addresses of an option that has a list of them: 3, 6 and 42.
+    pub fn addresses(&self) -> Option<&Sequence<Ipv4Addr>>
+        ensures { option_copied result ≡ addresses_said self.now }
+    {
+        match self {
+            DhcpV4Option::Router(addresses)
+            | DhcpV4Option::DomainNameServer(addresses)
+            | DhcpV4Option::NtpServers(addresses) => Some(addresses),
+            _ => None,
+        }
+    }
+
+    /// The text of an option that has one: 12, 15 and 56.
+    pub fn text(&self) -> Option<&Text>
+        ensures { option_copied result ≡ text_said self.now }
+    {
+        match self {
+            DhcpV4Option::HostName(text)
+            | DhcpV4Option::DomainName(text)
+            | DhcpV4Option::Message(text) => Some(text),
+            _ => None,
+        }
+    }
+
+    /// The size of an option that has one, in bytes: 26.
+    pub fn size(&self) -> Option<u16>
+        ensures { result ≡ size_said self.now }
+    {
+        match self {
+            DhcpV4Option::InterfaceMtu(size) => Some(*size),
+            _ => None,
+        }
+    }
+
+    /// The time of an option that has one, in seconds: 51, 58 and 59.
+    pub fn seconds(&self) -> Option<u32>
+        ensures { result ≡ seconds_said self.now }
+    {
+        match self {
+            DhcpV4Option::IpAddressLeaseTime(seconds)
+            | DhcpV4Option::RenewalTime(seconds)
+            | DhcpV4Option::RebindingTime(seconds) => Some(*seconds),
+            _ => None,
+        }
+    }
+
+    /// The message type of option 53.
+    pub fn message_type(&self) -> Option<DhcpV4MessageType>
+        ensures { result ≡ type_said self.now }
+    {
+        match self {
+            DhcpV4Option::MessageType(kind) => Some(*kind),
+            _ => None,
+        }
+    }
+
+    /// The codes that option 55 requests.
+    pub fn requested_codes(&self) -> Option<&Sequence<DhcpV4OptionCode>>
+        ensures { option_copied result ≡ codes_said self.now }
+    {
+        match self {
+            DhcpV4Option::ParameterRequestList(codes) => Some(codes),
+            _ => None,
+        }
+    }
+
+    /// The bytes of option 61, or the value of an unknown option.
+    pub fn bytes(&self) -> Option<&Bytes>
+        ensures { option_copied result ≡ bytes_said self.now }
+    {
+        match self {
+            DhcpV4Option::ClientIdentifier(bytes) => Some(bytes),
+            DhcpV4Option::Unknown(unknown) => Some(&unknown.raw),
+            _ => None,
+        }
+    }
+
+    /// A copy of the routes of option 121, or the routes that fill the value of an unknown option exactly, if they do.
+    pub fn routes(&self, alloc: Global) -> Result<Option<Sequence<DhcpV4ClasslessRoute>>, DhcpError>
+        ensures { Makes (λ routes. routes) result (routes_said self.now) }
+    {
+        match self {
+            DhcpV4Option::ClasslessStaticRoute(routes) => Ok(Some(routes.try_clone(alloc)?)),
+            DhcpV4Option::Unknown(unknown) => routes_of(alloc, unknown.raw.as_slice()),
+            _ => Ok(None),
+        }
+    }
+}
+
+// The routes that fill the value exactly, if they do.
+fn routes_of(
+    alloc: Global,
+    value: &[u8],
+) -> Result<Option<Sequence<DhcpV4ClasslessRoute>>, DhcpError>
+    ensures { Makes (λ routes. routes) result (routes_of value.now) }
+{
+    match DhcpV4ClasslessRoute::parse_list(alloc, value) {
+        Ok(routes) => Ok(Some(routes)),
+        Err(error) if error.kind() == ErrorKind::OutOfMemory => Err(error),
+        Err(_) => Ok(None),
+    }
 }
