@@ -1,17 +1,18 @@
 -- What is written reads back.
-use Rattle.std.proofs.Common.{◌≡◌, ℕ, ◌<◌, ◌^◌, true, false, ◌==◌, ◌||◌, List, [], ◌∷◌, ◌++◌, length, map, take, Some, IsTrue, option_map, refl, sym, ap, subst, ◌∙◌, arith, length-append, append-nil, append_assoc}
+use Rattle.std.proofs.Common.{◌≡◌, ℕ, ◌<◌, ◌^◌, true, false, ◌==◌, ◌||◌, List, [], ◌∷◌, ◌++◌, length, map, take, Some, IsTrue, option_map, refl, sym, ap, subst, ◌∙◌, arith, append-nil, append_assoc}
 use Rattle.std.specs.Int.{w16, w32, to_be_bytes}
 use Rattle.std.specs.List.{AllByRecursion, flat_map}
 use Rattle.std.specs.declared.net.Ipv4Addr.{Ipv4Addr}
-use Rattle.std.proofs.lemmas.Bool.{le-leb, and_parts, eqb-true, false≢true}
-use Rattle.std.proofs.lemmas.List.{take_at, drop_at, take_all, length-take-le}
+use Rattle.std.proofs.lemmas.Bool.{and_parts, eqb-true, false≢true}
+use Rattle.std.proofs.lemmas.List.{take_all, length-take-le}
 use Rattle.dhcp_wire.specs.Field.{◌>>=◌, address_at, text_of, address_of}
+use Rattle.dhcp_wire.specs.Value.{address_in, addresses_in, number_in, text_in}
 use Rattle.dhcp_wire.proofs.FieldLaws.{bytes_at-append, address_at-octets, number_at-to_be_bytes, big_endian_16, big_endian_32, before_zero-append}
 use Rattle.dhcp_wire.proofs.Utf8.{text_of_utf8}
 use Rattle.dhcp4_msg.specs.declared.message_type.DhcpV4MessageType.{DhcpV4MessageType}
 use Rattle.dhcp4_msg.specs.declared.message_type.DhcpV4MessageType.TheVariants.{Discovery, Offer, Request, Decline, Ack, Nack, Release, Inform}
 use Rattle.dhcp4_msg.specs.declared.route.DhcpV4ClasslessRoute.{DhcpV4ClasslessRoute}
-use Rattle.dhcp4_msg.specs.Cut.{item_at}
+use Rattle.dhcp_wire.proofs.RawOptionLemmas.{raw_option_at-valued, raw_option_at-code_alone}
 use Rattle.dhcp4_msg.specs.OptionCode.{code_of, number_of}
 use Rattle.dhcp4_msg.specs.Options.{read_after, option_at}
 use Rattle.dhcp4_msg.specs.declared.option_code.DhcpV4OptionCode.{DhcpV4OptionCode}
@@ -22,15 +23,9 @@ use Rattle.dhcp4_msg.proofs.CodeLemmas.{nameless, number_of-code_of}
 use Rattle.dhcp4_msg.specs.MessageType.{type_of, type_number}
 use Rattle.dhcp4_msg.specs.Laws.{IsWhole, FitsOption, IsExact, ReadsBack, with_names}
 use Rattle.dhcp4_msg.specs.Route.{significant_octets, route_at, routes_of, written_route}
-use Rattle.dhcp4_msg.specs.Value.{address_in, addresses_in, number_in, text_in, type_in, written_addresses, written_text, written_option, written_value, option_code, value_of, fits, is_nameless}
-use Rattle.dhcp4_msg.proofs.FieldLemmas.{number_at-cons}
+use Rattle.dhcp4_msg.specs.Value.{type_in, written_addresses, written_text, written_option, written_value, option_code, value_of, fits, is_nameless}
+use Rattle.dhcp_wire.proofs.FieldLemmas.{number_at-cons}
 use Rattle.dhcp4_msg.proofs.RouteLemmas.{routes_of-read, routes_of-nil}
-
--- an option that has a value, whatever follows it
-pub item_at-valued : (number : ℕ) (value rest : List ℕ) → ((number == 0) || (number == 255)) ≡ false → item_at (number ∷ length value ∷ (value ++ rest)) ≡ Some ((number, value), rest)
-unfolding item_at
-item_at-valued number value rest valued =
-    rw (valued, le-leb (length value) (length (value ++ rest)) (omega (arith, length-append value rest)), take_at value rest (length value) refl, drop_at value rest (length value) refl) refl
 
 address_back : (address : Ipv4Addr) → IsWhole address → address_in address.octets ≡ Some address
 address_back address whole = ap (option_map (λ read. read.0)) (subst (λ bytes. address_at bytes ≡ Some (address, [])) (append-nil address.octets) (address_at-octets address [] whole))
@@ -97,7 +92,7 @@ codes_back (code ∷ requested) = ap (λ later. code_of (number_of code) ∷ lat
 back : (code : DhcpV4OptionCode) (number : ℕ) (value rest : List ℕ) (option : DhcpV4Option) → code_of number ≡ code → ((number == 0) || (number == 255)) ≡ false → value_of code value ≡ Some option → option_at (number ∷ length value ∷ (value ++ rest)) ≡ (Some option, rest)
 unfolding option_at
 back code number value rest option own valued reads =
-    ap (read_after (number ∷ length value ∷ (value ++ rest))) (item_at-valued number value rest valued)
+    ap (read_after (number ∷ length value ∷ (value ++ rest))) (raw_option_at-valued number value rest valued)
     ∙ ap (λ read. (read, rest)) (ap (λ code. value_of code value) own ∙ reads)
 
 nameless_valued : (number : ℕ) → is_nameless (code_of number) ≡ true → ((number == 0) || (number == 255)) ≡ false
@@ -113,9 +108,9 @@ nameless_valued number is =
 
 -- an option that fits reads back, whatever follows it
 pub option_back : (option : DhcpV4Option) (rest : List ℕ) → IsTrue (fits option) → ReadsBack option → option_at (written_option option ++ rest) ≡ (Some (with_names option), rest)
-unfolding option_at item_at written_option written_value option_code number_of code_of value_of ReadsBack fits
-option_back Pad rest fit has = refl
-option_back End rest fit has = refl
+unfolding option_at written_option written_value option_code number_of code_of value_of ReadsBack fits
+option_back Pad rest fit has = ap (read_after (0 ∷ rest)) (raw_option_at-code_alone 0 rest refl)
+option_back End rest fit has = ap (read_after (255 ∷ rest)) (raw_option_at-code_alone 255 rest refl)
 option_back (SubnetMask x) rest fit has = back codes.SubnetMask 1 (x.octets) rest (with_names (SubnetMask x)) refl refl (ap (option_map SubnetMask) (address_back x has))
 option_back (Router x) rest fit has = back codes.Router 3 (written_addresses x) rest (with_names (Router x)) refl refl (ap (λ addresses. Some (Router addresses)) (addresses_back x has))
 option_back (DomainNameServer x) rest fit has = back codes.DomainNameServer 6 (written_addresses x) rest (with_names (DomainNameServer x)) refl refl (ap (λ addresses. Some (DomainNameServer addresses)) (addresses_back x has))

@@ -1,13 +1,9 @@
 pub mod CodeLemmas
-pub mod CutLemmas
-pub mod EmitLemmas
-pub mod Entries
-pub mod FieldLemmas
-pub mod SlotLemmas
 pub mod LawLemmas
 pub mod MessageLaw
 pub mod OptionsLaw
 pub mod OptionsLemmas
 pub mod RisingLemmas
 pub mod RouteLemmas
+pub mod SlotLemmas
 pub mod ValueLemmas

@@ -9,39 +9,40 @@ use Rattle.std.specs.FinMap.{get, insert, entries, from_entries, empty, find, is
 use Rattle.std.specs.FinMap.Entries.{below_all}
 use Rattle.std.proofs.lemmas.Bool.{and_parts, and_from, eq-eqb, eqb-true, ne_eqb, false≢true}
 use Rattle.std.proofs.lemmas.Option.{none-some, same_Some}
-use Rattle.dhcp_wire.specs.Field.{Read}
+use Rattle.dhcp_wire.specs.Field.{Read, bytes_at}
 use Rattle.dhcp4_msg.specs.declared.option.DhcpV4Option.{DhcpV4Option}
 use Rattle.dhcp4_msg.specs.declared.option.DhcpV4Option.TheVariants.{ParameterRequestList, End}
 use Rattle.dhcp4_msg.specs.OptionCode.{code_of, number_of}
-use Rattle.dhcp4_msg.specs.Cut.{Item, item_at, left_after, with_later, cut, cut_within}
+use Rattle.dhcp_wire.specs.RawOption.{RawOptionParts, raw_option_at, counted_after, with_later, raw_options, raw_options_within}
+use Rattle.dhcp_wire.specs.declared.raw_option.OptionFormat.TheVariants.{DhcpV4}
 use Rattle.dhcp4_msg.specs.Laws.{ReadsBackUnder, OptionsReadBack, with_names, all_with_names}
-use Rattle.dhcp4_msg.specs.Options.{OptionMap, with_reading, read_after, option_at, read_options, written_options}
+use Rattle.dhcp4_msg.specs.Options.{OptionMap, with_entry, read_after, option_at, read_options, written_options}
 use Rattle.dhcp4_msg.specs.Value.{option_code, option_number, value_of, written_option}
-use Rattle.dhcp4_msg.proofs.CutLemmas.{cut-item_at}
-use Rattle.dhcp4_msg.proofs.Entries.{is_passed}
+use Rattle.dhcp_wire.proofs.RawOptionLemmas.{raw_options-raw_option_at}
+use Rattle.dhcp_wire.proofs.Entries.{is_passed}
 use Rattle.dhcp4_msg.proofs.LawLemmas.{option_back}
 use Rattle.dhcp4_msg.proofs.OptionsLemmas.{entered, entries_entered, get-entries_entered, alone, first_of_two, find-below_all, read_options-entered}
 use Rattle.dhcp4_msg.proofs.ValueLemmas.{option_number_value_of}
 
 -- an item that an option was read from, before the bytes that are left
-record IsItemOf (bytes rest : List ℕ) (option : DhcpV4Option) (item : Item) : Type 0 where
-  found : item_at bytes ≡ Some (item, rest)
-  reads : value_of (code_of item.0) item.1 ≡ Some option
+record IsItemOf (bytes rest : List ℕ) (option : DhcpV4Option) (item : RawOptionParts) : Type 0 where
+  found : raw_option_at DhcpV4 bytes ≡ Some (item, rest)
+  reads : value_of (code_of item.code) item.value ≡ Some option
 
 -- an option that was read was read from an item
-item_of_read : (read : Read Item) (bytes rest : List ℕ) (option : DhcpV4Option) → read_after bytes read ≡ (Some option, rest) → (item : Item) × (read ≡ Some (item, rest)) × (value_of (code_of item.0) item.1 ≡ Some option)
+item_of_read : (read : Read RawOptionParts) (bytes rest : List ℕ) (option : DhcpV4Option) → read_after bytes read ≡ (Some option, rest) → (item : RawOptionParts) × (read ≡ Some (item, rest)) × (value_of (code_of item.code) item.value ≡ Some option)
 item_of_read None bytes rest option is = absurd (none-some _ (ap (λ pair. pair.0) is))
 item_of_read (Some found) bytes rest option is = (found.0, ap (λ left. Some (found.0, left)) (ap (λ pair. pair.1) is), ap (λ pair. pair.0) is)
 
-item_of : (bytes rest : List ℕ) (option : DhcpV4Option) → option_at bytes ≡ (Some option, rest) → (item : Item) × IsItemOf bytes rest option item
+item_of : (bytes rest : List ℕ) (option : DhcpV4Option) → option_at bytes ≡ (Some option, rest) → (item : RawOptionParts) × IsItemOf bytes rest option item
 unfolding option_at
-item_of bytes rest option is = let found = item_of_read (item_at bytes) bytes rest option is in (found.0, record { found = found.1; reads = found.2 })
+item_of bytes rest option is = let found = item_of_read (raw_option_at DhcpV4 bytes) bytes rest option is in (found.0, record { found = found.1; reads = found.2 })
 
 -- an option at the front is entered, and then those after it
-entered_one : (options : OptionMap) (bytes rest : List ℕ) (option : DhcpV4Option) (item : Item) → IsItemOf bytes rest option item → entered options (cut bytes) ≡ entered (insert options item.0 option) (cut (left_after item.0 rest))
+entered_one : (options : OptionMap) (bytes rest : List ℕ) (option : DhcpV4Option) (item : RawOptionParts) → IsItemOf bytes rest option item → entered options (raw_options DhcpV4 bytes) ≡ entered (insert options item.code option) (raw_options DhcpV4 (counted_after DhcpV4 item.code rest))
 entered_one options bytes rest option item is =
-    ap (entered options) (cut-item_at bytes ∙ ap (with_later cut) is.found)
-    ∙ ap (λ read. entered (with_reading options (option_map (λ option. (item.0, option)) read)) (cut (left_after item.0 rest))) is.reads
+    ap (entered options) (raw_options-raw_option_at DhcpV4 bytes ∙ ap (with_later DhcpV4 (raw_options DhcpV4)) is.found)
+    ∙ ap (λ read. entered (with_entry options (option_map (λ option. (item.code, option)) read)) (raw_options DhcpV4 (counted_after DhcpV4 item.code rest))) is.reads
 
 -- names change no number
 option_number-with_names : (option : DhcpV4Option) → option_number (with_names option) ≡ option_number option
@@ -55,8 +56,8 @@ unfolding value_of code_of number_of
 end_of number value option is reads = sym (same_Some _ _ (rw is at reads))
 
 -- End alone is entered
-entered_end_alone : (options : OptionMap) → entered options (cut (255 ∷ [])) ≡ insert options 255 End
-unfolding cut_within item_at value_of code_of number_of
+entered_end_alone : (options : OptionMap) → entered options (raw_options DhcpV4 (255 ∷ [])) ≡ insert options 255 End
+unfolding raw_options_within raw_option_at bytes_at value_of code_of number_of
 entered_end_alone options = refl
 
 -- End once more changes nothing
@@ -114,32 +115,32 @@ none_above (e ∷ es) below back =
     absurd (omega (arith, above, byte))
 
 -- an option that is written is read from an item under its number
-item_back : (number : ℕ) (option : DhcpV4Option) (rest : List ℕ) → ReadsBackUnder number option → (item : Item) × IsItemOf (written_option option ++ rest) rest (with_names option) item × (item.0 ≡ number)
+item_back : (number : ℕ) (option : DhcpV4Option) (rest : List ℕ) → ReadsBackUnder number option → (item : RawOptionParts) × IsItemOf (written_option option ++ rest) rest (with_names option) item × (item.code ≡ number)
 item_back number option rest has =
     let item = item_of (written_option option ++ rest) rest (with_names option) (option_back option rest has.fit has.reads_back) in
-    (item.0, item.1, sym (option_number_value_of item.0.0 item.0.1 (with_names option) item.1.reads) ∙ option_number-with_names option ∙ has.is_own)
+    (item.0, item.1, sym (option_number_value_of item.0.code item.0.value (with_names option) item.1.reads) ∙ option_number-with_names option ∙ has.is_own)
 
 -- it is entered under that number, and then what follows it
-entered_first : (options : OptionMap) (number : ℕ) (option : DhcpV4Option) (rest : List ℕ) → ReadsBackUnder number option → entered options (cut (written_option option ++ rest)) ≡ entered (insert options number (with_names option)) (cut (left_after number rest))
+entered_first : (options : OptionMap) (number : ℕ) (option : DhcpV4Option) (rest : List ℕ) → ReadsBackUnder number option → entered options (raw_options DhcpV4 (written_option option ++ rest)) ≡ entered (insert options number (with_names option)) (raw_options DhcpV4 (counted_after DhcpV4 number rest))
 entered_first options number option rest has =
     let item = item_back number option rest has in
     entered_one options (written_option option ++ rest) rest (with_names option) item.0 item.1
-    ∙ ap (λ number. entered (insert options number (with_names option)) (cut (left_after number rest))) item.2
+    ∙ ap (λ number. entered (insert options number (with_names option)) (raw_options DhcpV4 (counted_after DhcpV4 number rest))) item.2
 
 -- an option under the number of End is End
 is_end : (number : ℕ) (option : DhcpV4Option) → number ≡ 255 → ReadsBackUnder number option → with_names option ≡ End
 is_end number option at has =
     let item = item_back number option [] has in
-    end_of item.0.0 item.0.1 (with_names option) (item.2 ∙ at) item.1.reads
+    end_of item.0.code item.0.value (with_names option) (item.2 ∙ at) item.1.reads
 
 -- after End there is nothing
-after_end : (options : OptionMap) (number : ℕ) (option : DhcpV4Option) (es : List (ℕ × DhcpV4Option)) → number ≡ 255 → ReadsBackUnder number option → es ≡ [] → entered (insert options number (with_names option)) (cut []) ≡ insert (entries_entered (insert options number (with_names option)) (named es)) 255 End
-unfolding entries_entered cut_within
+after_end : (options : OptionMap) (number : ℕ) (option : DhcpV4Option) (es : List (ℕ × DhcpV4Option)) → number ≡ 255 → ReadsBackUnder number option → es ≡ [] → entered (insert options number (with_names option)) (raw_options DhcpV4 []) ≡ insert (entries_entered (insert options number (with_names option)) (named es)) 255 End
+unfolding entries_entered raw_options_within
 after_end options number option es at has none =
     rw none (end_again options number (with_names option) at (is_end number option at has))
 
 -- Rising entries that are written, with End, are entered in turn.
-entries_back : (es : List (ℕ × DhcpV4Option)) (options : OptionMap) → IsTrue (is_sorted nat_cmp es) → EntriesReadBack es → entered options (cut (flat_map written_option (values_of es) ++ end_after es)) ≡ insert (entries_entered options (named es)) 255 End
+entries_back : (es : List (ℕ × DhcpV4Option)) (options : OptionMap) → IsTrue (is_sorted nat_cmp es) → EntriesReadBack es → entered options (raw_options DhcpV4 (flat_map written_option (values_of es) ++ end_after es)) ≡ insert (entries_entered options (named es)) 255 End
 unfolding entries_entered
 entries_back [] options rises back = entered_end_alone options
 entries_back (e ∷ es) options rises back =
@@ -148,15 +149,15 @@ entries_back (e ∷ es) options rises back =
     let later : EntriesReadBack es = λ q option is. back q option (find_later e.0 q option e.1 es parts.0 is) in
     let entered_now = insert options e.0 (with_names e.1) in
     let rest : List ℕ → List ℕ = λ last. flat_map written_option (values_of es) ++ last in
-    ap (λ bytes. entered options (cut bytes)) (append_assoc (written_option e.1) (flat_map written_option (values_of es)) (end_after (e ∷ es)))
+    ap (λ bytes. entered options (raw_options DhcpV4 bytes)) (append_assoc (written_option e.1) (flat_map written_option (values_of es)) (end_after (e ∷ es)))
     ∙ entered_first options e.0 e.1 (rest (end_after (e ∷ es))) has
-    ∙ elim (e.0 == 255) as (λ b. (e.0 == 255) ≡ b → entered entered_now (cut (cond b [] (rest (end_after (e ∷ es))))) ≡ insert (entries_entered entered_now (named es)) 255 End) [
+    ∙ elim (e.0 == 255) as (λ b. (e.0 == 255) ≡ b → entered entered_now (raw_options DhcpV4 (cond b [] (rest (end_after (e ∷ es))))) ≡ insert (entries_entered entered_now (named es)) 255 End) [
       | true ↦ λ at.
           let is : e.0 ≡ 255 = eqb-true _ _ at in
           after_end options e.0 e.1 es is has (none_above es (rw (← is) parts.0) later)
       | false ↦ λ at.
           let apart : eq_by_cmp nat_cmp 255 e.0 ≡ false = unsigned_tied 255 e.0 ∙ ne_eqb 255 e.0 (λ same. false≢true (sym at ∙ eq-eqb e.0 255 (sym same))) in
-          ap (λ b. entered entered_now (cut (rest (cond (is_some (cond b (Some e.1) (find nat_cmp 255 es))) [] (255 ∷ []))))) apart
+          ap (λ b. entered entered_now (raw_options DhcpV4 (rest (cond (is_some (cond b (Some e.1) (find nat_cmp 255 es))) [] (255 ∷ []))))) apart
           ∙ entries_back es entered_now parts.1 later
     ] refl
 
@@ -184,6 +185,6 @@ options_map_back options back =
     let es = entries options in
     let rises = is_passed _ (entries_sorted options) in
     sym (read_options-entered _)
-    ∙ ap (λ found. entered empty (cut (flat_map written_option (values_of es) ++ cond (is_some found) [] (255 ∷ [])))) (get-entries options 255)
+    ∙ ap (λ found. entered empty (raw_options DhcpV4 (flat_map written_option (values_of es) ++ cond (is_some found) [] (255 ∷ [])))) (get-entries options 255)
     ∙ entries_back es empty rises (λ number option is. back number option (get-entries options number ∙ is))
     ∙ ap (λ named. insert named 255 End) (entries_entered-map (named es) (rises-named es rises))

@@ -8,7 +8,7 @@ use Rattle.dhcp_wire.specs.Field.{Read, ◌>>=◌, bytes_at, number_at, address_
 use Rattle.dhcp4_msg.specs.declared.route.DhcpV4ClasslessRoute.{DhcpV4ClasslessRoute}
 use Rattle.dhcp4_msg.specs.Route.{significant_octets, padded_octets, written_route, route_at, routes_within, routes_of}
 use Rattle.dhcp_wire.proofs.FieldLaws.{bytes_at_cut}
-use Rattle.dhcp4_msg.proofs.FieldLemmas.{number_at-split, address_at-split, Within, Within-then, Within-map, Within-bytes_at}
+use Rattle.dhcp_wire.proofs.FieldLemmas.{number_at-split, address_at-split, Within, Within-then, Within-map, Within-bytes_at}
 
 -- the significant octets of a destination are four at most
 pub significant_octets-le : (width : ℕ) (bytes octets rest : List ℕ) → bytes_at (significant_octets width) bytes ≡ Some (octets, rest) → length octets ≤ 4

@@ -18,10 +18,10 @@ use Rattle.std.proofs.lemmas.List.Sums.{count_by-le-length, sum_by-set, passes_a
 use Rattle.std.proofs.lemmas.Option.{none-some, same_Some, slice_get-get_or, slice_get_past, slice_get_within}
 use Rattle.dhcp4_msg.specs.declared.option.DhcpV4Option.{DhcpV4Option}
 use Rattle.dhcp4_msg.specs.Options.{OptionMap}
-use Rattle.dhcp4_msg.specs.Slots.{by_number, map_of, has_number, kept_in, CanBeKept, IsIndexed}
+use Rattle.dhcp4_msg.specs.Options.{by_number, map_of, has_number, kept_in, CanBeKept, IsIndexed}
 use Rattle.dhcp4_msg.specs.Value.{option_number}
 use Rattle.dhcp4_msg.specs.contracts.option.DhcpV4OptionPartialEq.TheImpl.{ghosts}
-use Rattle.dhcp4_msg.proofs.Entries.{is_passed}
+use Rattle.dhcp_wire.proofs.Entries.{is_passed}
 use Rattle.dhcp4_msg.proofs.RisingLemmas.{Rising, Rising-is_sorted, values_of-rising, pairs_eq, equal_at, equal_in_pairs}
 
 -- the first place that passes, where there is one

@@ -7,13 +7,14 @@ use Rattle.std.specs.declared.net.Ipv4Addr.{Ipv4Addr}
 use Rattle.std.proofs.lemmas.Bool.{and_from, and_parts, le-leb}
 use Rattle.std.proofs.lemmas.Option.{same_Some, none-some}
 use Rattle.dhcp_wire.specs.Field.{address_at}
+use Rattle.dhcp_wire.specs.Value.{address_in, addresses_in}
 use Rattle.dhcp4_msg.specs.declared.option_code.DhcpV4OptionCode.{DhcpV4OptionCode}
 use Rattle.dhcp4_msg.specs.declared.option_code.DhcpV4OptionCode.TheVariants as codes
 use Rattle.dhcp4_msg.specs.declared.option.DhcpV4Option.{DhcpV4Option}
 use Rattle.dhcp4_msg.specs.declared.option.DhcpV4Option.TheVariants.{Pad, SubnetMask, Router, DomainNameServer, HostName, DomainName, InterfaceMtu, BroadcastAddress, NtpServers, RequestedIpAddress, IpAddressLeaseTime, MessageType, ServerIdentifier, ParameterRequestList, Message, RenewalTime, RebindingTime, ClientIdentifier, ClasslessStaticRoute, End, Unknown}
 use Rattle.dhcp4_msg.specs.OptionCode.{code_of, number_of}
-use Rattle.dhcp4_msg.specs.Value.{value_of, written_value, written_addresses, written_text, option_code, option_number, fits, has_own_code, is_nameless, address_in, addresses_in, IsOfCode, IsKeptAs}
-use Rattle.dhcp4_msg.proofs.FieldLemmas.{mapped, address_at-split}
+use Rattle.dhcp4_msg.specs.Value.{value_of, written_value, written_addresses, written_text, option_code, option_number, fits, has_own_code, is_nameless, IsOfCode, IsKeptAs}
+use Rattle.dhcp_wire.proofs.FieldLemmas.{mapped, address_at-split}
 use Rattle.dhcp4_msg.proofs.RouteLemmas.{written_routes-routes_within}
 use Rattle.dhcp4_msg.proofs.CodeLemmas.{number_of-code_of, nameless}
 

@@ -1,11 +1,7 @@
-pub mod OptionCode
-pub mod MessageType
 pub mod Laws
+pub mod Message
+pub mod MessageType
+pub mod OptionCode
+pub mod Options
 pub mod Route
 pub mod Value
-pub mod Cut
-pub mod Slots
-pub mod Options
-pub mod Message
-pub mod View
-pub mod Outcome

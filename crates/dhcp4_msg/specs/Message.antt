@@ -2,6 +2,7 @@
 use Rattle.std.specs.Prelude.{ℕ, ◌==◌, List, [], ◌∷◌, ◌++◌, replicate, Option, Some, None, if◌then◌else◌}
 use Rattle.std.specs.Int.{w8, w16, w32, to_be_bytes}
 use Rattle.std.specs.FinMap as map
+use Rattle.std.specs.Net.Addr.{ipv4_octets}
 use Rattle.std.specs.declared.net.Ipv4Addr.{Ipv4Addr}
 use Rattle.dhcp_wire.specs.Field.{◌>>=◌, bytes_at, number_at, address_of, address_at, terminated_text_at, terminated_text}
 use Rattle.dhcp4_msg.specs.declared.message.DhcpV4Message.{DhcpV4Message}
@@ -58,8 +59,9 @@ written_numbers message =
 -- its addresses
 abbrev pub written_addresses : DhcpV4Message → List ℕ
 written_addresses message =
-    message.ciaddr.octets
-    ++ (message.yiaddr.octets ++ (message.siaddr.octets ++ (message.giaddr.octets ++ message.chaddr)))
+    ipv4_octets message.ciaddr
+    ++ (ipv4_octets message.yiaddr
+    ++ (ipv4_octets message.siaddr ++ (ipv4_octets message.giaddr ++ message.chaddr)))
 
 -- its texts, of 63 and 127 bytes at most, and the cookie
 abbrev pub written_texts : DhcpV4Message → List ℕ

@@ -1,46 +1,65 @@
--- Options as a map from their numbers, RFC 2132: how they are read from a list, and how they are written.
-use Rattle.std.specs.Prelude.{ℕ, List, [], ◌∷◌, ◌++◌, reverse, Option, Some, None, option_map, if◌then◌else◌}
+-- Options as a map from their numbers, RFC 2132: how they are read from a list, how they are written, and how they are kept.
+use Rattle.std.specs.Prelude.{◌≡◌, ℕ, ◌<◌, Bool, ◌==◌, List, [], ◌∷◌, ◌++◌, length, reverse, position, Option, Some, None, IsTrue, is_some, option_map, slice_get, slice_index_or, if◌then◌else◌}
 use Rattle.std.specs.Ordering.{nat_cmp}
-use Rattle.std.specs.List.{flat_map, filter_map}
+use Rattle.std.specs.List.{All, count_by, flat_map, filter_map}
 use Rattle.std.specs.Option.{option_or}
 use Rattle.std.specs.FinMap as map
 use Rattle.dhcp_wire.specs.Field.{Read, ◌>>=◌}
+use Rattle.dhcp_wire.specs.RawOption.{RawOptionParts, raw_option_at, raw_options}
+use Rattle.dhcp_wire.specs.declared.raw_option.RawOption.{RawOption}
+use Rattle.dhcp_wire.specs.declared.raw_option.OptionFormat.TheVariants.{DhcpV4}
 use Rattle.dhcp4_msg.specs.declared.message_type.DhcpV4MessageType.{DhcpV4MessageType}
 use Rattle.dhcp4_msg.specs.declared.option.DhcpV4Option.{DhcpV4Option}
 use Rattle.dhcp4_msg.specs.declared.route.DhcpV4ClasslessRoute.{DhcpV4ClasslessRoute}
 use Rattle.dhcp4_msg.specs.OptionCode.{code_of}
-use Rattle.dhcp4_msg.specs.Cut.{Item, item_at, cut}
-use Rattle.dhcp4_msg.specs.Value.{value_of, written_option, type_said, routes_said}
+use Rattle.dhcp4_msg.specs.Value.{value_of, written_option, type_said, routes_said, option_number, fits}
 
 -- options by their numbers
 abbrev pub OptionMap : Type 0
 OptionMap = map.FinMap nat_cmp DhcpV4Option
 
--- the option that an item reads as, under its number; an item without a reading is skipped
-abbrev pub reading_of : Item → Option (ℕ × DhcpV4Option)
-reading_of item = option_map (λ option. (item.0, option)) (value_of (code_of item.0) item.1)
+-- a raw option as contracts see it
+abbrev pub parts_of : RawOption → RawOptionParts
+parts_of raw = record { code = raw.code; value = raw.value.now }
 
--- the reading of an option that was found in some bytes, and the bytes after it; where none was found, all of them
-abbrev pub read_after : List ℕ → Read Item → Option DhcpV4Option × List ℕ
+-- the reading of a raw option, if it has one
+abbrev pub reading_of : RawOptionParts → Option DhcpV4Option
+reading_of raw = value_of (code_of raw.code) raw.value
+
+-- the reading of the option that was found in some bytes, if it has one, and the bytes after it; where none was found, all bytes
+abbrev pub read_after : List ℕ → Read RawOptionParts → Option DhcpV4Option × List ℕ
 read_after bytes None = (None, bytes)
-read_after bytes (Some found) = (value_of (code_of found.0.0) found.0.1, found.1)
+read_after bytes (Some found) = (reading_of found.0, found.1)
 
--- The option at the front, if it reads, and the bytes after it. None reads from one that is cut short, and nothing is passed then.
+-- The option at the front, if it reads, and the bytes after it. A truncated option doesn't read, and nothing is skipped then.
 unfoldable pub option_at : List ℕ → Option DhcpV4Option × List ℕ
-option_at bytes = read_after bytes (item_at bytes)
+option_at bytes = read_after bytes (raw_option_at DhcpV4 bytes)
 
--- a map with the option that an item reads as
-abbrev pub with_reading : OptionMap → Option (ℕ × DhcpV4Option) → OptionMap
-with_reading options None = options
-with_reading options (Some entry) = map.insert options entry.0 entry.1
+-- the reading of a raw option under its number; one without a reading is skipped
+abbrev pub entry_of : RawOptionParts → Option (ℕ × DhcpV4Option)
+entry_of raw = option_map (λ option. (raw.code, option)) (reading_of raw)
 
--- the options of some items: of each number the last that reads
-abbrev pub options_of : List Item → OptionMap
-options_of items = map.from_entries (reverse (filter_map reading_of items))
+-- a map with one more entry, if there is one
+abbrev pub with_entry : OptionMap → Option (ℕ × DhcpV4Option) → OptionMap
+with_entry options None = options
+with_entry options (Some entry) = map.insert options entry.0 entry.1
+
+-- the options of some raw options: of each number the last that reads
+abbrev pub options_of : List RawOptionParts → OptionMap
+options_of raws = map.from_entries (reverse (filter_map entry_of raws))
 
 -- the options of a list of bytes
 unfoldable pub read_options : List ℕ → OptionMap
-read_options bytes = options_of (cut bytes)
+read_options bytes = options_of (raw_options DhcpV4 bytes)
+
+-- the reading of a raw option, if it has this number and a reading
+abbrev pub reading_under : ℕ → RawOptionParts → Option DhcpV4Option
+reading_under number raw = if number == raw.code then reading_of raw else None
+
+-- the last of some raw options of this number that has a reading
+abbrev pub last_of : ℕ → List RawOptionParts → Option DhcpV4Option
+last_of number [] = None
+last_of number (raw ∷ later) = option_or (last_of number later) (reading_under number raw)
 
 -- End, where it isn't there
 abbrev pub added_end : OptionMap → List ℕ
@@ -61,3 +80,35 @@ message_type options = said_by type_said options 53
 -- the routes of option 121, RFC 3442; where it is absent those of option 249, in which some servers send them
 unfoldable pub classless_routes : OptionMap → Option (List DhcpV4ClasslessRoute)
 classless_routes options = option_or (map.get options 121) (map.get options 249) >>= routes_said
+
+-- ---- how they are kept: a list of options, and for each number the place of its option in the list
+
+-- each option under its number
+abbrev pub by_number : List DhcpV4Option → List (ℕ × DhcpV4Option)
+by_number [] = []
+by_number (option ∷ options) = (option_number option, option) ∷ by_number options
+
+-- the map of the options that are kept
+abbrev pub map_of : List DhcpV4Option → OptionMap
+map_of kept = map.from_entries (by_number kept)
+
+-- whether an option has this number
+abbrev pub has_number : ℕ → DhcpV4Option → Bool
+has_number number option = number == option_number option
+
+-- the option at a place, where there is one
+abbrev pub kept_in : List DhcpV4Option → Option ℕ → Option DhcpV4Option
+kept_in kept None = None
+kept_in kept (Some place) = slice_get kept place
+
+-- an option that can be kept: its number is a byte, and it can be written
+pub record CanBeKept (option : DhcpV4Option) : Type 0 where
+  pub is_byte : option_number option < 256
+  pub fit : IsTrue (fits option)
+
+-- Each option can be kept. The table has for each number the place of its option, if it is there, and as many places as options.
+pub record IsIndexed (kept : List DhcpV4Option) (places : List (Option ℕ)) : Type 0 where
+  pub sized : length places ≡ 256
+  pub fit : All CanBeKept kept
+  pub placed : (number : ℕ) → number < 256 → slice_index_or places number None ≡ position (has_number number) kept
+  pub counted : count_by is_some places ≡ length kept

@@ -1,6 +1,7 @@
 -- A classless static route, RFC 3442: the width of a subnet mask, the significant octets of the destination, the router.
 use Rattle.std.specs.Prelude.{ℕ, zero, suc, ◌+◌, ◌-◌, ◌/◌, min, List, [], ◌∷◌, ◌++◌, length, take, replicate, Option, Some, None}
 use Rattle.std.specs.Int.{w8}
+use Rattle.std.specs.Net.Addr.{ipv4_octets}
 use Rattle.dhcp_wire.specs.Field.{Read, ◌>>=◌, bytes_at, number_at, address_of, address_at}
 use Rattle.dhcp4_msg.specs.declared.route.DhcpV4ClasslessRoute.{DhcpV4ClasslessRoute}
 
@@ -43,4 +44,5 @@ routes_of bytes = routes_within (length bytes) bytes
 -- the bytes of a route
 unfoldable pub written_route : DhcpV4ClasslessRoute → List ℕ
 written_route route =
-    route.prefix_length ∷ take (significant_octets route.prefix_length) route.destination.octets ++ route.router.octets
+    route.prefix_length ∷ take (significant_octets route.prefix_length) (ipv4_octets route.destination)
+    ++ ipv4_octets route.router

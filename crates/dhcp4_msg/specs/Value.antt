@@ -1,9 +1,11 @@
 -- The values of options, RFC 2132: how each reads, and how it is written.
 use Rattle.std.specs.Prelude.{◌≡◌, ℕ, ◌&&◌, nat_le, Bool, true, false, List, [], ◌∷◌, ◌++◌, length, map, take, Option, Some, None, IsTrue, option_map}
 use Rattle.std.specs.List.{flat_map}
-use Rattle.std.specs.Int.{Width, w8, w16, w32, to_be_bytes}
+use Rattle.std.specs.Int.{w8, w16, w32, to_be_bytes}
+use Rattle.std.specs.Net.Addr.{ipv4_octets}
 use Rattle.std.specs.declared.net.Ipv4Addr.{Ipv4Addr}
-use Rattle.dhcp_wire.specs.Field.{◌>>=◌, number_at, address_of, address_at, before_zero, text_of}
+use Rattle.dhcp_wire.specs.Field.{◌>>=◌}
+use Rattle.dhcp_wire.specs.Value.{number_in, address_in, addresses_in, text_in}
 use Rattle.dhcp4_msg.specs.declared.option_code.DhcpV4OptionCode.{DhcpV4OptionCode}
 use Rattle.dhcp4_msg.specs.declared.option_code.DhcpV4OptionCode.TheVariants as codes
 use Rattle.dhcp4_msg.specs.declared.message_type.DhcpV4MessageType.{DhcpV4MessageType}
@@ -14,24 +16,7 @@ use Rattle.dhcp4_msg.specs.OptionCode.{number_of, code_of}
 use Rattle.dhcp4_msg.specs.MessageType.{type_number, type_of}
 use Rattle.dhcp4_msg.specs.Route.{routes_of, written_route}
 
--- The kinds of values, as they read. A value of fixed size may be longer; what is beyond is ignored.
-
--- an address
-abbrev pub address_in : List ℕ → Option Ipv4Addr
-address_in value = option_map (λ read. read.0) (address_at value)
-
--- as many addresses as there are whole groups of four bytes
-abbrev pub addresses_in : List ℕ → List Ipv4Addr
-addresses_in (a ∷ b ∷ c ∷ d ∷ value) = address_of (a ∷ b ∷ c ∷ d ∷ []) ∷ addresses_in value
-addresses_in _ = []
-
--- a number of this width
-abbrev pub number_in : Width → List ℕ → Option ℕ
-number_in width value = option_map (λ read. read.0) (number_at width value)
-
--- a text, up to the first zero byte or the end
-abbrev pub text_in : List ℕ → Option (List ℕ)
-text_in value = text_of (before_zero value)
+-- The kinds of values, as they read: numbers, addresses and texts as in every option list.
 
 -- a message type
 unfoldable pub type_in : List ℕ → Option DhcpV4MessageType
@@ -65,7 +50,7 @@ value_of (codes.Other number) value = Some (Unknown (record { code = number; raw
 
 -- addresses one after the other
 abbrev pub written_addresses : List Ipv4Addr → List ℕ
-written_addresses addresses = flat_map (λ address. address.octets) addresses
+written_addresses addresses = flat_map (λ address. ipv4_octets address) addresses
 
 -- a text of at most 254 bytes, and a zero byte
 abbrev pub written_text : List ℕ → List ℕ
@@ -74,18 +59,18 @@ written_text text = take 254 text ++ 0 ∷ []
 -- the value of each option as it is written
 unfoldable pub written_value : DhcpV4Option → List ℕ
 written_value Pad = []
-written_value (SubnetMask address) = address.octets
+written_value (SubnetMask address) = ipv4_octets address
 written_value (Router addresses) = written_addresses addresses
 written_value (DomainNameServer addresses) = written_addresses addresses
 written_value (HostName text) = written_text text
 written_value (DomainName text) = written_text text
 written_value (InterfaceMtu number) = to_be_bytes w16 number
-written_value (BroadcastAddress address) = address.octets
+written_value (BroadcastAddress address) = ipv4_octets address
 written_value (NtpServers addresses) = written_addresses addresses
-written_value (RequestedIpAddress address) = address.octets
+written_value (RequestedIpAddress address) = ipv4_octets address
 written_value (IpAddressLeaseTime seconds) = to_be_bytes w32 seconds
 written_value (MessageType kind) = type_number kind ∷ []
-written_value (ServerIdentifier address) = address.octets
+written_value (ServerIdentifier address) = ipv4_octets address
 written_value (ParameterRequestList requested) = map number_of requested
 written_value (Message text) = written_text text
 written_value (RenewalTime seconds) = to_be_bytes w32 seconds

@@ -1,14 +1,16 @@
 //! Laws: what is written reads back. A call does nothing.
 
 ghost use Rattle.std.specs.Prelude.{◌≡◌, ◌≤◌, ◌++◌, ℕ, List, Some, IsTrue, length};
+ghost use Rattle.std.specs.FinMap as map;
+ghost use Rattle.dhcp_wire.specs.RawOption.{raw_options};
+ghost use Rattle.dhcp_wire.specs.declared.raw_option.OptionFormat.TheVariants.{DhcpV4};
 ghost use Rattle.dhcp4_msg.specs.declared.message.DhcpV4Message.{DhcpV4Message};
 ghost use Rattle.dhcp4_msg.specs.declared.option.DhcpV4Option.{DhcpV4Option};
 ghost use Rattle.dhcp4_msg.specs.declared.route.DhcpV4ClasslessRoute.{DhcpV4ClasslessRoute};
 ghost use Rattle.dhcp4_msg.specs.OptionCode.{code_of, number_of};
-ghost use Rattle.dhcp4_msg.specs.Cut.{cut, cut_within};
 ghost use Rattle.dhcp4_msg.specs.Laws.{IsExact, MessageReadsBack, ReadsBack, read_back, with_names};
 ghost use Rattle.dhcp4_msg.specs.Message.{read_message, written_message};
-ghost use Rattle.dhcp4_msg.specs.Options.{option_at};
+ghost use Rattle.dhcp4_msg.specs.Options.{last_of, option_at, read_options};
 ghost use Rattle.dhcp4_msg.specs.Route.{route_at, written_route};
 ghost use Rattle.dhcp4_msg.specs.Value.{fits, written_option};
 
@@ -32,9 +34,11 @@ pub fn options_read_back()
         → option_at (written_option option ++ rest) ≡ (Some (with_names option), rest) }
 {}
 
-/// A cut with as much fuel as there are bytes is the whole cut.
-pub fn fuel_is_enough()
-    ensures { (fuel : ℕ) (bytes : List ℕ) → length bytes ≤ fuel → cut_within fuel bytes ≡ cut bytes }
+/// What was read from a list has under a number the last option of that number that has a reading:
+/// none if and only if no such option does.
+pub fn last_option_counts()
+    ensures { (bytes : List ℕ) (number : ℕ)
+        → map.get (read_options bytes) number ≡ last_of number (raw_options DhcpV4 bytes) }
 {}
 
 /// A message reads back: its numbers within their widths, its texts within their fields, and each option under its own number. The

@@ -1,8 +1,7 @@
 //! DHCPv4 messages and their options: RFC 2131 section 2, RFC 2132, RFC 3442.
 #![tactic(auto)]
 
-mod cut;
-mod laws;
+pub mod laws;
 mod message;
 mod message_type;
 mod option;
@@ -12,11 +11,7 @@ mod route;
 #[cfg(test)]
 mod tests;
 mod value;
-mod written;
 
-pub use laws::{
-    codes_read_back, fuel_is_enough, messages_read_back, options_read_back, routes_read_back,
-};
 pub use message::DhcpV4Message;
 pub use message_type::DhcpV4MessageType;
 pub use option::{DhcpV4Option, DhcpV4OptionUnknown};

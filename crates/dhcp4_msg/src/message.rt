@@ -14,9 +14,8 @@ ghost use Rattle.dhcp4_msg.specs.Message.{
   written_texts,
 };
 
-use crate::value::unreadable;
 use crate::{DhcpV4MessageType, DhcpV4OptionCode, DhcpV4Options};
-use dhcp_wire::{Buffer, BufferMut, DhcpError, ErrorKind, Text};
+use dhcp_wire::{Buffer, BufferMut, DhcpError, ErrorKind, FixedText, Text};
 use std::alloc::Global;
 use std::net::Ipv4Addr;
 
@@ -101,7 +100,7 @@ impl DhcpV4Message {
         let sname = Text::from(buf.get_string_with_null(alloc, 64)?);
         let file = Text::from(buf.get_string_with_null(alloc, 128)?);
         if buf.get_u32_be()? != MAGIC_COOKIE {
-            return Err(unreadable());
+            return Err(DhcpError::invalid_message(FixedText::Unreadable));
         }
         let options = DhcpV4Options::parse(alloc, buf.get_remains())?;
         Ok(DhcpV4Message {

@@ -2,16 +2,18 @@
 
 ghost use Rattle.std.specs.Prelude.{◌≡◌, length, IsTrue, IfOk};
 ghost use Rattle.dhcp4_msg.specs.Value.{option_code, written_value, written_option, fits, has_own_code};
-ghost use Rattle.dhcp_wire.specs.Outcome.{Makes, Emits};
-ghost use Rattle.dhcp4_msg.specs.Outcome.{ReadsOption};
+ghost use Rattle.dhcp_wire.specs.Outcome.{Makes, Emits, ReadsOption};
+ghost use Rattle.dhcp4_msg.specs.Options.{option_at};
 
-use crate::cut::{END, PAD, item_at};
-use crate::value::{read_value, unreadable};
-use crate::written::{
-    TEXT_MAX, addresses_len, emit_addresses, emit_codes, emit_routes, emit_text, routes_len,
+use crate::options::{END, PAD};
+use crate::value::{
+    TEXT_MAX, addresses_len, emit_addresses, emit_codes, emit_routes, emit_text, read_value,
+    routes_len,
 };
 use crate::{DhcpV4ClasslessRoute, DhcpV4MessageType, DhcpV4OptionCode};
-use dhcp_wire::{Buffer, BufferMut, Bytes, DhcpError, ErrorKind, Sequence, Text};
+use dhcp_wire::{
+    Buffer, BufferMut, Bytes, DhcpError, ErrorKind, FixedText, OptionFormat, Sequence, Text,
+};
 use std::alloc::Global;
 use std::net::Ipv4Addr;
 
@@ -98,13 +100,13 @@ impl DhcpV4Option {
     /// position does not move. The option fits.
     #[tactic(auto, unfolding(crate::specs::Options::option_at))]
     pub fn parse(alloc: Global, buf: &mut Buffer) -> Result<Self, DhcpError>
-        ensures read { ReadsOption result buf.old buf.new }
+        ensures read { ReadsOption (λ option. option) result buf.old buf.new (option_at buf.old) }
         ensures fit { IfOk result (λ option. IsTrue (fits option)) }
     {
-        let Some((item, later)) = item_at(buf.get_remains()) else {
-            return Err(unreadable());
+        let Some((raw, later)) = OptionFormat::DhcpV4.raw_option_at(buf.get_remains()) else {
+            return Err(DhcpError::invalid_message(FixedText::Unreadable));
         };
-        match read_value(alloc, DhcpV4OptionCode::from(item.number), item.value) {
+        match read_value(alloc, DhcpV4OptionCode::from(raw.code as u8), raw.value) {
             Ok(option) => {
                 *buf = Buffer::new(later);
                 Ok(option)

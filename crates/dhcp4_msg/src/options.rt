@@ -26,22 +26,30 @@ ghost use Rattle.dhcp4_msg.specs.Value.{
 };
 ghost use Rattle.dhcp4_msg.specs.Options.{
   classless_routes,
+  entry_of,
+  parts_of,
   read_options,
   reading_of,
   said_by,
-  with_reading,
+  with_entry,
   written_options,
 };
 
-use crate::cut::{END, Item, item_at, left_after};
 use crate::value::read_value;
 use crate::{DhcpV4ClasslessRoute, DhcpV4Option, DhcpV4OptionCode};
-use dhcp_wire::{BufferMut, Bytes, DhcpError, ErrorKind, Sequence, Text};
+use dhcp_wire::{
+    BufferMut, Bytes, DhcpError, OptionFormat, RawOption, Sequence, Text, none_if_refused,
+};
 use std::alloc::Global;
 use std::marker::Model;
 use std::net::Ipv4Addr;
 
-// The number of the option in which some servers send routes.
+// The codes of the options that are a code alone, RFC 2132 sections 3.1 and 3.2.
+pub(crate) const PAD: u8 = 0;
+
+pub(crate) const END: u8 = 255;
+
+// The code of the option in which some servers send routes.
 const PRIVATE_ROUTES: u8 = 249;
 
 /// The options of a message, RFC 2132. Contracts see it as a finite map from number to option.
@@ -63,7 +71,7 @@ impl Model for DhcpV4Options {
 
     ghost coded = { map.code coded_ℕ option.the_row.coded };
 
-    ghost use Rattle.dhcp4_msg.specs.Slots.{IsIndexed, map_of};
+    ghost use Rattle.dhcp4_msg.specs.Options.{IsIndexed, map_of};
 
     ghost view = { λ options. map_of options.kept.items };
 
@@ -223,25 +231,24 @@ impl DhcpV4Options {
     {
         let mut options = DhcpV4Options::new(alloc);
         let mut rest = raw;
-        while let Some((item, later)) = item_at(rest) {
-            options.keep(alloc, item)?;
-            rest = left_after(item.number, later);
+        while let Some((raw, later)) = OptionFormat::DhcpV4.raw_option_at(rest) {
+            options.keep(alloc, raw)?;
+            rest = OptionFormat::DhcpV4.counted_after(raw.code, later);
         }
         Ok(options)
     }
 
-    // Keeps the option that the item reads as, if it reads.
+    // Keeps the option that a raw option reads as, if it reads.
     #[tactic(auto, using(crate::proofs::ValueLemmas::option_number_value_of))]
-    fn keep(&mut self, alloc: Global, item: Item) -> Result<(), DhcpError>
-        requires { length item.value.now ≤ 255 }
+    fn keep(&mut self, alloc: Global, raw: RawOption) -> Result<(), DhcpError>
+        requires { (raw.code < 256) × (length raw.value.now < 256) }
         ensures { MatchResult result
-            (λ _. self.new ≡ with_reading self.old (reading_of (item.entry.number, item.entry.value.now)))
+            (λ _. self.new ≡ with_entry self.old (entry_of (parts_of raw.entry)))
             (λ e. e ≡ no_memory) }
     {
-        match read_value(alloc, DhcpV4OptionCode::from(item.number), item.value) {
-            Ok(option) => self.insert(option),
-            Err(error) if error.kind() == ErrorKind::OutOfMemory => Err(error),
-            Err(_error) => Ok(()),
+        match reading_of(alloc, raw)? {
+            Some(option) => self.insert(option),
+            None => Ok(()),
         }
     }
 
@@ -307,4 +314,13 @@ fn put(kept: &mut Vec<DhcpV4Option>, place: usize, option: DhcpV4Option)
     ensures { kept.new.items ≡ slice_set kept.old.items place option }
 {
     kept[place] = option;
+}
+
+// The reading of a raw option, if it has one.
+fn reading_of(alloc: Global, raw: RawOption) -> Result<Option<DhcpV4Option>, DhcpError>
+    requires { raw.code < 256 }
+    ensures { Makes (λ read. read) result (reading_of (parts_of raw.entry)) }
+{
+    let code = DhcpV4OptionCode::from(raw.code as u8);
+    none_if_refused(read_value(alloc, code, raw.value))
 }

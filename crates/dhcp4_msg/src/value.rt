@@ -1,32 +1,34 @@
-//! The values of options, as they read, RFC 2132: one function for each kind of value, one row for each code.
+//! The values of options, RFC 2132: how each kind of value reads, how long it is, how it is written,
+//! and what an option says; a row for each code in the table of readings.
 
-ghost use Rattle.std.specs.Prelude.{◌≡◌, map, ok_or, option_copied};
-ghost use Rattle.std.specs.Int.{w16, w32};
-ghost use Rattle.dhcp_wire.specs.Outcome.{Gives, Makes};
-ghost use Rattle.dhcp4_msg.specs.OptionCode.{code_of};
-ghost use Rattle.dhcp4_msg.specs.Route.{routes_of};
+ghost use Rattle.std.specs.Prelude.{◌≡◌, length, map, ok_or, option_copied, take};
+ghost use Rattle.std.specs.List.{flat_map};
+ghost use Rattle.dhcp_wire.specs.Outcome.{Emits, Gives, Makes};
+ghost use Rattle.dhcp4_msg.specs.OptionCode.{code_of, number_of};
+ghost use Rattle.dhcp4_msg.specs.Route.{routes_of, written_route};
 ghost use Rattle.dhcp4_msg.specs.Value.{
-  address_in,
   address_said,
-  addresses_in,
   addresses_said,
   bytes_said,
   codes_said,
-  number_in,
   routes_said,
   seconds_said,
   size_said,
-  text_in,
   text_said,
   type_in,
   type_said,
   value_of,
+  written_addresses,
+  written_text,
 };
 
 use crate::{
     DhcpV4ClasslessRoute, DhcpV4MessageType, DhcpV4Option, DhcpV4OptionCode, DhcpV4OptionUnknown,
 };
-use dhcp_wire::{Buffer, Bytes, DhcpError, ErrorKind, FixedText, Sequence, Text};
+use dhcp_wire::{
+    BufferMut, Bytes, DhcpError, ErrorKind, FixedText, Sequence, Text, address_in, addresses_in,
+    none_if_refused, text_in, u8_in, u16_in, u32_in,
+};
 use std::alloc::Global;
 use std::net::Ipv4Addr;
 
@@ -37,38 +39,39 @@ pub(crate) fn read_value(
     code: DhcpV4OptionCode,
     value: &[u8],
 ) -> Result<DhcpV4Option, DhcpError>
-    ensures { Gives (λ option. option) result (ok_or (value_of code value.now) ErrorKind.InvalidDhcpMessage) }
+    ensures { Gives (λ option. option) result
+        (ok_or (value_of code value.now) ErrorKind.InvalidDhcpMessage) }
 {
     match code {
         DhcpV4OptionCode::Pad => Ok(DhcpV4Option::Pad),
-        DhcpV4OptionCode::SubnetMask => Ok(DhcpV4Option::SubnetMask(address_of(value)?)),
-        DhcpV4OptionCode::Router => Ok(DhcpV4Option::Router(addresses_of(alloc, value)?)),
+        DhcpV4OptionCode::SubnetMask => Ok(DhcpV4Option::SubnetMask(address_in(value)?)),
+        DhcpV4OptionCode::Router => Ok(DhcpV4Option::Router(addresses_in(alloc, value)?)),
         DhcpV4OptionCode::DomainNameServer => {
-            Ok(DhcpV4Option::DomainNameServer(addresses_of(alloc, value)?))
+            Ok(DhcpV4Option::DomainNameServer(addresses_in(alloc, value)?))
         }
-        DhcpV4OptionCode::HostName => Ok(DhcpV4Option::HostName(text_of(alloc, value)?)),
-        DhcpV4OptionCode::DomainName => Ok(DhcpV4Option::DomainName(text_of(alloc, value)?)),
-        DhcpV4OptionCode::InterfaceMtu => Ok(DhcpV4Option::InterfaceMtu(size_of(value)?)),
+        DhcpV4OptionCode::HostName => Ok(DhcpV4Option::HostName(text_in(alloc, value)?)),
+        DhcpV4OptionCode::DomainName => Ok(DhcpV4Option::DomainName(text_in(alloc, value)?)),
+        DhcpV4OptionCode::InterfaceMtu => Ok(DhcpV4Option::InterfaceMtu(u16_in(value)?)),
         DhcpV4OptionCode::BroadcastAddress => {
-            Ok(DhcpV4Option::BroadcastAddress(address_of(value)?))
+            Ok(DhcpV4Option::BroadcastAddress(address_in(value)?))
         }
-        DhcpV4OptionCode::NtpServers => Ok(DhcpV4Option::NtpServers(addresses_of(alloc, value)?)),
+        DhcpV4OptionCode::NtpServers => Ok(DhcpV4Option::NtpServers(addresses_in(alloc, value)?)),
         DhcpV4OptionCode::RequestedIpAddress => {
-            Ok(DhcpV4Option::RequestedIpAddress(address_of(value)?))
+            Ok(DhcpV4Option::RequestedIpAddress(address_in(value)?))
         }
         DhcpV4OptionCode::IpAddressLeaseTime => {
-            Ok(DhcpV4Option::IpAddressLeaseTime(seconds_of(value)?))
+            Ok(DhcpV4Option::IpAddressLeaseTime(u32_in(value)?))
         }
         DhcpV4OptionCode::MessageType => Ok(DhcpV4Option::MessageType(type_of(value)?)),
         DhcpV4OptionCode::ServerIdentifier => {
-            Ok(DhcpV4Option::ServerIdentifier(address_of(value)?))
+            Ok(DhcpV4Option::ServerIdentifier(address_in(value)?))
         }
         DhcpV4OptionCode::ParameterRequestList => {
             Ok(DhcpV4Option::ParameterRequestList(codes_of(alloc, value)?))
         }
-        DhcpV4OptionCode::Message => Ok(DhcpV4Option::Message(text_of(alloc, value)?)),
-        DhcpV4OptionCode::RenewalTime => Ok(DhcpV4Option::RenewalTime(seconds_of(value)?)),
-        DhcpV4OptionCode::RebindingTime => Ok(DhcpV4Option::RebindingTime(seconds_of(value)?)),
+        DhcpV4OptionCode::Message => Ok(DhcpV4Option::Message(text_in(alloc, value)?)),
+        DhcpV4OptionCode::RenewalTime => Ok(DhcpV4Option::RenewalTime(u32_in(value)?)),
+        DhcpV4OptionCode::RebindingTime => Ok(DhcpV4Option::RebindingTime(u32_in(value)?)),
         DhcpV4OptionCode::ClientIdentifier => {
             Ok(DhcpV4Option::ClientIdentifier(Bytes::from_slice(alloc, value)?))
         }
@@ -84,78 +87,103 @@ pub(crate) fn read_value(
     }
 }
 
-// The address of the first four bytes.
-fn address_of(value: &[u8]) -> Result<Ipv4Addr, DhcpError>
-    ensures { Gives (λ address. address) result (ok_or (address_in value.now) ErrorKind.InvalidDhcpMessage) }
-{
-    Buffer::new(value).get_ipv4()
-}
-
-// The number of the first two bytes.
-fn size_of(value: &[u8]) -> Result<u16, DhcpError>
-    ensures { Gives (λ number. number) result (ok_or (number_in w16 value.now) ErrorKind.InvalidDhcpMessage) }
-{
-    Buffer::new(value).get_u16_be()
-}
-
-// The number of the first four bytes.
-fn seconds_of(value: &[u8]) -> Result<u32, DhcpError>
-    ensures { Gives (λ number. number) result (ok_or (number_in w32 value.now) ErrorKind.InvalidDhcpMessage) }
-{
-    Buffer::new(value).get_u32_be()
-}
-
 // The message type of the first byte.
 #[tactic(auto, unfolding(crate::specs::Value::type_in))]
-fn type_of(value: &[u8]) -> Result<DhcpV4MessageType, DhcpError>
-    ensures { Gives (λ kind. kind) result (ok_or (type_in value.now) ErrorKind.InvalidDhcpMessage) }
+pub(crate) fn type_of(value: &[u8]) -> Result<DhcpV4MessageType, DhcpError>
+    ensures { Gives (λ kind. kind) result
+        (ok_or (type_in value.now) ErrorKind.InvalidDhcpMessage) }
 {
-    let number = Buffer::new(value).get_u8()?;
+    let number = u8_in(value)?;
     match DhcpV4MessageType::try_from(number) {
         Ok(kind) => Ok(kind),
-        Err(_) => Err(unreadable()),
+        Err(_) => Err(DhcpError::invalid_message(FixedText::Unreadable)),
     }
-}
-
-// The text before the first zero byte.
-#[tactic(auto, using(crate::proofs::FieldLemmas::whole_field))]
-fn text_of(alloc: Global, value: &[u8]) -> Result<Text, DhcpError>
-    ensures { Gives (λ text. text) result (ok_or (text_in value.now) ErrorKind.InvalidDhcpMessage) }
-{
-    let text = Buffer::new(value).get_string_with_null(alloc, value.len())?;
-    Ok(Text::from(text))
-}
-
-// An address for each whole group of four bytes.
-fn addresses_of(alloc: Global, value: &[u8]) -> Result<Sequence<Ipv4Addr>, DhcpError>
-    ensures { Makes (λ addresses. addresses) result (addresses_in value.now) }
-{
-    let mut addresses = Sequence::new(alloc);
-    let mut rest = value;
-    while let [a, b, c, d, later @ ..] = rest {
-        addresses.push(Ipv4Addr::new(*a, *b, *c, *d))?;
-        rest = later;
-    }
-    Ok(addresses)
 }
 
 // A code for each byte.
 fn codes_of(alloc: Global, value: &[u8]) -> Result<Sequence<DhcpV4OptionCode>, DhcpError>
     ensures { Makes (λ codes. codes) result (map code_of value.now) }
 {
-    let mut codes = Sequence::new(alloc);
+    let mut codes = Vec::with_capacity(alloc, value.len())?;
     for number in value {
         codes.push(DhcpV4OptionCode::from(*number))?;
     }
-    Ok(codes)
+    Ok(Sequence::from(codes))
 }
 
-// The refusal of bytes that do not read.
-#[tactic(auto, unfolding(dhcp_wire::specs::Error::fixed_text))]
-pub(crate) fn unreadable() -> DhcpError
-    ensures { result.kind ≡ ErrorKind.InvalidDhcpMessage }
+/// The most bytes of a text that an option holds, beside its zero byte.
+pub(crate) const TEXT_MAX: usize = 254;
+
+// Writes a text of at most 254 bytes, and a zero byte.
+pub(crate) fn emit_text(text: &str, buf: &mut BufferMut) -> Result<(), DhcpError>
+    ensures { Emits result buf.old buf.new (written_text text.now) }
 {
-    DhcpError::new_fixed(ErrorKind::InvalidDhcpMessage, FixedText::Unreadable)
+    buf.write_bytes(kept_of(text))?;
+    buf.write_u8(0)
+}
+
+// The first 254 bytes of a text at most.
+#[tactic(auto, using(std::proofs::lemmas::List::take_min))]
+fn kept_of(text: &str) -> &[u8]
+    ensures { result.now ≡ take 254 text.now }
+{
+    let bytes = text.as_bytes();
+    &bytes[..TEXT_MAX.min(bytes.len())]
+}
+
+// How many octets the addresses have.
+pub(crate) fn addresses_len(addresses: &[Ipv4Addr]) -> usize
+    ensures { result ≡ length (written_addresses addresses.now) }
+{
+    let mut len = 0;
+    for address in addresses {
+        len += address.octets().len();
+    }
+    len
+}
+
+// Writes addresses one after the other.
+pub(crate) fn emit_addresses(addresses: &[Ipv4Addr], buf: &mut BufferMut) -> Result<(), DhcpError>
+    ensures { Emits result buf.old buf.new (written_addresses addresses.now) }
+{
+    for address in addresses {
+        buf.write_ipv4(*address)?;
+    }
+    Ok(())
+}
+
+// Writes the numbers of codes.
+pub(crate) fn emit_codes(codes: &[DhcpV4OptionCode], buf: &mut BufferMut) -> Result<(), DhcpError>
+    ensures { Emits result buf.old buf.new (map number_of codes.now) }
+{
+    for code in codes {
+        buf.write_u8(u8::from(*code))?;
+    }
+    Ok(())
+}
+
+// How many bytes the routes have.
+pub(crate) fn routes_len(routes: &[DhcpV4ClasslessRoute]) -> usize
+    ensures { result ≡ length (flat_map written_route routes.now) }
+{
+    let mut len = 0;
+    for route in routes {
+        len += route.written_len();
+    }
+    len
+}
+
+// Writes routes one after the other.
+pub(crate) fn emit_routes(
+    routes: &[DhcpV4ClasslessRoute],
+    buf: &mut BufferMut,
+) -> Result<(), DhcpError>
+    ensures { Emits result buf.old buf.new (flat_map written_route routes.now) }
+{
+    for route in routes {
+        route.emit(buf)?;
+    }
+    Ok(())
 }
 
 impl DhcpV4Option {
@@ -268,9 +296,5 @@ fn routes_of(
 ) -> Result<Option<Sequence<DhcpV4ClasslessRoute>>, DhcpError>
     ensures { Makes (λ routes. routes) result (routes_of value.now) }
 {
-    match DhcpV4ClasslessRoute::parse_list(alloc, value) {
-        Ok(routes) => Ok(Some(routes)),
-        Err(error) if error.kind() == ErrorKind::OutOfMemory => Err(error),
-        Err(_) => Ok(None),
-    }
+    none_if_refused(DhcpV4ClasslessRoute::parse_list(alloc, value))
 }

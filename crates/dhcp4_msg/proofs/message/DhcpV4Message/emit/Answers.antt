@@ -1,6 +1,6 @@
 -- One part after the other.
 use Rattle.dhcp4_msg.specs.Message.{written_message}
-use Rattle.dhcp4_msg.proofs.EmitLemmas.{emits_exit, emits_last, front_first, front_later}
+use Rattle.dhcp_wire.proofs.EmitLemmas.{emits_exit, emits_last, front_first, front_later}
 use Rattle.dhcp4_msg.proofs.message.DhcpV4Message.emit.Goals as goal
 
 pub returns-in_err-emit_numbers : goal.returns-in_err-emit_numbers

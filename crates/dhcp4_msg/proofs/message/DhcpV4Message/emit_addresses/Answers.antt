@@ -1,5 +1,5 @@
 -- One address after the other, and the hardware address.
-use Rattle.dhcp4_msg.proofs.EmitLemmas.{emits_exit, emits_last, emits_appends, front_later, front_unchanged}
+use Rattle.dhcp_wire.proofs.EmitLemmas.{emits_exit, emits_last, emits_appends, front_later, front_unchanged}
 use Rattle.dhcp4_msg.proofs.message.DhcpV4Message.emit_addresses.Goals as goal
 
 pub returns-in_err-write_ipv4-3 : goal.returns-in_err-write_ipv4-3

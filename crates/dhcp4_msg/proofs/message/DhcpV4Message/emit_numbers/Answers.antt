@@ -1,5 +1,5 @@
 -- One number after the other.
-use Rattle.dhcp4_msg.proofs.EmitLemmas.{emits_last, emits_appends}
+use Rattle.dhcp_wire.proofs.EmitLemmas.{emits_last, emits_appends}
 use Rattle.dhcp4_msg.proofs.message.DhcpV4Message.emit_numbers.Goals as goal
 
 pub returns : goal.returns

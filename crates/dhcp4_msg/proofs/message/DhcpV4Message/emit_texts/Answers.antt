@@ -1,5 +1,5 @@
 -- One text after the other, and the cookie.
-use Rattle.dhcp4_msg.proofs.EmitLemmas.{emits_exit, emits_last, emits_appends, front_unchanged}
+use Rattle.dhcp_wire.proofs.EmitLemmas.{emits_exit, emits_last, emits_appends, front_unchanged}
 use Rattle.dhcp4_msg.proofs.message.DhcpV4Message.emit_texts.Goals as goal
 
 pub returns-in_err-write_string_with_null : goal.returns-in_err-write_string_with_null

@@ -1,6 +1,6 @@
 -- The options that are kept come before End.
 use Rattle.dhcp4_msg.specs.Options.{written_options}
-use Rattle.dhcp4_msg.proofs.EmitLemmas.{emits_exit, front_first}
+use Rattle.dhcp_wire.proofs.EmitLemmas.{emits_exit, front_first}
 use Rattle.dhcp4_msg.proofs.options.DhcpV4Options.emit.Goals as goal
 
 pub returns-in_err-emit_kept : goal.returns-in_err-emit_kept

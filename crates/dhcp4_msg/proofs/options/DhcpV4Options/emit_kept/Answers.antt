@@ -4,8 +4,8 @@ use Rattle.std.specs.List.{flat_map}
 use Rattle.std.proofs.lemmas.Grind.{flat_map-append}
 use Rattle.std.proofs.lemmas.List.{take_all}
 use Rattle.dhcp4_msg.specs.Value.{written_option}
-use Rattle.dhcp4_msg.specs.Slots.{kept_in}
-use Rattle.dhcp4_msg.proofs.EmitLemmas.{emits_exit, front_walk}
+use Rattle.dhcp4_msg.specs.Options.{kept_in}
+use Rattle.dhcp_wire.proofs.EmitLemmas.{emits_exit, front_walk}
 use Rattle.dhcp4_msg.proofs.SlotLemmas.{kept_split, kept_more, kept_same, values_kept, place_inside}
 use Rattle.dhcp4_msg.proofs.options.DhcpV4Options.emit_kept.Goals as goal
 use Rattle.dhcp4_msg.proofs.options.DhcpV4Options.emit_kept.Goals.{in-Some+in_ok-emit, in_default}

@@ -1,7 +1,7 @@
 -- What was written so far.
 use Rattle.std.proofs.Common.{◌≡◌, ◌++◌, take, filter_map}
 use Rattle.std.specs.List.{flat_map}
-use Rattle.dhcp4_msg.specs.Slots.{kept_in}
+use Rattle.dhcp4_msg.specs.Options.{kept_in}
 use Rattle.dhcp4_msg.specs.Value.{written_option}
 use Rattle.dhcp4_msg.proofs.options.DhcpV4Options.emit_kept.Given as goal
 

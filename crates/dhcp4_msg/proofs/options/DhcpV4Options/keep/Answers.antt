@@ -1,8 +1,8 @@
 -- An option that was read from a short value fits.
-use Rattle.std.proofs.Common.{refl}
-use Rattle.dhcp4_msg.proofs.ValueLemmas.{fits-value_of, some_from_ok}
+use Rattle.std.proofs.Common.{refl, sym, ◌∙◌, arith}
+use Rattle.dhcp4_msg.proofs.ValueLemmas.{fits-value_of}
 use Rattle.dhcp4_msg.proofs.options.DhcpV4Options.keep.Goals as goal
 
 pub insert-requires : goal.insert-requires
 insert-requires c =
-    fits-value_of c.args.item.number _ _ _ refl c.requires (some_from_ok _ _ _ (rw c.from.ensures at c.in-Ok.ensures))
+    fits-value_of c.args.raw.code _ _ _ refl (omega (arith, c.requires.1)) (sym c.in_ok-option.ensures ∙ c.in-Some.is)

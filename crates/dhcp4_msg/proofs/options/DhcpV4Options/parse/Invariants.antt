@@ -1,12 +1,13 @@
 -- The options so far, with those of the rest entered, are those of all bytes.
 use Rattle.std.proofs.Common.{◌≡◌, length}
-use Rattle.dhcp4_msg.specs.Cut.{cut}
+use Rattle.dhcp_wire.specs.RawOption.{raw_options}
+use Rattle.dhcp_wire.specs.declared.raw_option.OptionFormat.TheVariants.{DhcpV4}
 use Rattle.dhcp4_msg.specs.Options.{read_options}
 use Rattle.dhcp4_msg.proofs.OptionsLemmas.{entered}
 use Rattle.dhcp4_msg.proofs.options.DhcpV4Options.parse.Given as goal
 
-abbrev pub invariant-loop-item : goal.invariant-loop-item
-invariant-loop-item l = entered l.options (cut l.rest) ≡ read_options l.fn.raw
+abbrev pub invariant-loop-raw : goal.invariant-loop-raw
+invariant-loop-raw l = entered l.options (raw_options DhcpV4 l.rest) ≡ read_options l.fn.raw
 
-abbrev pub decreases-loop-item : goal.decreases-loop-item
-decreases-loop-item l = length l.rest
+abbrev pub decreases-loop-raw : goal.decreases-loop-raw
+decreases-loop-raw l = length l.rest

@@ -1,8 +1,8 @@
 -- What was written before the failure is a front of all.
 use Rattle.std.proofs.Common.{◌∙◌}
 use Rattle.dhcp4_msg.specs.OptionCode.{number_of}
-use Rattle.dhcp4_msg.proofs.EmitLemmas.{emits_exit, front_mapped}
-use Rattle.dhcp4_msg.proofs.written.emit_codes.Goals as goal
+use Rattle.dhcp_wire.proofs.EmitLemmas.{emits_exit, front_mapped}
+use Rattle.dhcp4_msg.proofs.value.emit_codes.Goals as goal
 
 pub returns-in_err-write_u8 : goal.returns-in_err-write_u8
 returns-in_err-write_u8 c =

@@ -1,7 +1,7 @@
 -- What was written before the failure is a front of all.
 use Rattle.std.proofs.Common.{◌∙◌}
-use Rattle.dhcp4_msg.proofs.EmitLemmas.{emits_exit, front_pieces}
-use Rattle.dhcp4_msg.proofs.written.emit_addresses.Goals as goal
+use Rattle.dhcp_wire.proofs.EmitLemmas.{emits_exit, front_pieces}
+use Rattle.dhcp4_msg.proofs.value.emit_addresses.Goals as goal
 
 pub returns-in_err-write_ipv4 : goal.returns-in_err-write_ipv4
 returns-in_err-write_ipv4 c =

@@ -1,6 +1,6 @@
 -- The kept bytes, and then the zero byte.
-use Rattle.dhcp4_msg.proofs.EmitLemmas.{emits_exit, emits_last, emits_appends, front_unchanged}
-use Rattle.dhcp4_msg.proofs.written.emit_text.Goals as goal
+use Rattle.dhcp_wire.proofs.EmitLemmas.{emits_exit, emits_last, emits_appends, front_unchanged}
+use Rattle.dhcp4_msg.proofs.value.emit_text.Goals as goal
 
 pub returns-in_err-write_bytes : goal.returns-in_err-write_bytes
 returns-in_err-write_bytes c =

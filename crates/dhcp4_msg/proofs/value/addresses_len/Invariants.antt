@@ -1,7 +1,7 @@
 -- The octets so far, four for each address.
 use Rattle.std.proofs.Common.{◌≡◌, ◌*◌, ◌≤◌, length, take}
 use Rattle.dhcp4_msg.specs.Value.{written_addresses}
-use Rattle.dhcp4_msg.proofs.written.addresses_len.Given as goal
+use Rattle.dhcp4_msg.proofs.value.addresses_len.Given as goal
 
 abbrev pub invariant-loop-address : goal.invariant-loop-address
 invariant-loop-address l =

@@ -2,7 +2,7 @@
 use Rattle.std.proofs.Common.{◌≡◌, ◌*◌, ◌≤◌, length, take}
 use Rattle.std.specs.List.{flat_map}
 use Rattle.dhcp4_msg.specs.Route.{written_route}
-use Rattle.dhcp4_msg.proofs.written.routes_len.Given as goal
+use Rattle.dhcp4_msg.proofs.value.routes_len.Given as goal
 
 abbrev pub invariant-loop-route : goal.invariant-loop-route
 invariant-loop-route l =

@@ -1,8 +1,8 @@
 -- What was written before the failure, in the route too, is a front of all.
 use Rattle.std.proofs.lemmas.List.{get_or_default}
 use Rattle.dhcp4_msg.specs.Route.{written_route}
-use Rattle.dhcp4_msg.proofs.EmitLemmas.{emits_exit, front_piece}
-use Rattle.dhcp4_msg.proofs.written.emit_routes.Goals as goal
+use Rattle.dhcp_wire.proofs.EmitLemmas.{emits_exit, front_piece}
+use Rattle.dhcp4_msg.proofs.value.emit_routes.Goals as goal
 
 pub returns-in_err-emit : goal.returns-in_err-emit
 returns-in_err-emit c =
