@@ -7,3 +7,4 @@ pub mod RisingLemmas
 pub mod RouteLemmas
 pub mod SlotLemmas
 pub mod ValueLemmas
+pub mod ViewLemmas

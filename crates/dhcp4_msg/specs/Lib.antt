@@ -5,3 +5,4 @@ pub mod OptionCode
 pub mod Options
 pub mod Route
 pub mod Value
+pub mod View

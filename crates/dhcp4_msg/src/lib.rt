@@ -11,6 +11,7 @@ mod route;
 #[cfg(test)]
 mod tests;
 mod value;
+mod view;
 
 pub use message::DhcpV4Message;
 pub use message_type::DhcpV4MessageType;
@@ -18,3 +19,4 @@ pub use option::{DhcpV4Option, DhcpV4OptionUnknown};
 pub use option_code::DhcpV4OptionCode;
 pub use options::DhcpV4Options;
 pub use route::DhcpV4ClasslessRoute;
+pub use view::DhcpV4View;

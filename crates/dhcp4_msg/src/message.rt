@@ -14,13 +14,13 @@ ghost use Rattle.dhcp4_msg.specs.Message.{
   written_texts,
 };
 
-use crate::{DhcpV4MessageType, DhcpV4OptionCode, DhcpV4Options};
-use dhcp_wire::{Buffer, BufferMut, DhcpError, ErrorKind, FixedText, Text};
+use crate::{DhcpV4MessageType, DhcpV4OptionCode, DhcpV4Options, DhcpV4View};
+use dhcp_wire::{Buffer, BufferMut, DhcpError, ErrorKind, Text};
 use std::alloc::Global;
 use std::net::Ipv4Addr;
 
 // What stands between the header and the options, RFC 2131 section 3.
-const MAGIC_COOKIE: u32 = 0x63825363;
+pub(crate) const MAGIC_COOKIE: u32 = 0x63825363;
 
 /// A message.
 #[derive(Debug, PartialEq, Eq, Drop)]
@@ -78,48 +78,13 @@ impl DhcpV4Message {
             .message_type()
     }
 
-    /// Reads a message. `InvalidDhcpMessage` exactly where it has fewer than 240 bytes, where the cookie is not there, or where
-    /// `sname` or `file` is not UTF-8 before its first zero byte.
-    #[tactic(auto, unfolding(crate::specs::Message::read_message))]
+    /// Reads a message. `InvalidDhcpMessage` if and only if it has fewer than 240 bytes, the cookie is
+    /// not at byte 236, or `sname` or `file` is not UTF-8 before its first zero byte.
     pub fn parse(alloc: Global, raw: &[u8]) -> Result<Self, DhcpError>
-        ensures { Gives (λ message. message) result (ok_or (read_message raw.now) ErrorKind.InvalidDhcpMessage) }
+        ensures { Gives (λ message. message) result
+            (ok_or (read_message raw.now) ErrorKind.InvalidDhcpMessage) }
     {
-        let mut buf = Buffer::new(raw);
-        let op = buf.get_u8()?;
-        let htype = buf.get_u8()?;
-        let hlen = buf.get_u8()?;
-        let hops = buf.get_u8()?;
-        let xid = buf.get_u32_be()?;
-        let secs = buf.get_u16_be()?;
-        let flags = buf.get_u16_be()?;
-        let ciaddr = buf.get_ipv4()?;
-        let yiaddr = buf.get_ipv4()?;
-        let siaddr = buf.get_ipv4()?;
-        let giaddr = buf.get_ipv4()?;
-        let chaddr = hardware_address(&mut buf)?;
-        let sname = Text::from(buf.get_string_with_null(alloc, 64)?);
-        let file = Text::from(buf.get_string_with_null(alloc, 128)?);
-        if buf.get_u32_be()? != MAGIC_COOKIE {
-            return Err(DhcpError::invalid_message(FixedText::Unreadable));
-        }
-        let options = DhcpV4Options::parse(alloc, buf.get_remains())?;
-        Ok(DhcpV4Message {
-            op,
-            htype,
-            hlen,
-            hops,
-            xid,
-            secs,
-            flags,
-            ciaddr,
-            yiaddr,
-            siaddr,
-            giaddr,
-            chaddr,
-            sname,
-            file,
-            options,
-        })
+        DhcpV4View::read(raw)?.to_message(alloc)
     }
 
     /// Writes the message: the header, with at most 63 bytes of `sname` and 127 of `file`, the cookie, and the options.
@@ -165,7 +130,7 @@ impl DhcpV4Message {
 }
 
 // The sixteen bytes of a hardware address.
-fn hardware_address(buf: &mut Buffer) -> Result<[u8; 16], DhcpError>
+pub(crate) fn hardware_address(buf: &mut Buffer) -> Result<[u8; 16], DhcpError>
     ensures { Reads (λ address. address) result buf.old buf.new (bytes_at 16 buf.old) }
 {
     let bytes = buf.get_bytes(16)?;

@@ -3,7 +3,7 @@
 
 ghost use Rattle.std.specs.Prelude.{◌≡◌, length, map, ok_or, option_copied, take};
 ghost use Rattle.std.specs.List.{flat_map};
-ghost use Rattle.dhcp_wire.specs.Outcome.{Emits, Gives, Makes};
+ghost use Rattle.dhcp_wire.specs.Outcome.{Answers, Emits, Gives, Makes};
 ghost use Rattle.dhcp4_msg.specs.OptionCode.{code_of, number_of};
 ghost use Rattle.dhcp4_msg.specs.Route.{routes_of, written_route};
 ghost use Rattle.dhcp4_msg.specs.Value.{
@@ -90,7 +90,7 @@ pub(crate) fn read_value(
 // The message type of the first byte.
 #[tactic(auto, unfolding(crate::specs::Value::type_in))]
 pub(crate) fn type_of(value: &[u8]) -> Result<DhcpV4MessageType, DhcpError>
-    ensures { Gives (λ kind. kind) result
+    ensures { Answers (λ kind. kind) result
         (ok_or (type_in value.now) ErrorKind.InvalidDhcpMessage) }
 {
     let number = u8_in(value)?;

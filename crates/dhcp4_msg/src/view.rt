@@ -1,0 +1,168 @@
+//! A DHCPv4 message in the bytes that it was received in, RFC 2131 section 2.
+
+ghost use Rattle.std.specs.Prelude.{◌≡◌, ok_or};
+ghost use Rattle.dhcp_wire.specs.Outcome.{Answers, Finds, Makes};
+ghost use Rattle.dhcp4_msg.specs.Message.{read_message};
+ghost use Rattle.dhcp4_msg.specs.Options as maps;
+ghost use Rattle.dhcp4_msg.specs.View as views;
+
+use crate::message::{MAGIC_COOKIE, hardware_address};
+use crate::value::type_of;
+use crate::{DhcpV4Message, DhcpV4MessageType, DhcpV4Options};
+use dhcp_wire::{Buffer, DhcpError, ErrorKind, FixedText, OptionFormat, RawOption, Text};
+use std::alloc::Global;
+use std::marker::Model;
+use std::net::Ipv4Addr;
+
+// The code of the option that says the type of a message, RFC 2132 section 9.6.
+const MESSAGE_TYPE: u16 = 53;
+
+/// A message in the bytes that it was received in: it can be tested before anything is copied.
+/// Contracts see it as the message that the bytes read as.
+#[derive(Debug, Drop)]
+pub struct DhcpV4View<'a> {
+    op: u8,
+    htype: u8,
+    hlen: u8,
+    hops: u8,
+    xid: u32,
+    secs: u16,
+    flags: u16,
+    ciaddr: Ipv4Addr,
+    yiaddr: Ipv4Addr,
+    siaddr: Ipv4Addr,
+    giaddr: Ipv4Addr,
+    chaddr: [u8; 16],
+    sname: &'a str,
+    file: &'a str,
+    options: &'a [u8],
+}
+
+impl<'a> Model for DhcpV4View<'a> {
+    ghost use Rattle.dhcp4_msg.specs.declared.message.DhcpV4Message.{DhcpV4Message};
+    ghost use Rattle.dhcp4_msg.specs.contracts.message.DhcpV4Message as message;
+
+    ghost Value = { DhcpV4Message };
+
+    ghost coded = { message.the_row.coded };
+
+    ghost use Rattle.dhcp4_msg.specs.View.{message_of};
+
+    ghost view = { message_of };
+}
+
+impl<'a> DhcpV4View<'a> {
+    /// The message that the payload reads as: none if and only if it has fewer than 240 bytes, the
+    /// cookie is not at byte 236, or `sname` or `file` is not UTF-8 before its first zero byte. Does
+    /// not allocate.
+    pub fn new(payload: &'a [u8]) -> Option<Self>
+        ensures { Finds (λ view. view) result (read_message payload.now) }
+    {
+        Self::read(payload).ok()
+    }
+
+    // The same, with the error of the field that does not read.
+    #[tactic(auto, unfolding(crate::specs::Message::read_message))]
+    pub(crate) fn read(payload: &'a [u8]) -> Result<Self, DhcpError>
+        ensures { Answers (λ view. view) result
+            (ok_or (read_message payload.now) ErrorKind.InvalidDhcpMessage) }
+    {
+        let mut buf = Buffer::new(payload);
+        let op = buf.get_u8()?;
+        let htype = buf.get_u8()?;
+        let hlen = buf.get_u8()?;
+        let hops = buf.get_u8()?;
+        let xid = buf.get_u32_be()?;
+        let secs = buf.get_u16_be()?;
+        let flags = buf.get_u16_be()?;
+        let ciaddr = buf.get_ipv4()?;
+        let yiaddr = buf.get_ipv4()?;
+        let siaddr = buf.get_ipv4()?;
+        let giaddr = buf.get_ipv4()?;
+        let chaddr = hardware_address(&mut buf)?;
+        let sname = buf.get_str_with_null(64)?;
+        let file = buf.get_str_with_null(128)?;
+        if buf.get_u32_be()? != MAGIC_COOKIE {
+            return Err(DhcpError::invalid_message(FixedText::Unreadable));
+        }
+        Ok(DhcpV4View {
+            op,
+            htype,
+            hlen,
+            hops,
+            xid,
+            secs,
+            flags,
+            ciaddr,
+            yiaddr,
+            siaddr,
+            giaddr,
+            chaddr,
+            sname,
+            file,
+            options: buf.get_remains(),
+        })
+    }
+
+    /// Its transaction id.
+    pub fn xid(&self) -> u32
+        ensures { result ≡ self.now.xid }
+    {
+        self.xid
+    }
+
+    /// The type that its last readable option 53 says, if it has one. Does not allocate.
+    pub fn message_type(&self) -> Option<DhcpV4MessageType>
+        ensures { result ≡ maps.message_type self.now.options }
+    {
+        last_type(self.options)
+    }
+
+    /// A copy of the message, as `DhcpV4Message::parse` of the payload gives it; out of memory is the
+    /// only error.
+    pub fn to_message(&self, alloc: Global) -> Result<DhcpV4Message, DhcpError>
+        ensures { Makes (λ message. message) result self.now }
+    {
+        Ok(DhcpV4Message {
+            op: self.op,
+            htype: self.htype,
+            hlen: self.hlen,
+            hops: self.hops,
+            xid: self.xid,
+            secs: self.secs,
+            flags: self.flags,
+            ciaddr: self.ciaddr,
+            yiaddr: self.yiaddr,
+            siaddr: self.siaddr,
+            giaddr: self.giaddr,
+            chaddr: self.chaddr,
+            sname: Text::from_str(alloc, self.sname)?,
+            file: Text::from_str(alloc, self.file)?,
+            options: DhcpV4Options::parse(alloc, self.options)?,
+        })
+    }
+}
+
+// The type that the last readable option 53 of a list says, if it has one.
+fn last_type(options: &[u8]) -> Option<DhcpV4MessageType>
+    ensures { result ≡ maps.message_type (maps.read_options options.now) }
+{
+    let mut found = None;
+    let mut rest = options;
+    while let Some((raw, later)) = OptionFormat::DhcpV4.raw_option_at(rest) {
+        found = type_under(raw).or(found);
+        rest = OptionFormat::DhcpV4.counted_after(raw.code, later);
+    }
+    found
+}
+
+// The type that a raw option says, if it has one.
+fn type_under(raw: RawOption) -> Option<DhcpV4MessageType>
+    ensures { result ≡ views.type_under (maps.parts_of raw.entry) }
+{
+    if raw.code == MESSAGE_TYPE {
+        type_of(raw.value).ok()
+    } else {
+        None
+    }
+}
