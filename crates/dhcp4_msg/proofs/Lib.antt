@@ -3,6 +3,7 @@ pub mod LawLemmas
 pub mod MessageLaw
 pub mod OptionsLaw
 pub mod OptionsLemmas
+pub mod RangeLemmas
 pub mod RisingLemmas
 pub mod RouteLemmas
 pub mod SlotLemmas

@@ -1,11 +1,12 @@
 -- A message reads back.
 use Rattle.std.proofs.Common.{◌≡◌, ℕ, List, [], ◌∷◌, ◌++◌, Some, refl, ap, ◌∙◌, append_assoc, lit<}
 use Rattle.std.specs.Int.{w8, w16, w32, to_be_bytes}
+use Rattle.std.specs.Net.Addr.{ipv4_octets}
 use Rattle.dhcp_wire.specs.Field.{bytes_at, number_at, address_at, terminated_text_at, terminated_text}
 use Rattle.dhcp_wire.proofs.FieldLaws.{bytes_at-append, number_at-byte, number_at-to_be_bytes, address_at-octets, terminated_text_at-terminated_text, big_endian_16, big_endian_32}
 use Rattle.dhcp4_msg.specs.declared.message.DhcpV4Message.{DhcpV4Message}
 use Rattle.dhcp4_msg.specs.Laws.{MessageReadsBack, read_back}
-use Rattle.dhcp4_msg.specs.Message.{read_message, written_message, magic_cookie}
+use Rattle.dhcp4_msg.specs.Message.{read_message, written_message, written_numbers, written_addresses, written_texts, magic_cookie}
 use Rattle.dhcp4_msg.specs.Options.{read_options, written_options}
 use Rattle.dhcp4_msg.proofs.OptionsLaw.{options_map_back}
 
@@ -38,28 +39,33 @@ grouped : (numbers xid secs flags ciaddr yiaddr siaddr giaddr chaddr sname file 
     ≡ numbers ++ (xid ++ (secs ++ (flags ++ (ciaddr ++ (yiaddr ++ (siaddr ++ (giaddr ++ (chaddr ++ (sname ++ (file ++ (cookie ++ options)))))))))))
 grouped numbers xid secs flags ciaddr yiaddr siaddr giaddr chaddr sname file cookie options = simp append_assoc
 
--- The fields of a message, one after the other.
-pub message_back : (message : DhcpV4Message) → MessageReadsBack message → read_message (written_message message) ≡ Some (read_back message)
+-- bytes after four parts
+followed : (a b c d more : List ℕ) → (a ++ (b ++ (c ++ d))) ++ more ≡ a ++ (b ++ (c ++ (d ++ more)))
+followed a b c d more = simp append_assoc
+
+-- The fields of a message, one after the other, whatever follows.
+pub message_back : (message : DhcpV4Message) (more : List ℕ) → MessageReadsBack message → read_message (written_message message ++ more) ≡ Some (read_back message)
 unfolding written_message
-message_back message has =
-    let rest : List ℕ = written_options message.options in
+message_back message more has =
+    let rest : List ℕ = written_options message.options ++ more in
     let b14 : List ℕ = to_be_bytes w32 magic_cookie ++ rest in
     let b13 : List ℕ = terminated_text 128 message.file ++ b14 in
     let b12 : List ℕ = terminated_text 64 message.sname ++ b13 in
     let b11 : List ℕ = message.chaddr ++ b12 in
-    let b10 : List ℕ = message.giaddr.octets ++ b11 in
-    let b9 : List ℕ = message.siaddr.octets ++ b10 in
-    let b8 : List ℕ = message.yiaddr.octets ++ b9 in
-    let b7 : List ℕ = message.ciaddr.octets ++ b8 in
+    let b10 : List ℕ = ipv4_octets message.giaddr ++ b11 in
+    let b9 : List ℕ = ipv4_octets message.siaddr ++ b10 in
+    let b8 : List ℕ = ipv4_octets message.yiaddr ++ b9 in
+    let b7 : List ℕ = ipv4_octets message.ciaddr ++ b8 in
     let b6 : List ℕ = to_be_bytes w16 message.flags ++ b7 in
     let b5 : List ℕ = to_be_bytes w16 message.secs ++ b6 in
     let b4 : List ℕ = to_be_bytes w32 message.xid ++ b5 in
     let b3 : List ℕ = message.hops ∷ b4 in
     let b2 : List ℕ = message.hlen ∷ b3 in
     let b1 : List ℕ = message.htype ∷ b2 in
-    let is : written_message message ≡ message.op ∷ b1 =
-    grouped (message.op ∷ message.htype ∷ message.hlen ∷ message.hops ∷ []) (to_be_bytes w32 message.xid) (to_be_bytes w16 message.secs) (to_be_bytes w16 message.flags)
-    message.ciaddr.octets message.yiaddr.octets message.siaddr.octets message.giaddr.octets message.chaddr
+    let is : written_message message ++ more ≡ message.op ∷ b1 =
+    followed (written_numbers message) (written_addresses message) (written_texts message) (written_options message.options) more
+    ∙ grouped (message.op ∷ message.htype ∷ message.hlen ∷ message.hops ∷ []) (to_be_bytes w32 message.xid) (to_be_bytes w16 message.secs) (to_be_bytes w16 message.flags)
+    (ipv4_octets message.ciaddr) (ipv4_octets message.yiaddr) (ipv4_octets message.siaddr) (ipv4_octets message.giaddr) message.chaddr
     (terminated_text 64 message.sname) (terminated_text 128 message.file) (to_be_bytes w32 magic_cookie) rest in
     ap read_message is
     ∙ read_in_turn message (message.op ∷ b1) b1 b2 b3 b4 b5 b6 b7 b8 b9 b10 b11 b12 b13 b14 rest
@@ -78,4 +84,4 @@ message_back message has =
     (terminated_text_at-terminated_text 64 message.sname b13 has.sname)
     (terminated_text_at-terminated_text 128 message.file b14 has.file)
     (number_at-to_be_bytes w32 big_endian_32 magic_cookie rest (lit< tt))
-    ∙ ap (λ options. Some (record message { options = options })) (options_map_back message.options has.options)
+    ∙ ap (λ options. Some (record message { options = options })) (options_map_back message.options more has.options)

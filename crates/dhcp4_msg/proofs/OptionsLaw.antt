@@ -9,16 +9,16 @@ use Rattle.std.specs.FinMap.{get, insert, entries, from_entries, empty, find, is
 use Rattle.std.specs.FinMap.Entries.{below_all}
 use Rattle.std.proofs.lemmas.Bool.{and_parts, and_from, eq-eqb, eqb-true, ne_eqb, false≢true}
 use Rattle.std.proofs.lemmas.Option.{none-some, same_Some}
-use Rattle.dhcp_wire.specs.Field.{Read, bytes_at}
+use Rattle.dhcp_wire.specs.Field.{Read}
 use Rattle.dhcp4_msg.specs.declared.option.DhcpV4Option.{DhcpV4Option}
 use Rattle.dhcp4_msg.specs.declared.option.DhcpV4Option.TheVariants.{ParameterRequestList, End}
 use Rattle.dhcp4_msg.specs.OptionCode.{code_of, number_of}
 use Rattle.dhcp_wire.specs.RawOption.{RawOptionParts, raw_option_at, counted_after, with_later, raw_options, raw_options_within}
 use Rattle.dhcp_wire.specs.declared.raw_option.OptionFormat.TheVariants.{DhcpV4}
 use Rattle.dhcp4_msg.specs.Laws.{ReadsBackUnder, OptionsReadBack, with_names, all_with_names}
-use Rattle.dhcp4_msg.specs.Options.{OptionMap, with_entry, read_after, option_at, read_options, written_options}
+use Rattle.dhcp4_msg.specs.Options.{OptionMap, with_entry, read_after, option_at, read_options, written_options, added_end}
 use Rattle.dhcp4_msg.specs.Value.{option_code, option_number, value_of, written_option}
-use Rattle.dhcp_wire.proofs.RawOptionLemmas.{raw_options-raw_option_at}
+use Rattle.dhcp_wire.proofs.RawOptionLemmas.{raw_options-raw_option_at, raw_option_at-code_alone}
 use Rattle.dhcp_wire.proofs.Entries.{is_passed}
 use Rattle.dhcp4_msg.proofs.LawLemmas.{option_back}
 use Rattle.dhcp4_msg.proofs.OptionsLemmas.{entered, entries_entered, get-entries_entered, alone, first_of_two, find-below_all, read_options-entered}
@@ -55,10 +55,11 @@ end_of : (number : ℕ) (value : List ℕ) (option : DhcpV4Option) → number �
 unfolding value_of code_of number_of
 end_of number value option is reads = sym (same_Some _ _ (rw is at reads))
 
--- End alone is entered
-entered_end_alone : (options : OptionMap) → entered options (raw_options DhcpV4 (255 ∷ [])) ≡ insert options 255 End
-unfolding raw_options_within raw_option_at bytes_at value_of code_of number_of
-entered_end_alone options = refl
+-- End alone is entered, whatever follows it
+entered_end_alone : (options : OptionMap) (more : List ℕ) → entered options (raw_options DhcpV4 (255 ∷ more)) ≡ insert options 255 End
+unfolding raw_options_within value_of code_of number_of
+entered_end_alone options more =
+    ap (entered options) (raw_options-raw_option_at DhcpV4 (255 ∷ more) ∙ ap (with_later DhcpV4 (raw_options DhcpV4)) (raw_option_at-code_alone 255 more refl))
 
 -- End once more changes nothing
 end_again : (options : OptionMap) (number : ℕ) (option : DhcpV4Option) → number ≡ 255 → option ≡ End → insert options number option ≡ insert (insert options number option) 255 End
@@ -139,17 +140,17 @@ unfolding entries_entered raw_options_within
 after_end options number option es at has none =
     rw none (end_again options number (with_names option) at (is_end number option at has))
 
--- Rising entries that are written, with End, are entered in turn.
-entries_back : (es : List (ℕ × DhcpV4Option)) (options : OptionMap) → IsTrue (is_sorted nat_cmp es) → EntriesReadBack es → entered options (raw_options DhcpV4 (flat_map written_option (values_of es) ++ end_after es)) ≡ insert (entries_entered options (named es)) 255 End
+-- Rising entries that are written, with End, are entered in turn, whatever follows.
+entries_back : (es : List (ℕ × DhcpV4Option)) (options : OptionMap) (more : List ℕ) → IsTrue (is_sorted nat_cmp es) → EntriesReadBack es → entered options (raw_options DhcpV4 (flat_map written_option (values_of es) ++ (end_after es ++ more))) ≡ insert (entries_entered options (named es)) 255 End
 unfolding entries_entered
-entries_back [] options rises back = entered_end_alone options
-entries_back (e ∷ es) options rises back =
+entries_back [] options more rises back = entered_end_alone options more
+entries_back (e ∷ es) options more rises back =
     let parts = and_parts _ _ rises in
     let has = back e.0 e.1 (find_first e.0 e.1 es) in
     let later : EntriesReadBack es = λ q option is. back q option (find_later e.0 q option e.1 es parts.0 is) in
     let entered_now = insert options e.0 (with_names e.1) in
-    let rest : List ℕ → List ℕ = λ last. flat_map written_option (values_of es) ++ last in
-    ap (λ bytes. entered options (raw_options DhcpV4 bytes)) (append_assoc (written_option e.1) (flat_map written_option (values_of es)) (end_after (e ∷ es)))
+    let rest : List ℕ → List ℕ = λ last. flat_map written_option (values_of es) ++ (last ++ more) in
+    ap (λ bytes. entered options (raw_options DhcpV4 bytes)) (append_assoc (written_option e.1) (flat_map written_option (values_of es)) (end_after (e ∷ es) ++ more))
     ∙ entered_first options e.0 e.1 (rest (end_after (e ∷ es))) has
     ∙ elim (e.0 == 255) as (λ b. (e.0 == 255) ≡ b → entered entered_now (raw_options DhcpV4 (cond b [] (rest (end_after (e ∷ es))))) ≡ insert (entries_entered entered_now (named es)) 255 End) [
       | true ↦ λ at.
@@ -158,7 +159,7 @@ entries_back (e ∷ es) options rises back =
       | false ↦ λ at.
           let apart : eq_by_cmp nat_cmp 255 e.0 ≡ false = unsigned_tied 255 e.0 ∙ ne_eqb 255 e.0 (λ same. false≢true (sym at ∙ eq-eqb e.0 255 (sym same))) in
           ap (λ b. entered entered_now (raw_options DhcpV4 (rest (cond (is_some (cond b (Some e.1) (find nat_cmp 255 es))) [] (255 ∷ []))))) apart
-          ∙ entries_back es entered_now parts.1 later
+          ∙ entries_back es entered_now more parts.1 later
     ] refl
 
 -- entries with names still rise
@@ -178,13 +179,14 @@ entries_entered-map es rises =
     same_map nat_cmp_total nat_cmp-IsAntisymmetric _ _ (λ q. get-entries_entered es empty q rises
     ∙ ap (first_of_two (find nat_cmp q es)) (get-empty nat_cmp q) ∙ alone _ ∙ sym (get-from_entries nat_cmp_total es q))
 
--- the options that are written read back, with End
-pub options_map_back : (options : OptionMap) → OptionsReadBack options → read_options (written_options options) ≡ insert (all_with_names options) 255 End
+-- the options that are written read back, with End, whatever follows it
+pub options_map_back : (options : OptionMap) (more : List ℕ) → OptionsReadBack options → read_options (written_options options ++ more) ≡ insert (all_with_names options) 255 End
 unfolding written_options
-options_map_back options back =
+options_map_back options more back =
     let es = entries options in
     let rises = is_passed _ (entries_sorted options) in
-    sym (read_options-entered _)
-    ∙ ap (λ found. entered empty (raw_options DhcpV4 (flat_map written_option (values_of es) ++ cond (is_some found) [] (255 ∷ [])))) (get-entries options 255)
-    ∙ entries_back es empty rises (λ number option is. back number option (get-entries options number ∙ is))
+    ap read_options (append_assoc (flat_map written_option (values_of es)) (added_end options) more)
+    ∙ sym (read_options-entered _)
+    ∙ ap (λ found. entered empty (raw_options DhcpV4 (flat_map written_option (values_of es) ++ (cond (is_some found) [] (255 ∷ []) ++ more)))) (get-entries options 255)
+    ∙ entries_back es empty more rises (λ number option is. back number option (get-entries options number ∙ is))
     ∙ ap (λ named. insert named 255 End) (entries_entered-map (named es) (rises-named es rises))

@@ -1,5 +1,5 @@
 -- Options in a list, with a table of their places.
-use Rattle.std.proofs.Common.{◌≡◌, ℕ, zero, suc, ◌+◌, ◌<◌, ◌≤◌, Bool, true, false, ◌==◌, cond, ltb, List, [], ◌∷◌, ◌++◌, length, get_or, take, drop, set, replicate, Option, Some, None, is_some, slice_get, filter_map, refl, sym, ap, subst, ◌∙◌, arith, length-append, append-nil, drop-cons, get_or-set_same, get_or-set_other}
+use Rattle.std.proofs.Common.{◌≡◌, ℕ, zero, suc, ◌+◌, ◌<◌, ◌≤◌, Bool, true, false, ◌==◌, cond, ltb, List, [], ◌∷◌, ◌++◌, length, get_or, take, drop, set, replicate, Option, Some, None, IsTrue, is_some, slice_get, filter_map, refl, sym, ap, subst, ◌∙◌, arith, length-append, append-nil, drop-cons, get_or-set_same, get_or-set_other}
 use Rattle.std.specs.Prelude.{position}
 use Rattle.std.specs.List.{All, count_by, position_or_len, position_from, find}
 use Rattle.std.specs.Option.{option_eq}
@@ -15,11 +15,12 @@ use Rattle.std.proofs.lemmas.List.Folds.{find_at, find-set}
 use Rattle.std.proofs.lemmas.List.Quantifiers.{position-Some}
 use Rattle.std.proofs.lemmas.Iterator.Adapters.{position_from-zero}
 use Rattle.std.proofs.lemmas.List.Sums.{count_by-le-length, sum_by-set, passes_at_first}
-use Rattle.std.proofs.lemmas.Option.{none-some, same_Some, slice_get-get_or, slice_get_past, slice_get_within}
+use Rattle.std.proofs.lemmas.Option.{none-some, same_Some, slice_get-get_or, slice_get_past, slice_get_within, get_or_from_slice_get}
 use Rattle.dhcp4_msg.specs.declared.option.DhcpV4Option.{DhcpV4Option}
 use Rattle.dhcp4_msg.specs.Options.{OptionMap}
 use Rattle.dhcp4_msg.specs.Options.{by_number, map_of, has_number, kept_in, CanBeKept, IsIndexed}
-use Rattle.dhcp4_msg.specs.Value.{option_number}
+use Rattle.dhcp4_msg.specs.Laws.{HasWidths, AllStand}
+use Rattle.dhcp4_msg.specs.Value.{option_number, fits}
 use Rattle.dhcp4_msg.specs.contracts.option.DhcpV4OptionPartialEq.TheImpl.{ghosts}
 use Rattle.dhcp_wire.proofs.Entries.{is_passed}
 use Rattle.dhcp4_msg.proofs.RisingLemmas.{Rising, Rising-is_sorted, values_of-rising, pairs_eq, equal_at, equal_in_pairs}
@@ -305,3 +306,21 @@ agree_everywhere kept others places theirs indexed other at =
           | None ↦ λ _. refl
           | Some option ↦ λ is. let below = kept_below kept places q option indexed is in absurd (omega (arith, below))
         ] refl
+
+-- ---- what all options that are kept have
+
+-- each is kept under its number, which is a byte, and fits
+pub AllStand-kept : (kept : List DhcpV4Option) (places : List (Option ℕ)) → IsIndexed kept places → All HasWidths kept → AllStand (map_of kept)
+AllStand-kept kept places indexed widths q option is =
+    let p : DhcpV4Option → Bool = has_number q in
+    let i : ℕ = position_or_len p kept in
+    let here : slice_get kept i ≡ Some option = sym (find_at p kept) ∙ sym (get-map_of kept q) ∙ is in
+    let inside = slice_get_within kept i option here in
+    let same : get_or kept i option ≡ option = get_or_from_slice_get kept i option option here in
+    let can = indexed.fit i option inside in
+    record {
+      is_byte = kept_below kept places q option indexed is;
+      is_own = sym (eqb-true _ _ (passes_at_first p kept option inside) ∙ ap option_number same);
+      fit = subst (λ option. IsTrue (fits option)) same can.fit;
+      widths = subst HasWidths same (widths i option inside);
+    }

@@ -1,6 +1,6 @@
 //! Laws: what is written reads back. A call does nothing.
 
-ghost use Rattle.std.specs.Prelude.{◌≡◌, ◌≤◌, ◌++◌, ℕ, List, Some, IsTrue, length};
+ghost use Rattle.std.specs.Prelude.{◌≡◌, ◌<◌, ◌^◌, ◌++◌, ℕ, List, Some, IsTrue, length};
 ghost use Rattle.std.specs.FinMap as map;
 ghost use Rattle.dhcp_wire.specs.RawOption.{raw_options};
 ghost use Rattle.dhcp_wire.specs.declared.raw_option.OptionFormat.TheVariants.{DhcpV4};
@@ -8,11 +8,31 @@ ghost use Rattle.dhcp4_msg.specs.declared.message.DhcpV4Message.{DhcpV4Message};
 ghost use Rattle.dhcp4_msg.specs.declared.option.DhcpV4Option.{DhcpV4Option};
 ghost use Rattle.dhcp4_msg.specs.declared.route.DhcpV4ClasslessRoute.{DhcpV4ClasslessRoute};
 ghost use Rattle.dhcp4_msg.specs.OptionCode.{code_of, number_of};
-ghost use Rattle.dhcp4_msg.specs.Laws.{IsExact, MessageReadsBack, ReadsBack, read_back, with_names};
+ghost use Rattle.dhcp4_msg.specs.Laws.{
+  AddressWidths,
+  AreInRange,
+  HasWholeAddresses,
+  HasWidths,
+  IsExact,
+  IsInRange,
+  IsWhole,
+  MessageIsInRange,
+  MessageReadsBack,
+  NumberWidths,
+  options_read_back,
+  ReadsBack,
+  read_back,
+  with_names,
+};
+ghost use Rattle.std.specs.List.{AllByRecursion};
 ghost use Rattle.dhcp4_msg.specs.Message.{read_message, written_message};
-ghost use Rattle.dhcp4_msg.specs.Options.{last_of, option_at, read_options};
+ghost use Rattle.dhcp4_msg.specs.Options.{last_of, option_at, read_options, written_options};
 ghost use Rattle.dhcp4_msg.specs.Route.{route_at, written_route};
 ghost use Rattle.dhcp4_msg.specs.Value.{fits, written_option};
+
+use crate::{DhcpV4ClasslessRoute, DhcpV4Message, DhcpV4Option, DhcpV4Options};
+use dhcp_wire::laws::addresses_have_four_bytes;
+use std::net::Ipv4Addr;
 
 /// The number of the code of a number is that number.
 pub fn codes_read_back()
@@ -47,3 +67,119 @@ pub fn messages_read_back()
     ensures { (message : DhcpV4Message) → MessageReadsBack message
         → read_message (written_message message) ≡ Some (read_back message) }
 {}
+
+/// An option that a caller holds reads back, whatever follows it, if it fits and its text or its
+/// routes are in range. The codes that it requests read under their names.
+pub fn option_reads_back(option: &DhcpV4Option)
+    ensures { (rest : List ℕ) → IsTrue (fits option.now) → IsInRange option.now
+        → option_at (written_option option.now ++ rest) ≡ (Some (with_names option.now), rest) }
+{
+    option_widths(option);
+}
+
+/// Options that a caller holds read back as they are written, whatever follows their End, if their
+/// texts and routes are in range. End is added.
+pub fn option_list_reads_back(options: &DhcpV4Options)
+    ensures { (rest : List ℕ) → AreInRange options.now
+        → read_options (written_options options.now ++ rest) ≡ options_read_back options.now }
+{
+    options.stand();
+}
+
+/// A message that a caller holds reads back as it is written, whatever follows its End, if its
+/// texts and routes are in range. End is added to its options.
+pub fn message_reads_back(message: &DhcpV4Message)
+    ensures { (rest : List ℕ) → MessageIsInRange message.now
+        → read_message (written_message message.now ++ rest) ≡ Some (read_back message.now) }
+{
+    number_widths(message);
+    address_widths(message);
+    message.options.stand();
+}
+
+// The numbers of a message have their widths.
+fn number_widths(message: &DhcpV4Message)
+    ensures { NumberWidths message.now }
+{
+    fits_byte(message.op);
+    fits_byte(message.htype);
+    fits_byte(message.hlen);
+    fits_byte(message.hops);
+    fits_four_bytes(message.xid);
+    fits_two_bytes(message.secs);
+    fits_two_bytes(message.flags);
+}
+
+// A number of one byte,
+fn fits_byte(number: u8)
+    ensures { number < 2 ^ 8 }
+{}
+
+// of two bytes,
+fn fits_two_bytes(number: u16)
+    ensures { number < 2 ^ 16 }
+{}
+
+// and of four bytes.
+fn fits_four_bytes(number: u32)
+    ensures { number < 2 ^ 32 }
+{}
+
+// The addresses of a message are whole.
+fn address_widths(message: &DhcpV4Message)
+    ensures { AddressWidths message.now }
+{
+    address_is_whole(message.ciaddr);
+    address_is_whole(message.yiaddr);
+    address_is_whole(message.siaddr);
+    address_is_whole(message.giaddr);
+    let _chaddr = message.chaddr;
+}
+
+// The numbers of an option have their widths, and its addresses are whole.
+#[tactic(auto, unfolding(crate::specs::Laws::HasWidths))]
+pub(crate) fn option_widths(option: &DhcpV4Option)
+    ensures { HasWidths option.now }
+{
+    match option {
+        DhcpV4Option::SubnetMask(address)
+        | DhcpV4Option::BroadcastAddress(address)
+        | DhcpV4Option::RequestedIpAddress(address)
+        | DhcpV4Option::ServerIdentifier(address) => address_is_whole(*address),
+        DhcpV4Option::Router(addresses)
+        | DhcpV4Option::DomainNameServer(addresses)
+        | DhcpV4Option::NtpServers(addresses) => addresses_are_whole(addresses.as_slice()),
+        DhcpV4Option::InterfaceMtu(size) => fits_two_bytes(*size),
+        DhcpV4Option::IpAddressLeaseTime(seconds)
+        | DhcpV4Option::RenewalTime(seconds)
+        | DhcpV4Option::RebindingTime(seconds) => fits_four_bytes(*seconds),
+        DhcpV4Option::ClasslessStaticRoute(routes) => routes_are_whole(routes.as_slice()),
+        _ => {}
+    }
+}
+
+// An address has four octets.
+fn address_is_whole(address: Ipv4Addr)
+    ensures { IsWhole address }
+{
+    addresses_have_four_bytes(address);
+}
+
+// So have those of a list,
+fn addresses_are_whole(addresses: &[Ipv4Addr])
+    ensures { AllByRecursion IsWhole addresses.now }
+{
+    for address in addresses {
+        address_is_whole(*address);
+    }
+}
+
+// and those of routes.
+fn routes_are_whole(routes: &[DhcpV4ClasslessRoute])
+    ensures { AllByRecursion HasWholeAddresses routes.now }
+{
+    for route in routes {
+        address_is_whole(route.destination);
+        address_is_whole(route.router);
+    }
+}

@@ -10,6 +10,7 @@ ghost use Rattle.dhcp_wire.specs.Error.{no_memory};
 ghost use Rattle.dhcp_wire.specs.Outcome.{Makes, Emits};
 ghost use Rattle.dhcp4_msg.specs.contracts.option.DhcpV4OptionPartialEq.TheImpl.Laws as option_per;
 ghost use Rattle.dhcp4_msg.specs.contracts.option.DhcpV4OptionEq.TheImpl.Laws as option_equiv;
+ghost use Rattle.dhcp4_msg.specs.Laws.{AllStand};
 ghost use Rattle.dhcp4_msg.specs.OptionCode.{number_of};
 ghost use Rattle.dhcp4_msg.specs.Value.{
   address_said,
@@ -35,6 +36,7 @@ ghost use Rattle.dhcp4_msg.specs.Options.{
   written_options,
 };
 
+use crate::laws::option_widths;
 use crate::value::read_value;
 use crate::{DhcpV4ClasslessRoute, DhcpV4Option, DhcpV4OptionCode};
 use dhcp_wire::{
@@ -273,6 +275,15 @@ impl DhcpV4Options {
         match self.places[usize::from(number)] {
             Some(place) => Some(&self.kept[usize::from(place)]),
             None => None,
+        }
+    }
+
+    // Each option stands under its own number, fits, and has the widths of its type.
+    pub(crate) fn stand(&self)
+        ensures { AllStand self.now }
+    {
+        for option in &self.kept {
+            option_widths(option);
         }
     }
 
