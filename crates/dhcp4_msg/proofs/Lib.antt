@@ -1,6 +1,7 @@
 pub mod CodeLemmas
 pub mod LawLemmas
 pub mod MessageLaw
+pub mod OffsetLemmas
 pub mod OptionsLaw
 pub mod OptionsLemmas
 pub mod RangeLemmas

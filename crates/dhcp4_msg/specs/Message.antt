@@ -1,10 +1,11 @@
 -- A DHCPv4 message, RFC 2131 section 2: a header of 236 bytes, the cookie 63 82 53 63, and options.
-use Rattle.std.specs.Prelude.{ℕ, ◌==◌, List, [], ◌∷◌, ◌++◌, replicate, Option, Some, None, if◌then◌else◌}
+use Rattle.std.specs.Prelude.{◌≡◌, ℕ, ◌≤◌, ◌==◌, length, take, drop, List, [], ◌∷◌, ◌++◌, replicate, Option, Some, None, if◌then◌else◌}
 use Rattle.std.specs.Int.{w8, w16, w32, to_be_bytes}
 use Rattle.std.specs.FinMap as map
 use Rattle.std.specs.Net.Addr.{ipv4_octets}
 use Rattle.std.specs.declared.net.Ipv4Addr.{Ipv4Addr}
 use Rattle.dhcp_wire.specs.Field.{◌>>=◌, bytes_at, number_at, address_of, address_at, terminated_text_at, terminated_text}
+use Rattle.dhcp_wire.specs.Value.{number_in, address_in, text_in}
 use Rattle.dhcp4_msg.specs.declared.message.DhcpV4Message.{DhcpV4Message}
 use Rattle.dhcp4_msg.specs.Options.{read_options, written_options}
 
@@ -49,6 +50,26 @@ read_message bytes = do
         options = read_options cookie.1;
       })
       else None
+
+-- The fields of a message at their offsets: the options are those from byte 240 on.
+pub record IsAtOffsets (bytes : List ℕ) (message : DhcpV4Message) : Type 0 where
+  pub long : 240 ≤ length bytes
+  pub cookie : number_in w32 (drop 236 bytes) ≡ Some magic_cookie
+  pub op : number_in w8 (drop 0 bytes) ≡ Some message.op
+  pub htype : number_in w8 (drop 1 bytes) ≡ Some message.htype
+  pub hlen : number_in w8 (drop 2 bytes) ≡ Some message.hlen
+  pub hops : number_in w8 (drop 3 bytes) ≡ Some message.hops
+  pub xid : number_in w32 (drop 4 bytes) ≡ Some message.xid
+  pub secs : number_in w16 (drop 8 bytes) ≡ Some message.secs
+  pub flags : number_in w16 (drop 10 bytes) ≡ Some message.flags
+  pub ciaddr : address_in (drop 12 bytes) ≡ Some message.ciaddr
+  pub yiaddr : address_in (drop 16 bytes) ≡ Some message.yiaddr
+  pub siaddr : address_in (drop 20 bytes) ≡ Some message.siaddr
+  pub giaddr : address_in (drop 24 bytes) ≡ Some message.giaddr
+  pub chaddr : take 16 (drop 28 bytes) ≡ message.chaddr
+  pub sname : text_in (take 64 (drop 44 bytes)) ≡ Some message.sname
+  pub file : text_in (take 128 (drop 108 bytes)) ≡ Some message.file
+  pub options : read_options (drop 240 bytes) ≡ message.options
 
 -- the fields of a message before its addresses, as they are written
 abbrev pub written_numbers : DhcpV4Message → List ℕ

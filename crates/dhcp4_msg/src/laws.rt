@@ -25,7 +25,7 @@ ghost use Rattle.dhcp4_msg.specs.Laws.{
   with_names,
 };
 ghost use Rattle.std.specs.List.{AllByRecursion};
-ghost use Rattle.dhcp4_msg.specs.Message.{read_message, written_message};
+ghost use Rattle.dhcp4_msg.specs.Message.{IsAtOffsets, read_message, written_message};
 ghost use Rattle.dhcp4_msg.specs.Options.{last_of, option_at, read_options, written_options};
 ghost use Rattle.dhcp4_msg.specs.Route.{route_at, written_route};
 ghost use Rattle.dhcp4_msg.specs.Value.{fits, written_option};
@@ -59,6 +59,13 @@ pub fn options_read_back()
 pub fn last_option_counts()
     ensures { (bytes : List ℕ) (number : ℕ)
         → map.get (read_options bytes) number ≡ last_of number (raw_options DhcpV4 bytes) }
+{}
+
+/// A message that reads has at least 240 bytes, the cookie at byte 236, each field at its offset, RFC
+/// 2131 section 2, and its options from byte 240 on.
+pub fn fields_are_at_offsets()
+    ensures { (bytes : List ℕ) (message : DhcpV4Message)
+        → read_message bytes ≡ Some message → IsAtOffsets bytes message }
 {}
 
 /// A message reads back: its numbers within their widths, its texts within their fields, and each option under its own number. The
