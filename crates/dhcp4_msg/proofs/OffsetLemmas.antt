@@ -43,8 +43,7 @@ text_of_field n bytes rest text is =
     option_and_then_some _ (bytes_at n bytes) _ is (λ field at_field then_text.
     option_and_then_some _ (text_of (before_zero field.0)) _ then_text (λ kept at_kept made.
     let same = same_Some _ _ made in
-    let takes = Takes-bytes_at n bytes field.1 field.0 at_field in
-    (
+    let takes = Takes-bytes_at n bytes field.1 field.0 at_field in (
       ap text_in (front_of n bytes field.0 field.1 at_field) ∙ at_kept ∙ ap (λ pair. Some pair.0) same,
       sym (ap (λ pair. pair.1) same) ∙ takes.0,
       takes.1,

@@ -37,7 +37,8 @@ pub record IsExact (route : DhcpV4ClasslessRoute) : Type 0 where
   pub destination : HasExactDestination route
   pub router : IsWhole route.router
 
--- the values that read back: numbers of their width, whole addresses, texts that an option holds, routes that are exact
+-- the values that read back: numbers of their width, whole addresses, texts that an option holds,
+-- routes that are exact
 unfoldable pub ReadsBack : DhcpV4Option → Type 0
 ReadsBack Pad = Unit {0}
 ReadsBack (SubnetMask address) = IsWhole address
@@ -61,9 +62,11 @@ ReadsBack (ClasslessStaticRoute routes) = AllByRecursion IsExact routes
 ReadsBack End = Unit {0}
 ReadsBack (Unknown option) = Unit {0}
 
--- the same option, with each code that it requests under the name of its number: equal to it, since codes compare by number
+-- the same option, with each code that it requests under the name of its number: equal to it, since
+-- codes compare by number
 abbrev pub with_names : DhcpV4Option → DhcpV4Option
-with_names (ParameterRequestList requested) = ParameterRequestList (map (λ code. code_of (number_of code)) requested)
+with_names (ParameterRequestList requested) =
+    ParameterRequestList (map (λ code. code_of (number_of code)) requested)
 with_names option = option
 
 -- an option that reads back under a number: it is its own and a byte, and the option fits
@@ -75,10 +78,14 @@ pub record ReadsBackUnder (number : ℕ) (option : DhcpV4Option) : Type 0 where
 
 -- the options of a list that reads back
 abbrev pub OptionsReadBack : OptionMap → Type 0
-OptionsReadBack options = (number : ℕ) (option : DhcpV4Option) → get options number ≡ Some option → ReadsBackUnder number option
+OptionsReadBack options =
+    (number : ℕ) (option : DhcpV4Option)
+    → get options number ≡ Some option
+    → ReadsBackUnder number option
 
--- A message that reads back: its numbers have their widths, its addresses four octets and the hardware address sixteen bytes, its
--- texts fit their fields, and each of its options reads back under its number.
+-- A message that reads back: its numbers have their widths, its addresses four octets and the
+-- hardware address sixteen bytes, its texts fit their fields, and each of its options reads back
+-- under its number.
 pub record MessageReadsBack (message : DhcpV4Message) : Type 0 where
   pub op : message.op < 2 ^ 8
   pub htype : message.htype < 2 ^ 8
@@ -96,7 +103,7 @@ pub record MessageReadsBack (message : DhcpV4Message) : Type 0 where
   pub file : FitsField 128 message.file
   pub options : OptionsReadBack message.options
 
--- ---- what a caller has to show of a value that it was handed: that its texts and routes are in range
+-- ---- what a caller has to show of a value that it was handed
 
 -- an option whose text or routes are in range
 unfoldable pub IsInRange : DhcpV4Option → Type 0
@@ -140,7 +147,8 @@ HasWidths (RebindingTime seconds) = seconds < 2 ^ 32
 HasWidths (ClasslessStaticRoute routes) = AllByRecursion HasWholeAddresses routes
 HasWidths option = Unit {0}
 
--- an option that is kept under a number of the type: it is its own and a byte, and the option fits and has its widths
+-- an option that is kept under a number of the type: it is its own and a byte, and the option fits
+-- and has its widths
 pub record StandsUnder (number : ℕ) (option : DhcpV4Option) : Type 0 where
   pub is_byte : number < 2 ^ 8
   pub is_own : option_number option ≡ number
@@ -149,7 +157,10 @@ pub record StandsUnder (number : ℕ) (option : DhcpV4Option) : Type 0 where
 
 -- so do all options of a map
 abbrev pub AllStand : OptionMap → Type 0
-AllStand options = (number : ℕ) (option : DhcpV4Option) → get options number ≡ Some option → StandsUnder number option
+AllStand options =
+    (number : ℕ) (option : DhcpV4Option)
+    → get options number ≡ Some option
+    → StandsUnder number option
 
 -- what the numbers of every message of the type have
 pub record NumberWidths (message : DhcpV4Message) : Type 0 where
@@ -179,7 +190,8 @@ pub record MessageWidths (message : DhcpV4Message) : Type 0 where
 
 -- the same options, each with names
 abbrev pub all_with_names : OptionMap → OptionMap
-all_with_names options = from_entries (map (λ entry. (entry.0, with_names entry.1)) (entries options))
+all_with_names options =
+    from_entries (map (λ entry. (entry.0, with_names entry.1)) (entries options))
 
 -- options as they read back: with names, and End, which is written where it isn't there
 abbrev pub options_read_back : OptionMap → OptionMap

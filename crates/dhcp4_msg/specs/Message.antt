@@ -13,7 +13,8 @@ use Rattle.dhcp4_msg.specs.Options.{read_options, written_options}
 abbrev pub magic_cookie : ℕ
 magic_cookie = 0x63825363
 
--- A message reads where its header is whole, with texts that are UTF-8 before their first zero byte, and the cookie stands.
+-- A message reads where its header is whole, with texts that are UTF-8 before their first zero
+-- byte, and the cookie stands.
 unfoldable pub read_message : List ℕ → Option DhcpV4Message
 read_message bytes = do
   op ← number_at w8 bytes
@@ -75,7 +76,8 @@ pub record IsAtOffsets (bytes : List ℕ) (message : DhcpV4Message) : Type 0 whe
 abbrev pub written_numbers : DhcpV4Message → List ℕ
 written_numbers message =
     (message.op ∷ message.htype ∷ message.hlen ∷ message.hops ∷ [])
-    ++ (to_be_bytes w32 message.xid ++ (to_be_bytes w16 message.secs ++ to_be_bytes w16 message.flags))
+    ++ (to_be_bytes w32 message.xid
+    ++ (to_be_bytes w16 message.secs ++ to_be_bytes w16 message.flags))
 
 -- its addresses
 abbrev pub written_addresses : DhcpV4Message → List ℕ
@@ -87,7 +89,8 @@ written_addresses message =
 -- its texts, of 63 and 127 bytes at most, and the cookie
 abbrev pub written_texts : DhcpV4Message → List ℕ
 written_texts message =
-    terminated_text 64 message.sname ++ (terminated_text 128 message.file ++ to_be_bytes w32 magic_cookie)
+    terminated_text 64 message.sname
+    ++ (terminated_text 128 message.file ++ to_be_bytes w32 magic_cookie)
 
 -- the bytes of a message
 unfoldable pub written_message : DhcpV4Message → List ℕ

@@ -1,4 +1,5 @@
--- Options as a map from their numbers, RFC 2132: how they are read from a list, how they are written, and how they are kept.
+-- Options as a map from their numbers, RFC 2132: how they are read from a list, how they are
+-- written, and how they are kept.
 use Rattle.std.specs.Prelude.{◌≡◌, ℕ, ◌<◌, Bool, ◌==◌, List, [], ◌∷◌, ◌++◌, length, reverse, position, Option, Some, None, IsTrue, is_some, option_map, slice_get, slice_index_or, if◌then◌else◌}
 use Rattle.std.specs.Ordering.{nat_cmp}
 use Rattle.std.specs.List.{All, count_by, flat_map, filter_map}
@@ -26,12 +27,14 @@ parts_of raw = record { code = raw.code; value = raw.value.now }
 abbrev pub reading_of : RawOptionParts → Option DhcpV4Option
 reading_of raw = value_of (code_of raw.code) raw.value
 
--- the reading of the option that was found in some bytes, if it has one, and the bytes after it; where none was found, all bytes
+-- the reading of the option that was found in some bytes, if it has one, and the bytes after it;
+-- where none was found, all bytes
 abbrev pub read_after : List ℕ → Read RawOptionParts → Option DhcpV4Option × List ℕ
 read_after bytes None = (None, bytes)
 read_after bytes (Some found) = (reading_of found.0, found.1)
 
--- The option at the front, if it reads, and the bytes after it. A truncated option doesn't read, and nothing is skipped then.
+-- The option at the front, if it reads, and the bytes after it. A truncated option doesn't read,
+-- and nothing is skipped then.
 unfoldable pub option_at : List ℕ → Option DhcpV4Option × List ℕ
 option_at bytes = read_after bytes (raw_option_at DhcpV4 bytes)
 
@@ -77,11 +80,12 @@ said_by says options number = map.get options number >>= says
 unfoldable pub message_type : OptionMap → Option DhcpV4MessageType
 message_type options = said_by type_said options 53
 
--- the routes of option 121, RFC 3442; where it is absent those of option 249, in which some servers send them
+-- the routes of option 121, RFC 3442; where it is absent those of option 249, in which some servers
+-- send them
 unfoldable pub classless_routes : OptionMap → Option (List DhcpV4ClasslessRoute)
 classless_routes options = option_or (map.get options 121) (map.get options 249) >>= routes_said
 
--- ---- how they are kept: a list of options, and for each number the place of its option in the list
+-- ---- how they are kept: in a list, with the place of the option of each number
 
 -- each option under its number
 abbrev pub by_number : List DhcpV4Option → List (ℕ × DhcpV4Option)
@@ -106,9 +110,12 @@ pub record CanBeKept (option : DhcpV4Option) : Type 0 where
   pub is_byte : option_number option < 256
   pub fit : IsTrue (fits option)
 
--- Each option can be kept. The table has for each number the place of its option, if it is there, and as many places as options.
+-- Each option can be kept. The table has for each number the place of its option, if it is there,
+-- and as many places as options.
 pub record IsIndexed (kept : List DhcpV4Option) (places : List (Option ℕ)) : Type 0 where
   pub sized : length places ≡ 256
   pub fit : All CanBeKept kept
-  pub placed : (number : ℕ) → number < 256 → slice_index_or places number None ≡ position (has_number number) kept
+  pub placed : (number : ℕ)
+      → number < 256
+      → slice_index_or places number None ≡ position (has_number number) kept
   pub counted : count_by is_some places ≡ length kept

@@ -1,11 +1,13 @@
--- A classless static route, RFC 3442: the width of a subnet mask, the significant octets of the destination, the router.
+-- A classless static route, RFC 3442: the width of a subnet mask, the significant octets of the
+-- destination, the router.
 use Rattle.std.specs.Prelude.{ℕ, zero, suc, ◌+◌, ◌-◌, ◌/◌, min, List, [], ◌∷◌, ◌++◌, length, take, replicate, Option, Some, None}
 use Rattle.std.specs.Int.{w8}
 use Rattle.std.specs.Net.Addr.{ipv4_octets}
 use Rattle.dhcp_wire.specs.Field.{Read, ◌>>=◌, bytes_at, number_at, address_of, address_at}
 use Rattle.dhcp4_msg.specs.declared.route.DhcpV4ClasslessRoute.{DhcpV4ClasslessRoute}
 
--- how many octets of a destination stand for a mask of this width: as many as its bits touch, four at most
+-- how many octets of a destination stand for a mask of this width: as many as its bits touch, four
+-- at most
 abbrev pub significant_octets : ℕ → ℕ
 significant_octets width = min 4 ((width + 7) / 8)
 
@@ -44,5 +46,6 @@ routes_of bytes = routes_within (length bytes) bytes
 -- the bytes of a route
 unfoldable pub written_route : DhcpV4ClasslessRoute → List ℕ
 written_route route =
-    route.prefix_length ∷ take (significant_octets route.prefix_length) (ipv4_octets route.destination)
+    let width = route.prefix_length in
+    width ∷ take (significant_octets width) (ipv4_octets route.destination)
     ++ ipv4_octets route.router

@@ -108,11 +108,13 @@ option_code (Unknown option) = code_of option.code
 abbrev pub option_number : DhcpV4Option → ℕ
 option_number option = number_of (option_code option)
 
--- the bytes of an option: its number, the length of its value and the value; Pad and End are their number alone
+-- the bytes of an option: its number, the length of its value and the value; Pad and End are their
+-- number alone
 unfoldable pub written_option : DhcpV4Option → List ℕ
 written_option Pad = 0 ∷ []
 written_option End = 255 ∷ []
-written_option option = let value = written_value option in option_number option ∷ length value ∷ value
+written_option option =
+    let value = written_value option in option_number option ∷ length value ∷ value
 
 -- whether a number has no name
 abbrev pub is_nameless : DhcpV4OptionCode → Bool
@@ -216,7 +218,8 @@ IsOfCode codes.ClasslessStaticRoute option = IsMadeBy ClasslessStaticRoute optio
 IsOfCode codes.End option = option ≡ End
 IsOfCode (codes.Other number) option = option_number option ≡ number
 
--- an option that is kept under a code: it has the number of that code, can be written, and is of that code
+-- an option that is kept under a code: it has the number of that code, can be written, and is of
+-- that code
 pub record IsKeptAs (code : DhcpV4OptionCode) (option : DhcpV4Option) : Type 0 where
   pub own : option_number option ≡ number_of code
   pub fit : IsTrue (fits option)

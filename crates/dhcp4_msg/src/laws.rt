@@ -39,12 +39,13 @@ pub fn codes_read_back()
     ensures { (number : ℕ) → number_of (code_of number) ≡ number }
 {}
 
-/// A route whose octets that its width does not cover are zero reads back, whatever follows it; and what reads as a route is
-/// written as the same bytes.
+/// A route whose octets that its width does not cover are zero reads back, whatever follows it; and
+/// what reads as a route is written as the same bytes.
 pub fn routes_read_back()
     ensures back { (route : DhcpV4ClasslessRoute) (rest : List ℕ) → IsExact route
         → route_at (written_route route ++ rest) ≡ Some (route, rest) }
-    ensures again { (bytes rest : List ℕ) (route : DhcpV4ClasslessRoute) → route_at bytes ≡ Some (route, rest)
+    ensures again { (bytes rest : List ℕ) (route : DhcpV4ClasslessRoute)
+        → route_at bytes ≡ Some (route, rest)
         → bytes ≡ written_route route ++ rest }
 {}
 
@@ -61,15 +62,16 @@ pub fn last_option_counts()
         → map.get (read_options bytes) number ≡ last_of number (raw_options DhcpV4 bytes) }
 {}
 
-/// A message that reads has at least 240 bytes, the cookie at byte 236, each field at its offset, RFC
-/// 2131 section 2, and its options from byte 240 on.
+/// A message that reads has at least 240 bytes, the cookie at byte 236, each field at its offset,
+/// RFC 2131 section 2, and its options from byte 240 on.
 pub fn fields_are_at_offsets()
     ensures { (bytes : List ℕ) (message : DhcpV4Message)
         → read_message bytes ≡ Some message → IsAtOffsets bytes message }
 {}
 
-/// A message reads back: its numbers within their widths, its texts within their fields, and each option under its own number. The
-/// codes that it requests read under their names, and End is added to its options.
+/// A message reads back: its numbers within their widths, its texts within their fields, and each
+/// option under its own number. The codes that it requests read under their names, and End is added
+/// to its options.
 pub fn messages_read_back()
     ensures { (message : DhcpV4Message) → MessageReadsBack message
         → read_message (written_message message) ≡ Some (read_back message) }

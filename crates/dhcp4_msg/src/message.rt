@@ -22,28 +22,44 @@ use std::net::Ipv4Addr;
 // What stands between the header and the options, RFC 2131 section 3.
 pub(crate) const MAGIC_COOKIE: u32 = 0x63825363;
 
-/// A message.
+/// A message, RFC 2131 section 2.
 #[derive(Debug, PartialEq, Eq, Drop)]
 pub struct DhcpV4Message {
+    /// 1 for a message of a client, 2 for one of a server.
     pub op: u8,
+    /// The type of the hardware address: 1 for Ethernet.
     pub htype: u8,
+    /// The length of the hardware address, in bytes: 6 for Ethernet.
     pub hlen: u8,
+    /// How many relays passed it on.
     pub hops: u8,
+    /// The transaction id, which a client chooses.
     pub xid: u32,
+    /// Seconds since the client began.
     pub secs: u16,
+    /// The highest bit asks for an answer by broadcast; the others are zero.
     pub flags: u16,
+    /// The client's address, where it has one.
     pub ciaddr: Ipv4Addr,
+    /// The address that the server gives.
     pub yiaddr: Ipv4Addr,
+    /// The address of the next server to use.
     pub siaddr: Ipv4Addr,
+    /// The address of the relay, where there is one.
     pub giaddr: Ipv4Addr,
+    /// The hardware address of the client, filled with zero bytes.
     pub chaddr: [u8; 16],
+    /// The server's host name; at most 63 bytes are written.
     pub sname: Text,
+    /// The name of a boot file; at most 127 bytes are written.
     pub file: Text,
+    /// Its options.
     pub options: DhcpV4Options,
 }
 
 impl DhcpV4Message {
-    /// A message of a client over Ethernet, with every other field zero or empty; takes no memory.
+    /// A message of a client over Ethernet, with every other field zero or empty. Does not
+    /// allocate.
     #[tactic(auto, unfolding(crate::specs::Message::empty_message))]
     pub fn empty(alloc: Global) -> Self
         ensures { result ≡ empty_message }
@@ -67,7 +83,8 @@ impl DhcpV4Message {
         }
     }
 
-    /// The type that option 53 says, RFC 2132 section 9.6: none if and only if there is no option 53.
+    /// The type that option 53 says, RFC 2132 section 9.6: none if and only if there is no option
+    /// 53.
     #[tactic(auto, unfolding(crate::specs::Options::message_type, crate::specs::OptionCode::number_of))]
     pub fn message_type(&self) -> Option<DhcpV4MessageType>
         ensures value { result ≡ options.message_type self.now.options }
@@ -78,8 +95,8 @@ impl DhcpV4Message {
             .message_type()
     }
 
-    /// Reads a message. `InvalidDhcpMessage` if and only if it has fewer than 240 bytes, the cookie is
-    /// not at byte 236, or `sname` or `file` is not UTF-8 before its first zero byte.
+    /// Reads a message. `InvalidDhcpMessage` if and only if it has fewer than 240 bytes, the cookie
+    /// is not at byte 236, or `sname` or `file` is not UTF-8 before its first zero byte.
     pub fn parse(alloc: Global, raw: &[u8]) -> Result<Self, DhcpError>
         ensures { Gives (λ message. message) result
             (ok_or (read_message raw.now) ErrorKind.InvalidDhcpMessage) }
@@ -87,7 +104,9 @@ impl DhcpV4Message {
         DhcpV4View::read(raw)?.to_message(alloc)
     }
 
-    /// Writes the message: the header, with at most 63 bytes of `sname` and 127 of `file`, the cookie, and the options.
+    /// Writes the message: the header, with at most 63 bytes of `sname` and 127 of `file`, the
+    /// cookie, and the options. Out of memory is the only error; some of the bytes are then
+    /// written.
     #[tactic(auto, unfolding(crate::specs::Message::written_message))]
     pub fn emit(&self, buf: &mut BufferMut) -> Result<(), DhcpError>
         ensures { Emits result buf.old buf.new (written_message self.now) }

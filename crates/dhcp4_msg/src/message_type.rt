@@ -8,24 +8,34 @@ ghost use Rattle.dhcp4_msg.specs.MessageType.{type_of, type_number, type_name};
 use dhcp_wire::{DhcpError, ErrorKind, FixedText};
 use std::fmt;
 
-/// The type of a message, with its number.
+/// The type of a message, with its number, RFC 2131 section 3.1 and RFC 2132 section 9.6.
+/// `Discovery` is the default.
 #[derive(Clone, Copy, Debug, Default, PartialEq, Eq, PartialOrd, Ord, Hash)]
 pub enum DhcpV4MessageType {
+    /// A client looks for servers.
     #[default]
     Discovery = 1,
+    /// A server offers an address.
     Offer = 2,
+    /// A client asks for the address of an offer or of its lease.
     Request = 3,
+    /// A client says that the address is in use.
     Decline = 4,
+    /// A server grants a lease.
     Ack = 5,
+    /// A server refuses a request.
     Nack = 6,
+    /// A client gives its address back.
     Release = 7,
+    /// A client that has an address asks for parameters.
     Inform = 8,
 }
 
 impl TryFrom<u8> for DhcpV4MessageType {
     type Error = DhcpError;
 
-    ghost try_from_gives = { λ number outcome. Answers (λ kind. kind) outcome (ok_or (type_of number) NotSupported) };
+    ghost try_from_gives = { λ number outcome.
+        Answers (λ kind. kind) outcome (ok_or (type_of number) NotSupported) };
 
     #[tactic(auto, unfolding(crate::specs::MessageType::type_of, crate::specs::MessageType::type_number))]
     fn try_from(d: u8) -> Result<Self, DhcpError> {

@@ -17,43 +17,67 @@ use dhcp_wire::{
 use std::alloc::Global;
 use std::net::Ipv4Addr;
 
-/// An option, with its value read.
+/// An option, with its value read, RFC 2132. Texts are UTF-8; at most 254 bytes of one are written,
+/// and a zero byte.
 #[derive(Debug, PartialEq, Eq, Drop)]
 pub enum DhcpV4Option {
+    /// Option 0: fills space between options; a code alone. RFC 2132 section 3.1.
     Pad,
+    /// Option 1: the subnet mask of the client's network. RFC 2132 section 3.3.
     SubnetMask(Ipv4Addr),
+    /// Option 3: routers on the client's subnet, in order of preference. RFC 2132 section 3.5.
     Router(Sequence<Ipv4Addr>),
+    /// Option 6: name servers, in order of preference. RFC 2132 section 3.8.
     DomainNameServer(Sequence<Ipv4Addr>),
+    /// Option 12: the client's host name. RFC 2132 section 3.14.
     HostName(Text),
+    /// Option 15: the domain in which host names are looked up. RFC 2132 section 3.17.
     DomainName(Text),
+    /// Option 26: the MTU of the interface, in bytes. RFC 2132 section 5.1.
     InterfaceMtu(u16),
+    /// Option 28: the broadcast address of the client's subnet. RFC 2132 section 5.3.
     BroadcastAddress(Ipv4Addr),
+    /// Option 42: time servers, in order of preference. RFC 2132 section 8.3.
     NtpServers(Sequence<Ipv4Addr>),
+    /// Option 50: the address that a client asks for. RFC 2132 section 9.1.
     RequestedIpAddress(Ipv4Addr),
+    /// Option 51: the lease time, in seconds. RFC 2132 section 9.2.
     IpAddressLeaseTime(u32),
+    /// Option 53: the type of the message. RFC 2132 section 9.6.
     MessageType(DhcpV4MessageType),
+    /// Option 54: the address of the server that is chosen, or that answers. RFC 2132 section 9.7.
     ServerIdentifier(Ipv4Addr),
+    /// Option 55: the codes of the options that a client asks for. RFC 2132 section 9.8.
     ParameterRequestList(Sequence<DhcpV4OptionCode>),
+    /// Option 56: what went wrong, for a person to read. RFC 2132 section 9.9.
     Message(Text),
+    /// Option 58: T1, when a client renews, in seconds from the acknowledgement. RFC 2132 section
+    /// 9.11.
     RenewalTime(u32),
+    /// Option 59: T2, when a client rebinds, in seconds from the acknowledgement. RFC 2132 section
+    /// 9.12.
     RebindingTime(u32),
+    /// Option 61: the client's identifier: a type byte, and the identifier. RFC 2132 section 9.14.
     ClientIdentifier(Bytes),
+    /// Option 121: routes, in order of preference. RFC 3442.
     ClasslessStaticRoute(Sequence<DhcpV4ClasslessRoute>),
+    /// Option 255: ends the options; a code alone. RFC 2132 section 3.2.
     End,
+    /// An option of a number without a name.
     Unknown(DhcpV4OptionUnknown),
 }
 
 /// An option that this library does not read.
 #[derive(Debug, PartialEq, Eq, Drop)]
 pub struct DhcpV4OptionUnknown {
-    /// Its number.
+    /// Its code.
     pub code: u8,
     /// The bytes of its value.
     pub raw: Bytes,
 }
 
 impl DhcpV4OptionUnknown {
-    /// A copy.
+    /// A copy; out of memory is the only error.
     pub fn try_clone(&self, alloc: Global) -> Result<Self, DhcpError>
         ensures { Makes (λ made. made) result self.now }
     {
@@ -95,9 +119,9 @@ impl DhcpV4Option {
         }
     }
 
-    /// Reads the option at the position, RFC 2132 section 2. `InvalidDhcpMessage` if and only if it is truncated, and then
-    /// the position does not move, or its value has no reading, and then the option is skipped. When out of memory the
-    /// position does not move. The option fits.
+    /// Reads the option at the position, RFC 2132 section 2. `InvalidDhcpMessage` if and only if it
+    /// is truncated, and then the position does not move, or its value has no reading, and then the
+    /// option is skipped. When out of memory the position does not move. The option fits.
     #[tactic(auto, unfolding(crate::specs::Options::option_at))]
     pub fn parse(alloc: Global, buf: &mut Buffer) -> Result<Self, DhcpError>
         ensures read { ReadsOption (λ option. option) result buf.old buf.new (option_at buf.old) }
@@ -120,7 +144,7 @@ impl DhcpV4Option {
         }
     }
 
-    /// A copy.
+    /// A copy; out of memory is the only error.
     pub fn try_clone(&self, alloc: Global) -> Result<Self, DhcpError>
         ensures { Makes (λ made. made) result self.now }
     {
@@ -167,7 +191,8 @@ impl DhcpV4Option {
         }
     }
 
-    /// Whether the option can be written: its value has at most 255 bytes, and an unknown option has a number without a name.
+    /// Whether the option can be written and kept: its value has at most 255 bytes, and an unknown
+    /// option has a number without a name.
     #[tactic(auto, unfolding(crate::specs::Value::fits))]
     pub fn fits(&self) -> bool
         ensures { result ≡ fits self.now }
@@ -217,8 +242,9 @@ impl DhcpV4Option {
         }
     }
 
-    /// Writes the option: its number, the length of its value, and the value.
-    #[tactic(auto, unfolding(crate::specs::Value::written_option, crate::specs::Value::written_value, crate::specs::Value::fits))]
+    /// Writes the option: its code, the length of its value, and the value; Pad and End are a code
+    /// alone. Out of memory is the only error; some of the bytes are then written.
+    #[tactic(auto, unfolding(crate::specs::Value::written_option, crate::specs::Value::written_value, crate::specs::Value::fits,))]
     pub fn emit(&self, buf: &mut BufferMut) -> Result<(), DhcpError>
         requires { IsTrue (fits self.now) }
         ensures { Emits result buf.old buf.new (written_option self.now) }

@@ -12,28 +12,50 @@ use std::cmp::Ordering;
 use std::hash::{Hash, Hasher};
 
 /// The code of an option: a name where this library reads the option's value, else its number.
+/// Codes are compared, ordered and hashed by their numbers.
 #[derive(Clone, Copy, Debug)]
 pub enum DhcpV4OptionCode {
+    /// 0: RFC 2132 section 3.1.
     Pad,
+    /// 1: RFC 2132 section 3.3.
     SubnetMask,
+    /// 3: RFC 2132 section 3.5.
     Router,
+    /// 6: RFC 2132 section 3.8.
     DomainNameServer,
+    /// 12: RFC 2132 section 3.14.
     HostName,
+    /// 15: RFC 2132 section 3.17.
     DomainName,
+    /// 26: RFC 2132 section 5.1.
     InterfaceMtu,
+    /// 28: RFC 2132 section 5.3.
     BroadcastAddress,
+    /// 42: RFC 2132 section 8.3.
     NtpServers,
+    /// 50: RFC 2132 section 9.1.
     RequestedIpAddress,
+    /// 51: RFC 2132 section 9.2.
     IpAddressLeaseTime,
+    /// 53: RFC 2132 section 9.6.
     MessageType,
+    /// 54: RFC 2132 section 9.7.
     ServerIdentifier,
+    /// 55: RFC 2132 section 9.8.
     ParameterRequestList,
+    /// 56: RFC 2132 section 9.9.
     Message,
+    /// 58: RFC 2132 section 9.11.
     RenewalTime,
+    /// 59: RFC 2132 section 9.12.
     RebindingTime,
+    /// 61: RFC 2132 section 9.14.
     ClientIdentifier,
+    /// 121: RFC 3442.
     ClasslessStaticRoute,
+    /// 255: RFC 2132 section 3.2.
     End,
+    /// A number without a name, or any number: it is equal to the name that has it.
     Other(u8),
 }
 
@@ -118,7 +140,8 @@ impl Eq for DhcpV4OptionCode {
 impl PartialOrd for DhcpV4OptionCode {
     ghost partial_cmp = { as_partial_cmp (on number_of nat_cmp) };
 
-    ghost laws = { partial_order_from_own_ties (Prim.search (comparing, rules)) (Prim.search (comparing, rules)) };
+    ghost laws = { partial_order_from_own_ties
+        (Prim.search (comparing, rules)) (Prim.search (comparing, rules)) };
 
     fn partial_cmp(&self, other: &Self) -> Option<Ordering> {
         Some(self.cmp(other))

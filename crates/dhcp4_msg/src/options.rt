@@ -82,7 +82,8 @@ impl Model for DhcpV4Options {
 
 impl PartialEq for DhcpV4Options {
     ghost eq = { λ x y. pointwise
-        (λ p q. (p.0 == q.0) && ⟦<DhcpV4Option as PartialEq>⟧.eq p.1 q.1) (map.entries x) (map.entries y) };
+        (λ p q. (p.0 == q.0) && ⟦<DhcpV4Option as PartialEq>⟧.eq p.1 q.1)
+        (map.entries x) (map.entries y) };
 
     ghost laws = { on_per map.entries (lists_per (and_per
         (on_per (λ p. p.0) (partial_equiv_from_equiv nat_eq_equiv))
@@ -107,7 +108,7 @@ impl Eq for DhcpV4Options {
 }
 
 impl DhcpV4Options {
-    /// No options; takes no memory.
+    /// No options. Does not allocate.
     pub fn new(alloc: Global) -> Self
         ensures { result ≡ map.empty }
     {
@@ -177,7 +178,9 @@ impl DhcpV4Options {
             .requested_codes()
     }
 
-    /// A copy of the routes of option 121, RFC 3442; where it is absent the routes that fill the value of option 249.
+    /// A copy of the routes of option 121, RFC 3442; where it is absent the routes that fill the
+    /// value of option 249 exactly, in which some servers send them. Out of memory is the only
+    /// error.
     #[tactic(auto, unfolding(crate::specs::Options::classless_routes, crate::specs::OptionCode::number_of))]
     pub fn classless_routes(
         &self,
@@ -194,7 +197,8 @@ impl DhcpV4Options {
         }
     }
 
-    /// Keeps the option in place of the one of its number. After an error nothing has changed.
+    /// Keeps the option, in place of the one of its code if there is one. Out of memory is the only
+    /// error: the option is then dropped, and the others stay as they were.
     pub fn insert(&mut self, option: DhcpV4Option) -> Result<(), DhcpError>
         requires { IsTrue (fits option) }
         ensures ok { OnOk result (self.new ≡ map.insert self.old (option_number option) option) }
@@ -212,7 +216,7 @@ impl DhcpV4Options {
         Ok(())
     }
 
-    /// A copy.
+    /// A copy; out of memory is the only error.
     pub fn try_clone(&self, alloc: Global) -> Result<Self, DhcpError>
         ensures { Makes (λ made. made) result self.now }
     {
@@ -226,8 +230,9 @@ impl DhcpV4Options {
         })
     }
 
-    /// Reads a list of options. Of a number that comes more than once the last option that reads is kept; an option without a
-    /// reading is skipped; one that is cut short ends the list, and so does End.
+    /// Reads a list of options, RFC 2132 section 2. Of a code that comes more than once the last
+    /// option that has a reading is kept, and an option without a reading is skipped. A truncated
+    /// option ends the list, and so does End. Out of memory is the only error.
     pub fn parse(alloc: Global, raw: &[u8]) -> Result<Self, DhcpError>
         ensures { Makes (λ options. options) result (read_options raw.now) }
     {
@@ -254,9 +259,11 @@ impl DhcpV4Options {
         }
     }
 
-    /// The bytes that the option of that number is written as, if it is kept.
+    /// The bytes that the option of this code is written as, if it is kept: its code, the length of
+    /// its value, and the value. Out of memory is the only error.
     pub fn get_data_raw(&self, alloc: Global, code: u8) -> Result<Option<Vec<u8>>, DhcpError>
-        ensures { Makes (option_map vec_items) result (option_map written_option (map.get self.now code)) }
+        ensures { Makes (option_map vec_items) result
+            (option_map written_option (map.get self.now code)) }
     {
         let Some(option) = self.kept_at(code) else {
             return Ok(None);
@@ -289,12 +296,14 @@ impl DhcpV4Options {
 
     // Whether both keep equal options under this number, or none.
     fn agrees_at(&self, other: &Self, number: u8) -> bool
-        ensures { result ≡ option_eq ⟦<DhcpV4Option as PartialEq>⟧.eq (map.get self.now number) (map.get other.now number) }
+        ensures { result ≡ option_eq ⟦<DhcpV4Option as PartialEq>⟧.eq
+            (map.get self.now number) (map.get other.now number) }
     {
         self.kept_at(number) == other.kept_at(number)
     }
 
-    /// Writes the options by rising number, and End last, also where it is not among them.
+    /// Writes the options by rising code, and End last, which is added if it is not among them. Out
+    /// of memory is the only error; some of the bytes are then written.
     #[tactic(auto, unfolding(crate::specs::Options::written_options))]
     pub fn emit(&self, buf: &mut BufferMut) -> Result<(), DhcpError>
         ensures { Emits result buf.old buf.new (written_options self.now) }

@@ -9,7 +9,8 @@ use dhcp_wire::{Buffer, BufferMut, DhcpError, ErrorKind, Sequence};
 use std::alloc::Global;
 use std::net::Ipv4Addr;
 
-/// A route: where to, and by which router.
+/// A route: where to, and by which router; RFC 3442. Routes are ordered by destination, then by the
+/// length of the prefix, then by router.
 #[derive(Clone, Copy, Debug, PartialEq, Eq, PartialOrd, Ord, Hash)]
 pub struct DhcpV4ClasslessRoute {
     /// The network; octets past its width are zero where it was read.
@@ -21,7 +22,8 @@ pub struct DhcpV4ClasslessRoute {
 }
 
 impl DhcpV4ClasslessRoute {
-    /// Reads one route. `InvalidDhcpMessage` exactly where the bytes are too few, and then the place stays.
+    /// Reads one route. `InvalidDhcpMessage` if and only if there are too few bytes, and then the
+    /// position does not move. Does not allocate.
     #[tactic(auto, unfolding(crate::specs::Route::route_at))]
     pub fn parse(buf: &mut Buffer) -> Result<Self, DhcpError>
         ensures { Reads (λ route. route) result buf.old buf.new (routes.route_at buf.old) }
@@ -39,10 +41,11 @@ impl DhcpV4ClasslessRoute {
         })
     }
 
-    /// Reads routes up to the end of the bytes, as the value of option 121 has them. `InvalidDhcpMessage` exactly where the last of
-    /// them is cut off.
+    /// Reads routes up to the end of the bytes, as the value of option 121 has them.
+    /// `InvalidDhcpMessage` if and only if the last of them is truncated.
     pub fn parse_list(alloc: Global, value: &[u8]) -> Result<Sequence<Self>, DhcpError>
-        ensures { Gives (λ routes. routes) result (ok_or (routes.routes_of value.now) ErrorKind.InvalidDhcpMessage) }
+        ensures { Gives (λ routes. routes) result
+            (ok_or (routes.routes_of value.now) ErrorKind.InvalidDhcpMessage) }
     {
         let mut routes = Sequence::new(alloc);
         let mut rest = Buffer::new(value);
@@ -52,7 +55,8 @@ impl DhcpV4ClasslessRoute {
         Ok(routes)
     }
 
-    /// Writes the route: its width, the significant octets of its destination, and its router.
+    /// Writes the route: its width, the significant octets of its destination, and its router. Out
+    /// of memory is the only error; some of the bytes are then written.
     #[tactic(auto, unfolding(crate::specs::Route::written_route))]
     pub fn emit(&self, buf: &mut BufferMut) -> Result<(), DhcpError>
         ensures { Emits result buf.old buf.new (routes.written_route self.now) }

@@ -1,5 +1,5 @@
-//! The values of options, RFC 2132: how each kind of value reads, how long it is, how it is written,
-//! and what an option says; a row for each code in the table of readings.
+//! The values of options, RFC 2132: how each kind of value reads, how long it is, how it is
+//! written, and what an option says; a row for each code in the table of readings.
 
 ghost use Rattle.std.specs.Prelude.{◌≡◌, length, map, ok_or, option_copied, take};
 ghost use Rattle.std.specs.List.{flat_map};
@@ -277,7 +277,8 @@ impl DhcpV4Option {
         }
     }
 
-    /// A copy of the routes of option 121, or the routes that fill the value of an unknown option exactly, if they do.
+    /// A copy of the routes of option 121, or the routes that fill the value of an unknown option
+    /// exactly, if they do.
     pub fn routes(&self, alloc: Global) -> Result<Option<Sequence<DhcpV4ClasslessRoute>>, DhcpError>
         ensures { Makes (λ routes. routes) result (routes_said self.now) }
     {

@@ -53,8 +53,8 @@ impl<'a> Model for DhcpV4View<'a> {
 
 impl<'a> DhcpV4View<'a> {
     /// The message that the payload reads as: none if and only if it has fewer than 240 bytes, the
-    /// cookie is not at byte 236, or `sname` or `file` is not UTF-8 before its first zero byte. Does
-    /// not allocate.
+    /// cookie is not at byte 236, or `sname` or `file` is not UTF-8 before its first zero byte.
+    /// Does not allocate.
     pub fn new(payload: &'a [u8]) -> Option<Self>
         ensures { Finds (λ view. view) result (read_message payload.now) }
     {
@@ -118,8 +118,8 @@ impl<'a> DhcpV4View<'a> {
         last_type(self.options)
     }
 
-    /// A copy of the message, as `DhcpV4Message::parse` of the payload gives it; out of memory is the
-    /// only error.
+    /// A copy of the message, as `DhcpV4Message::parse` of the payload gives it; out of memory is
+    /// the only error.
     pub fn to_message(&self, alloc: Global) -> Result<DhcpV4Message, DhcpError>
         ensures { Makes (λ message. message) result self.now }
     {
