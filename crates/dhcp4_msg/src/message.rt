@@ -22,6 +22,9 @@ use std::net::Ipv4Addr;
 // What stands between the header and the options, RFC 2131 section 3.
 pub(crate) const MAGIC_COOKIE: u32 = 0x63825363;
 
+// How many bytes stand before the options: the header and the cookie.
+const HEADER_LEN: usize = 240;
+
 /// A message, RFC 2131 section 2.
 #[derive(Debug, PartialEq, Eq, Drop)]
 pub struct DhcpV4Message {
@@ -107,8 +110,16 @@ impl DhcpV4Message {
     /// Writes the message: the header, with at most 63 bytes of `sname` and 127 of `file`, the
     /// cookie, and the options. Out of memory is the only error; some of the bytes are then
     /// written.
-    #[tactic(auto, unfolding(crate::specs::Message::written_message))]
     pub fn emit(&self, buf: &mut BufferMut) -> Result<(), DhcpError>
+        ensures { Emits result buf.old buf.new (written_message self.now) }
+    {
+        buf.reserve(self.options.room().saturating_add(HEADER_LEN))?;
+        self.emit_parts(buf)
+    }
+
+    // Writes the message, part by part.
+    #[tactic(auto, unfolding(crate::specs::Message::written_message))]
+    fn emit_parts(&self, buf: &mut BufferMut) -> Result<(), DhcpError>
         ensures { Emits result buf.old buf.new (written_message self.now) }
     {
         self.emit_numbers(buf)?;

@@ -213,6 +213,11 @@ impl DhcpV4Option {
         }
     }
 
+    // How many bytes the option is written in at most.
+    pub(crate) fn room(&self) -> usize {
+        self.value_len().saturating_add(2)
+    }
+
     // How many bytes the written value has.
     #[tactic(auto, unfolding(crate::specs::Value::written_value), using(crate::proofs::ValueLemmas::text_len))]
     fn value_len(&self) -> usize

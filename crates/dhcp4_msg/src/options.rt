@@ -285,6 +285,15 @@ impl DhcpV4Options {
         }
     }
 
+    // How many bytes the options are written in at most, with End.
+    pub(crate) fn room(&self) -> usize {
+        let mut room = 1usize;
+        for option in &self.kept {
+            room = room.saturating_add(option.room());
+        }
+        room
+    }
+
     // Each option stands under its own number, fits, and has the widths of its type.
     pub(crate) fn stand(&self)
         ensures { AllStand self.now }
