@@ -101,6 +101,8 @@ raw_options-raw_option_at format (byte ∷ bytes) =
     (Within-raw_option_at (length bytes) format (byte ∷ bytes) (omega arith))
     (λ rest within. raw_options_within-enough format (length bytes) (length rest) rest within (omega arith))
 
+pub ruleset first_option = (raw_options-raw_option_at)
+
 pub raw_options-nil : (format : OptionFormat) → raw_options format [] ≡ []
 unfolding raw_options_within
 raw_options-nil format = refl

@@ -1,6 +1,6 @@
 -- The raw options of a list: a code, the length of a value, and the value; RFC 2132 section 2, RFC
 -- 8415 section 21.1.
-use Rattle.std.specs.Prelude.{ℕ, zero, suc, ◌^◌, ◌*◌, ◌<◌, ◌≡◌, Bool, false, ◌==◌, ◌||◌, List, [], ◌∷◌, ◌++◌, length, drop, Some, None, IsTrue, if◌then◌else◌}
+use Rattle.std.specs.Prelude.{Option, ℕ, zero, suc, ◌^◌, ◌*◌, ◌<◌, ◌≡◌, Bool, false, ◌==◌, ◌||◌, List, [], ◌∷◌, ◌++◌, length, drop, Some, None, IsTrue, if◌then◌else◌}
 use Rattle.std.specs.Int.{Width, w8, w16, byte_len, to_be_bytes}
 use Rattle.std.specs.List.{flat_map}
 use Rattle.dhcp_wire.specs.Field.{Read, ◌>>=◌, bytes_at, number_at}
@@ -65,6 +65,16 @@ raw_options_within format (suc fuel) bytes =
 -- list or a truncated one. There are no more options than bytes.
 abbrev pub raw_options : OptionFormat → List ℕ → List RawOptionParts
 raw_options format bytes = raw_options_within format (length bytes) bytes
+
+-- what contracts see of a list that is being read: its format, and the options that are left
+pub record OptionsLeft : Type 0 where
+  pub format : OptionFormat
+  pub options : List RawOptionParts
+
+-- taking the first of the options that are left, or none where none is left
+abbrev pub TakesFirst : Option RawOptionParts → OptionsLeft → OptionsLeft → Type 0
+TakesFirst None old new = (old.options ≡ []) × (new ≡ old)
+TakesFirst (Some option) old new = old ≡ record new { options = option ∷ new.options }
 
 -- a value as it is written after its option's code: its length, and its bytes
 abbrev pub written_raw_value : OptionFormat → List ℕ → List ℕ

@@ -1,10 +1,12 @@
 //! The raw options of a list: a code, the length of a value, and the value; RFC 2132 section 2, RFC
 //! 8415 section 21.1.
 
-ghost use Rattle.std.specs.Prelude.{◌≡◌, IfSome, length};
+ghost use Rattle.std.specs.Prelude.{◌≡◌, IfSome, length, option_map};
 ghost use Rattle.dhcp_wire.specs.Field.{number_at};
 ghost use Rattle.dhcp_wire.specs.Outcome.{Finds};
 ghost use Rattle.dhcp_wire.specs.RawOption as raw;
+
+use std::marker::Model;
 
 /// How the options of a list are laid out.
 #[derive(Clone, Copy, Debug, PartialEq, Eq)]
@@ -23,6 +25,52 @@ pub struct RawOption<'a> {
     pub code: u16,
     /// The bytes of its value: at most 255 in the format of DHCPv4, 65,535 in that of DHCPv6.
     pub value: &'a [u8],
+}
+
+/// The options of a list that are left to read, from the first on.
+#[derive(Debug, Drop)]
+pub struct RawOptions<'a> {
+    format: OptionFormat,
+    left: &'a [u8],
+}
+
+impl<'a> Model for RawOptions<'a> {
+    ghost use Rattle.dhcp_wire.specs.RawOption.{OptionsLeft, raw_options};
+
+    ghost Value = { OptionsLeft };
+
+    ghost view = { λ list.
+        record { format = list.format; options = raw_options list.format list.left.now } };
+}
+
+impl<'a> RawOptions<'a> {
+    /// The options of a list in this format.
+    pub fn new(format: OptionFormat, bytes: &'a [u8]) -> Self
+        ensures { result ≡ record {
+          format = format;
+          options = raw.raw_options format bytes.now;
+        } }
+    {
+        RawOptions {
+            format,
+            left: bytes,
+        }
+    }
+
+    /// The next option; `None` if and only if none is left: the list is at its end, an option has
+    /// ended it, or the next option is truncated. Does not allocate.
+    #[tactic(auto, using(crate::proofs::RawOptionLemmas::first_option))]
+    pub fn next(&mut self) -> Option<RawOption<'a>>
+        ensures first { raw.TakesFirst
+            (option_map (λ option. record { code = option.code; value = option.value.now }) result)
+            self.old self.new }
+        ensures fit { IfSome result (λ option. raw.FitsWidth self.old.format option.code
+            × raw.FitsWidth self.old.format (length option.value.now)) }
+    {
+        let (option, rest) = self.format.raw_option_at(self.left)?;
+        self.left = self.format.counted_after(option.code, rest);
+        Some(option)
+    }
 }
 
 impl OptionFormat {
