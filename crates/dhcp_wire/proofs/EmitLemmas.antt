@@ -1,4 +1,4 @@
--- Writes in several steps: what is written before one that has no memory is a front of the whole.
+-- Writes in several steps: what is written before one that is out of memory is a front of the whole.
 use Rattle.std.proofs.Common.{◌≡◌, ℕ, ◌+◌, ◌<◌, List, [], ◌∷◌, ◌++◌, length, map, take, drop, get_or, suc, Result, Ok, Err, IsErrAnd, flat_map, refl, sym, ap, subst, ◌∙◌, append_assoc, append-nil, add-one, drop-cons}
 use Rattle.std.proofs.lemmas.List.{take-append-drop}
 use Rattle.std.proofs.lemmas.List.Concat.{flat_map_single, flat_map-cons}
@@ -28,15 +28,15 @@ pub front_all : (old new first later : List ℕ) → new ≡ old ++ first → Ap
 front_all old new first later done = (first, later, refl, done)
 
 module _ {X : Type 0} (f : X → List ℕ) where
-  -- the pieces before a place, and those from it on
+  -- the pieces before a position, and those from it on
   pub pieces : (i : ℕ) (xs : List X) → flat_map f xs ≡ flat_map f (take i xs) ++ flat_map f (drop i xs)
   pieces i xs = ap (flat_map f) (sym (take-append-drop i xs)) ∙ flat_map-append f (take i xs) (drop i xs)
 
-  -- the pieces before a place are a front of all
+  -- the pieces before a position are a front of all
   pub front_pieces : (i : ℕ) (xs : List X) (old new : List ℕ) → new ≡ old ++ flat_map f (take i xs) → AppendsFront old new (flat_map f xs)
   front_pieces i xs old new done = subst (AppendsFront old new) (sym (pieces i xs)) (front_all old new _ _ done)
 
-  -- and with a front of the piece at the place they still are
+  -- and with a front of the next piece they still are
   pub front_piece : (i : ℕ) (xs : List X) (x : X) (old mid new : List ℕ) → i < length xs → x ≡ get_or xs i x → mid ≡ old ++ flat_map f (take i xs) → AppendsFront mid new (f x) → AppendsFront old new (flat_map f xs)
   front_piece i xs x old mid new inside here done front =
       let at_place : flat_map f (drop i xs) ≡ f x ++ flat_map f (drop (i + 1) xs) =
@@ -44,13 +44,13 @@ module _ {X : Type 0} (f : X → List ℕ) where
       subst (AppendsFront old new) (sym (pieces i xs ∙ ap (λ bytes. flat_map f (take i xs) ++ bytes) at_place))
       (front_later old mid new _ _ done (front_first mid new (f x) _ front))
 
--- the numbers before a place are a front of all
+-- the numbers before a position are a front of all
 pub front_mapped : {X : Type 0} (f : X → ℕ) (i : ℕ) (xs : List X) (old new : List ℕ) → new ≡ old ++ map f (take i xs) → AppendsFront old new (map f xs)
 front_mapped f i xs old new done =
     subst (AppendsFront old new) (flat_map_single f xs)
     (front_pieces (λ x. f x ∷ []) i xs old new (done ∙ ap (λ bytes. old ++ bytes) (sym (flat_map_single f (take i xs)))))
 
--- a write that ends for want of memory
+-- a write that ends because of out of memory
 pub emits_exit : {X : Type 0} (result : Result X ErrorParts) (e : ErrorParts) (old new bytes : List ℕ) → IsErrAnd result (λ error. error ≡ e) → e ≡ no_memory → AppendsFront old new bytes → Emits result old new bytes
 emits_exit (Ok x) e old new bytes failed is front = absurd failed
 emits_exit (Err error) e old new bytes failed is front = (failed ∙ is, front)

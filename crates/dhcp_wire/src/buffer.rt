@@ -48,7 +48,7 @@ impl<'a> Buffer<'a> {
     /// All the bytes that are left. The position does not move.
     pub fn get_remains(&mut self) -> &'a [u8]
         ensures remains { result.now ≡ self.old }
-        ensures place { self.new ≡ self.old }
+        ensures position { self.new ≡ self.old }
     {
         self.left
     }
