@@ -107,6 +107,21 @@ pub raw_options-nil : (format : OptionFormat) → raw_options format [] ≡ []
 unfolding raw_options_within
 raw_options-nil format = refl
 
+-- there are no more options than bytes
+length-raw_options_within : (format : OptionFormat) (fuel : ℕ) (bytes : List ℕ) → length (raw_options_within format fuel bytes) ≤ length bytes
+unfolding raw_options_within
+length-raw_options_within format zero bytes = omega arith
+length-raw_options_within format (suc fuel) bytes =
+    elim (raw_option_at format bytes) as (λ read. raw_option_at format bytes ≡ read → length (with_later format (raw_options_within format fuel) read) ≤ length bytes) [
+      | None ↦ λ is. omega arith
+      | Some found ↦ λ is.
+          let later = counted_after format found.0.code found.1 in
+          omega (arith, counted_after-shorter format bytes found.1 found.0 is, length-raw_options_within format fuel later)
+    ] refl
+
+pub length_of_options : (format : OptionFormat) (bytes : List ℕ) → length (raw_options format bytes) ≤ length bytes
+length_of_options format bytes = length-raw_options_within format (length bytes) bytes
+
 -- ---- more bytes
 
 -- more bytes at the end change nothing of what is read, and stand after it

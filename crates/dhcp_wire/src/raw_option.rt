@@ -1,7 +1,7 @@
 //! The raw options of a list: a code, the length of a value, and the value; RFC 2132 section 2, RFC
 //! 8415 section 21.1.
 
-ghost use Rattle.std.specs.Prelude.{◌≡◌, IfSome, length, option_map};
+ghost use Rattle.std.specs.Prelude.{◌≡◌, ◌≤◌, IfSome, length, option_map};
 ghost use Rattle.dhcp_wire.specs.Field.{number_at};
 ghost use Rattle.dhcp_wire.specs.Outcome.{Finds};
 ghost use Rattle.dhcp_wire.specs.RawOption as raw;
@@ -44,12 +44,14 @@ impl<'a> Model for RawOptions<'a> {
 }
 
 impl<'a> RawOptions<'a> {
-    /// The options of a list in this format.
+    /// The options of a list in this format: not more than it has bytes.
+    #[tactic(auto, using(crate::proofs::RawOptionLemmas::length_of_options))]
     pub fn new(format: OptionFormat, bytes: &'a [u8]) -> Self
-        ensures { result ≡ record {
+        ensures value { result ≡ record {
           format = format;
           options = raw.raw_options format bytes.now;
         } }
+        ensures few { length result.options ≤ length bytes.now }
     {
         RawOptions {
             format,
