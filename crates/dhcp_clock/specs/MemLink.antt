@@ -28,7 +28,8 @@ refusing refuses link = record link { shown = record link.shown { refuses = refu
 
 -- without the oldest message of the list
 abbrev pub without_oldest : MemoryParts → MemoryParts
-without_oldest link = record link { shown = record link.shown { handed = drop 1 link.shown.handed } }
+without_oldest link =
+    record link { shown = record link.shown { handed = drop 1 link.shown.handed } }
 
 -- one more, as far as a u64 counts
 abbrev pub one_more : ℕ → ℕ
@@ -41,6 +42,7 @@ counted Refused faults = one_more faults
 counted NoMemory faults = faults
 
 -- The message is sent, with this answer, and the count goes on.
-pub record ListsMessage (message : Handed) (answer : Sent) (before after : MemoryParts) : Type 0 where
+pub record ListsMessage (message : Handed) (answer : Sent) (before after : MemoryParts)
+    : Type 0 where
   pub sends : Sends message answer before.shown (Some after.shown)
   pub counts : after.faults ≡ counted answer before.faults

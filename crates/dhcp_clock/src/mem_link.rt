@@ -12,7 +12,8 @@ use std::collections::VecDeque;
 use std::marker::Model;
 use std::net::{Ipv4Addr, Ipv6Addr};
 
-/// A link in memory, which tells all. It lists what it is handed, has at most one packet that waits, and refuses where it is told to.
+/// A link in memory. It lists the messages that it is handed, each with what became of it, and has
+/// at most one packet that waits. Contracts see what it shows and its count of faults.
 #[derive(Debug, Drop)]
 pub struct MemLink {
     refuses: bool,
@@ -34,7 +35,8 @@ impl Model for MemLink {
 impl MemLink {
     ghost use Rattle.dhcp_clock.specs.MemLink.{empty, ListsMessage, refusing, with_waiting, without_oldest};
 
-    /// A link that takes what it is handed, with no packet and nothing listed; takes no memory.
+    /// A link that takes what it is handed, with no packet that waits and no message listed. Does
+    /// not allocate.
     pub fn new(alloc: Global) -> Self
         ensures { result ≡ empty }
     {
@@ -46,21 +48,21 @@ impl MemLink {
         }
     }
 
-    /// Puts this packet, or none, in the place of the one that waits.
+    /// Replaces the packet that waits by this one, or by none.
     pub fn load(&mut self, packet: Option<Packet>)
         ensures { self.new ≡ with_waiting packet self.old }
     {
         self.waiting = packet;
     }
 
-    /// Decides whether it refuses what it is handed from now on.
+    /// Sets whether the link refuses each message from now on, and counts a fault for each.
     pub fn set_refuse(&mut self, refuse: bool)
         ensures { self.new ≡ refusing refuse self.old }
     {
         self.refuses = refuse;
     }
 
-    /// Takes out the oldest message that is listed, with its mark.
+    /// Takes the oldest message off the list, with what became of it; none if the list is empty.
     pub fn take_handed(&mut self) -> Option<(Handed, Sent)>
         ensures oldest { result ≡ slice_get self.old.shown.handed 0 }
         ensures rest { self.new ≡ without_oldest self.old }
@@ -68,22 +70,22 @@ impl MemLink {
         self.handed.pop_front()
     }
 
-    // Lists a message with the mark that it gets, which is answered.
+    // Lists a message with what becomes of it, and returns that. Out of memory changes nothing.
     fn list(&mut self, message: Handed) -> Sent
         ensures { ListsMessage message result self.old self.new }
     {
-        let mark = if self.refuses {
+        let sent = if self.refuses {
             Sent::Refused
         } else {
             Sent::Taken
         };
-        if self.handed.push_back((message, mark)).is_err() {
+        if self.handed.push_back((message, sent)).is_err() {
             return Sent::NoMemory;
         }
         if self.refuses {
             self.faults = self.faults.saturating_add(1);
         }
-        mark
+        sent
     }
 }
 
