@@ -3,11 +3,11 @@ use Rattle.std.proofs.Common.{◌≡◌, ℕ, ◌+◌, ◌-◌, ◌<◌, ◌≤�
 use Rattle.std.proofs.lemmas.List.{take_all}
 use Rattle.std.proofs.lemmas.Bool.{le-leb}
 use Rattle.dhcp_frame.specs.declared.frame.Frame.{Frame}
-use Rattle.dhcp_frame.specs.Header.{field, udp_length, ethernet_header, ip_header, ip_checksum, udp_header, udp_checksum, frame_bytes, HasMacs, HasAddresses, HasPorts}
+use Rattle.dhcp_frame.specs.Write.{field, udp_length, ethernet_header, ip_header, ip_checksum, udp_header, udp_checksum, frame_bytes, HasMacs, HasAddresses, HasPorts}
 use Rattle.dhcp_frame.proofs.Spelled.{only_four, only_six, ethernet_header-spelled, ip_header-spelled, udp_header-spelled}
 use Rattle.dhcp_wire.specs.Field.{address_of}
 use Rattle.dhcp_frame.specs.Checksum.{word}
-use Rattle.dhcp_frame.specs.Read.{Packet, read_ethernet, read_packet, read_datagram, read_frame}
+use Rattle.dhcp_frame.specs.View.{Packet, read_ethernet, read_packet, read_datagram, read_frame}
 
 -- an Ethernet frame, byte by byte
 ethernet-spelled : (d0 d1 d2 d3 d4 d5 s0 s1 s2 s3 s4 s5 : ℕ) (content : List ℕ) →
@@ -98,7 +98,7 @@ read_frame-frame_bytes frame macs addresses ports fits =
     rw (
       frame_bytes-layers frame,
       read_ethernet-header frame packet macs.destination macs.source,
-      read_packet-header frame (ip_checksum frame) datagram addresses.source addresses.destination (length-udp_header frame (udp_checksum frame)) (omega arith),
+      read_packet-header frame (ip_checksum frame) datagram addresses.source.0 addresses.destination.0 (length-udp_header frame (udp_checksum frame)) (omega arith),
       read_datagram-header frame (udp_checksum frame) ports.source ports.destination (omega arith),
     ) refl
 

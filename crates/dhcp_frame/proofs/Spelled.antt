@@ -1,7 +1,7 @@
 -- The headers, spelled byte by byte.
 use Rattle.std.proofs.Common.{◌≡◌, ℕ, ◌+◌, List, [], ◌∷◌, ◌++◌, length, get_or, append_assoc, append-nil, ap, sym, ◌∙◌, refl, arith}
 use Rattle.dhcp_frame.specs.declared.frame.Frame.{Frame}
-use Rattle.dhcp_frame.specs.Header.{field, udp_length, ethernet_header, ip_header, udp_header, pseudo_header}
+use Rattle.dhcp_frame.specs.Write.{field, udp_length, ethernet_header, ip_header, udp_header, pseudo_header}
 
 -- four bytes and those after them
 front_four : (bytes rest : List ℕ) → length bytes ≡ 4 → bytes ++ rest ≡ get_or bytes 0 0 ∷ get_or bytes 1 0 ∷ get_or bytes 2 0 ∷ get_or bytes 3 0 ∷ rest

@@ -13,7 +13,8 @@ word high low = high * 256 + low
 abbrev pub add_words : ℕ → ℕ → ℕ
 add_words a b = if nat_lt (a + b) 65536 then a + b else a + b - 65536 + 1
 
--- the ones'-complement sum of the 16-bit words of these bytes; a last byte alone is followed by a zero byte
+-- the ones'-complement sum of the 16-bit words of these bytes; a last byte alone is followed by a
+-- zero byte
 unfoldable pub ones_complement_sum : List ℕ → ℕ
 ones_complement_sum [] = 0
 ones_complement_sum (high ∷ []) = word high 0
@@ -33,8 +34,8 @@ word_sum [] = 0
 word_sum (high ∷ []) = word high 0
 word_sum (high ∷ low ∷ bytes) = word high low + word_sum bytes
 
--- What a plain sum becomes once its carries are added back in: a 16-bit word that differs from it by a multiple of 65535, and is 0 only
--- where the sum is.
+-- What a plain sum becomes once its carries are added back in: a 16-bit word that differs from it
+-- by a multiple of 65535, and is 0 only where the sum is.
 pub record IsCarried (sum carried : ℕ) : Type 0 where
   pub fits : carried ≤ 65535
   pub zero_only : carried ≡ 0 → sum ≡ 0

@@ -1,3 +1,3 @@
 pub mod Checksum
-pub mod Header
-pub mod Read
+pub mod View
+pub mod Write

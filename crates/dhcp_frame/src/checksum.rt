@@ -4,7 +4,8 @@ ghost use Rattle.std.specs.Prelude.{◌≡◌, ◌≤◌, ◌*◌, length};
 ghost use Rattle.dhcp_frame.specs.Checksum as Checksum;
 ghost use Rattle.dhcp_frame.specs.Checksum.{AreBytes, IsCarried};
 
-// The sum of the 16-bit words of these bytes, with all its carries. A last byte alone is followed by a zero byte.
+// The sum of the 16-bit words of these bytes, with all its carries. A last byte alone is followed
+// by a zero byte.
 #[tactic(auto, using(crate::proofs::Sums::sums))]
 pub(crate) fn word_sum(bytes: &[u8]) -> u32
     requires { length bytes.now ≤ 65535 }

@@ -3,11 +3,11 @@
 
 mod checksum;
 mod frame;
-mod read;
 #[cfg(test)]
 mod tests;
+mod view;
 mod write;
 
-pub use frame::Frame;
-pub use read::read_frame;
+pub use frame::{Frame, read_frame};
+pub use view::FrameView;
 pub use write::{MOST_PAYLOAD, write_frame};

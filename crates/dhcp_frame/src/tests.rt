@@ -1,4 +1,4 @@
-use crate::{Frame, MOST_PAYLOAD, read_frame, write_frame};
+use crate::{Frame, FrameView, MOST_PAYLOAD, read_frame, write_frame};
 use dhcp_wire::{Bytes, DhcpError, ErrorKind};
 use std::alloc::{AllocError, Global};
 use std::net::Ipv4Addr;
@@ -22,6 +22,26 @@ const DISCOVER_HEADERS: [u8; 42] = [
     0xff, 0xff, 0x00, 0x44, 0x00, 0x43, 0x01, 0x03, 0x5c, 0x8d,
 ];
 
+// The headers of a server's offer, whose payload has 256 bytes. Its checksums are 0.
+const OFFER_HEADERS: [u8; 42] = [
+    0xff, 0xff, 0xff, 0xff, 0xff, 0xff, 0x02, 0x00, 0x00, 0x00, 0x00, 0x02, 0x08, 0x00, 0x45, 0x00,
+    0x01, 0x1c, 0x00, 0x00, 0x00, 0x00, 0x40, 0x11, 0x00, 0x00, 0xc0, 0x00, 0x02, 0x01, 0xff, 0xff,
+    0xff, 0xff, 0x00, 0x43, 0x00, 0x44, 0x01, 0x08, 0x00, 0x00,
+];
+
+// The frame of that offer, 298 bytes.
+fn offer(alloc: Global) -> Result<Vec<u8>, AllocError> {
+    let mut frame = OFFER_HEADERS.to_vec(alloc)?;
+    frame.extend_from_slice(b"\x02\x01\x06\x00\x12\x34\x56\x78")?;
+    frame.resize(58, 0)?;
+    frame.extend_from_slice(b"\xc0\x00\x02\x0a\xc0\x00\x02\x01\x00\x00\x00\x00")?;
+    frame.extend_from_slice(b"\x02\x00\x00\x00\x00\x01")?;
+    frame.resize(278, 0)?;
+    frame.extend_from_slice(b"\x63\x82\x53\x63\x35\x01\x02\x36\x04\xc0\x00\x02\x01")?;
+    frame.extend_from_slice(b"\x33\x04\x00\x00\x00\x64\xff")?;
+    Ok(frame)
+}
+
 // A frame of 60 bytes with a payload of two, and padding.
 const SHORT: [u8; 60] = [
     0xff, 0xff, 0xff, 0xff, 0xff, 0xff, 0x02, 0x00, 0x00, 0x00, 0x00, 0x02, 0x08, 0x00, 0x45, 0x00,
@@ -40,6 +60,14 @@ fn broadcast(payload: Bytes) -> Frame {
         src_port: 68,
         dst_port: 67,
         payload,
+    }
+}
+
+// The payload of these bytes, if they read.
+fn payload_of(bytes: &[u8]) -> Option<&[u8]> {
+    match FrameView::new(bytes) {
+        Some(view) => Some(view.payload()),
+        None => None,
     }
 }
 
@@ -67,7 +95,8 @@ fn a_discover_is_written_with_both_checksums(rt: HostRuntime) -> Result<(), Fail
 
 #[test]
 fn a_checksum_of_0_is_written_as_ffff(rt: HostRuntime) -> Result<(), Fail> {
-    // All other words that the checksum covers make 00b0 together, so these make ffff, whose complement is 0.
+    // All other words that the checksum covers make 00b0 together, so these make ffff, whose
+    // complement is 0.
     let frame = broadcast(Bytes::from_slice(rt.alloc(), b"\xff\x4f\x00\x00")?);
     assert!(rt; frame.payload.len() <= MOST_PAYLOAD);
     let bytes = write_frame(rt.alloc(), &frame)?;
@@ -127,9 +156,6 @@ fn one_wrong_field_refuses_a_frame(rt: HostRuntime) {
         }
         assert!(rt; is_refused(rt.alloc(), &bytes), "{what}");
     }
-    for len in 0..44usize {
-        assert!(rt; is_refused(rt.alloc(), &SHORT[..len]), "cut to {len} bytes");
-    }
 }
 
 #[test]
@@ -142,5 +168,49 @@ fn frames_with_a_tag_or_of_ipv6_are_refused(rt: HostRuntime) -> Result<(), Fail>
     ipv6.extend_from_slice(&[0x86, 0xdd, 0x60])?;
     ipv6.resize(100, 0)?;
     assert!(rt; is_refused(rt.alloc(), ipv6.as_slice()));
+    Ok(())
+}
+
+#[test]
+fn each_proper_prefix_of_an_offer_is_refused(rt: HostRuntime) -> Result<(), Fail> {
+    let frame = offer(rt.alloc())?;
+    let bytes = frame.as_slice();
+    assert_eq!(rt; bytes.len(), 298);
+    for len in 0..298usize {
+        assert!(rt; is_refused(rt.alloc(), &bytes[..len]), "cut to {len} bytes");
+    }
+    assert_eq!(rt; read_frame(rt.alloc(), bytes)?.payload.len(), 256);
+    Ok(())
+}
+
+#[test]
+fn a_frame_reads_without_its_padding_and_no_shorter(rt: HostRuntime) {
+    for len in 0..44usize {
+        assert!(rt; is_refused(rt.alloc(), &SHORT[..len]), "cut to {len} bytes");
+    }
+    for len in 44..61usize {
+        let payload = payload_of(&SHORT[..len]);
+        assert!(rt;
+            payload == Some([0xab, 0xcd].as_slice()),
+            "cut to {len} bytes"
+        );
+    }
+}
+
+#[test]
+fn the_longest_payload_is_written_and_read(rt: HostRuntime) -> Result<(), Fail> {
+    let frame = broadcast(Bytes::from(vec![in rt.alloc(); 0xff; MOST_PAYLOAD]?));
+    assert!(rt; frame.payload.len() <= MOST_PAYLOAD);
+    let bytes = write_frame(rt.alloc(), &frame)?;
+    assert_eq!(rt; bytes.len(), 65549);
+    assert!(rt; payload_of(bytes.as_slice()) == Some(frame.payload.as_slice()));
+    Ok(())
+}
+
+#[test]
+fn a_view_has_the_port_and_the_payload_of_its_frame(rt: HostRuntime) -> Result<(), Fail> {
+    let view = FrameView::new(&SHORT).ok_or("no frame")?;
+    assert_eq!(rt; view.dst_port(), 68);
+    assert_eq!(rt; view.payload(), [0xab, 0xcd].as_slice());
     Ok(())
 }

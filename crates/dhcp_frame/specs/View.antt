@@ -1,18 +1,19 @@
--- Which bytes are a frame with a UDP datagram: Ethernet II, IPv4 (RFC 791, section 3.1) and UDP (RFC 768), each layer by the length
--- that its header gives. No checksum is tested, and what follows the datagram is ignored.
-use Rattle.std.specs.Prelude.{◌≡◌, ℕ, ◌+◌, ◌*◌, ◌/◌, ◌%◌, Bool, ◌&&◌, List, length, drop, slice_index, slice_range, Option, Some, None, nat_le, ◌==◌, if◌then◌else◌}
+-- Which bytes are a frame with a UDP datagram: Ethernet II, IPv4 (RFC 791, section 3.1) and UDP
+-- (RFC 768), each layer by the length that its header gives. No checksum is tested, and what
+-- follows the datagram is ignored.
+use Rattle.std.specs.Prelude.{ℕ, ◌+◌, ◌*◌, ◌/◌, ◌%◌, Bool, ◌&&◌, List, length, drop, slice_index, slice_range, Option, Some, None, nat_le, ◌==◌, if◌then◌else◌}
 use Rattle.std.specs.declared.net.Ipv4Addr.{Ipv4Addr}
 use Rattle.dhcp_wire.specs.Field.{◌>>=◌, address_of}
 use Rattle.dhcp_frame.specs.Checksum.{word}
 use Rattle.dhcp_frame.specs.declared.frame.Frame.{Frame}
 
--- the 16-bit field at this place
+-- the 16-bit field at this position
 abbrev pub field_at : ℕ → List ℕ → ℕ
-field_at place bytes = word (slice_index bytes place) (slice_index bytes (place + 1))
+field_at position bytes = word (slice_index bytes position) (slice_index bytes (position + 1))
 
--- the address at this place
+-- the address at this position
 abbrev pub address_at : ℕ → List ℕ → Ipv4Addr
-address_at place bytes = address_of (slice_range bytes place (place + 4))
+address_at position bytes = address_of (slice_range bytes position (position + 4))
 
 -- what an Ethernet frame has
 pub record Ethernet : Type 0 where
@@ -40,7 +41,11 @@ carries_ip frame = nat_le 14 (length frame) && (field_at 12 frame == 0x0800)
 unfoldable pub read_ethernet : List ℕ → Option Ethernet
 read_ethernet frame =
     if carries_ip frame
-    then Some (record { destination = slice_range frame 0 6; source = slice_range frame 6 12; content = drop 14 frame })
+    then Some (record {
+      destination = slice_range frame 0 6;
+      source = slice_range frame 6 12;
+      content = drop 14 frame;
+    })
     else None
 
 -- the length of an IPv4 header, which counts words of four bytes
@@ -58,9 +63,12 @@ is_ipv4 packet = nat_le 20 (length packet) && (slice_index packet 0 / 16 == 4)
 -- the header has its fixed part, and the header and the packet are whole
 abbrev pub is_whole : List ℕ → Bool
 is_whole packet =
-    nat_le 20 (header_length packet) && nat_le (header_length packet) (total_length packet) && nat_le (total_length packet) (length packet)
+    nat_le 20 (header_length packet)
+    && nat_le (header_length packet) (total_length packet)
+    && nat_le (total_length packet) (length packet)
 
--- no fragment: the flag of more fragments and the fragment offset, the low 14 bits of their field, are 0
+-- no fragment: the flag of more fragments and the fragment offset, the low 14 bits of their field,
+-- are 0
 abbrev pub is_unfragmented : List ℕ → Bool
 is_unfragmented packet = field_at 6 packet % 0x4000 == 0
 
@@ -86,7 +94,9 @@ datagram_length datagram = field_at 4 datagram
 -- the datagram has a whole header, and is whole
 abbrev pub is_datagram : List ℕ → Bool
 is_datagram datagram =
-    nat_le 8 (length datagram) && nat_le 8 (datagram_length datagram) && nat_le (datagram_length datagram) (length datagram)
+    nat_le 8 (length datagram)
+    && nat_le 8 (datagram_length datagram)
+    && nat_le (datagram_length datagram) (length datagram)
 
 -- a UDP datagram
 unfoldable pub read_datagram : List ℕ → Option Datagram
@@ -114,8 +124,3 @@ read_frame bytes = do
     dst_port = datagram.destination;
     payload = datagram.payload;
   })
-
--- A search that takes no memory: the value that the definition gives, and none where it gives none.
-abbrev pub Finds : {X Y : Type 0} → (X → Y) → Option X → Option Y → Type 0
-Finds view None expected = expected ≡ None
-Finds view (Some x) expected = expected ≡ Some (view x)
