@@ -1,5 +1,5 @@
 -- The messages of the table are ones that read back.
-use Rattle.std.proofs.Common.{◌≡◌, ℕ, zero, suc, ◌<◌, ◌≤◌, ◌^◌, Bool, true, false, ◌==◌, cond, not, List, [], ◌∷◌, ◌++◌, length, replicate, IsTrue, IfSome, Option, Some, None, refl, sym, ◌∙◌, arith, length-append, lit<}
+use Rattle.std.proofs.Common.{◌≡◌, ℕ, zero, suc, ◌<◌, ◌≤◌, ◌^◌, Bool, true, false, ◌==◌, cond, not, List, [], ◌∷◌, ◌++◌, length, replicate, slice_index, IsTrue, IfSome, Option, Some, None, refl, sym, ◌∙◌, arith, length-append, lit<}
 use Rattle.std.specs.List.{AllByRecursion, list_any}
 use Rattle.std.specs.Cmp.{nat_cmp_total, unsigned_tied}
 use Rattle.std.specs.Ordering.{nat_cmp, eq_by_cmp}
@@ -15,14 +15,16 @@ use Rattle.dhcp4_msg.specs.declared.message_type.DhcpV4MessageType.{DhcpV4Messag
 use Rattle.dhcp4_msg.specs.declared.option.DhcpV4Option.{DhcpV4Option}
 use Rattle.dhcp4_msg.specs.declared.option.DhcpV4Option.TheVariants.{HostName, RequestedIpAddress, MessageType, ServerIdentifier, ParameterRequestList, ClientIdentifier}
 use Rattle.dhcp4_msg.specs.OptionCode.{number_of}
-use Rattle.dhcp4_msg.specs.Laws.{IsWhole, FitsOption, ReadsBack, ReadsBackUnder, OptionsReadBack, MessageReadsBack}
+use Rattle.dhcp4_msg.specs.declared.message.DhcpV4Message.{DhcpV4Message}
+use Rattle.dhcp4_msg.specs.Laws.{IsWhole, FitsOption, ReadsBack, ReadsBackUnder, OptionsReadBack, MessageReadsBack, read_back}
+use Rattle.dhcp4_msg.specs.Message.{no_address, read_message, written_message}
 use Rattle.dhcp4_msg.specs.Options.{OptionMap}
 use Rattle.dhcp4_msg.specs.Value.{option_code, option_number, fits, written_value}
-use Rattle.dhcp4_lease.specs.declared.row.Row.{Row}
-use Rattle.dhcp4_lease.specs.declared.row.Subject.{Subject}
+use Rattle.std.specs.Net.Addr.{ipv4_octets, IsIpv4Addr}
+use Rattle.dhcp4_lease.specs.declared.message_table.Row.{Row}
 use Rattle.dhcp4_lease.specs.Config.{Config, is_within_limits}
-use Rattle.dhcp4_lease.specs.Laws.{IsSendable, IsSubject, IsRow}
-use Rattle.dhcp4_lease.specs.MessageTable.{named, requested, addressed, options_of, with_options, table_message}
+use Rattle.dhcp4_lease.specs.Laws.{IsTyped, IsRow, RowReadsBack}
+use Rattle.dhcp4_lease.specs.MessageTable.{host_name_option, requested_option, server_option, options_of, with_options, table_message}
 use Rattle.dhcp4_lease.proofs.OptionLemmas.{host_name_fits}
 
 -- an option that reads back under its own number
@@ -87,17 +89,17 @@ stands_client bytes few = record { is_byte = lit< tt; is_own = refl; fit = and_f
 
 -- The options of a part of a row, where there are any.
 
-all_named : (text : List ℕ) → FitsOption text → AllByRecursion Stands (named text)
-all_named [] fits = tt
-all_named (byte ∷ bytes) fits = (stands_host_name (byte ∷ bytes) fits, tt)
+all_host_name : (text : List ℕ) → FitsOption text → AllByRecursion Stands (host_name_option text)
+all_host_name [] fits = tt
+all_host_name (byte ∷ bytes) fits = (stands_host_name (byte ∷ bytes) fits, tt)
 
-all_requested : (about : Option Subject) → IfSome about IsSubject → AllByRecursion Stands (requested about)
+all_requested : (requested : Option Ipv4Addr) → IfSome requested IsIpv4Addr → AllByRecursion Stands (requested_option requested)
 all_requested None is = tt
-all_requested (Some lease) is = (stands_requested lease.address is.address, tt)
+all_requested (Some address) is = (stands_requested address is.0, tt)
 
-all_addressed : (about : Option Subject) → IfSome about IsSubject → AllByRecursion Stands (addressed about)
-all_addressed None is = tt
-all_addressed (Some lease) is = (stands_server lease.server is.server, tt)
+all_server : (server : Option Ipv4Addr) → IfSome server IsIpv4Addr → AllByRecursion Stands (server_option server)
+all_server None is = tt
+all_server (Some address) is = (stands_server address is.0, tt)
 
 -- The values of a configuration that fit their options.
 record Limits (config : Config) : Type 0 where
@@ -106,14 +108,14 @@ record Limits (config : Config) : Type 0 where
   request_opts : length config.request_opts ≤ 255
 
 -- a configuration within its limits has such values
-limits_of : (config : Config) → IsSendable config → Limits config
+limits_of : (config : Config) → IsTrue (is_within_limits config) → IsTyped config → Limits config
 unfolding is_within_limits
-limits_of config is =
-    let parts = and_parts _ _ is.limits in
+limits_of config within typed =
+    let parts = and_parts _ _ within in
     let before = and_parts _ _ parts.0 in
     let texts = and_parts _ _ before.0 in
     record {
-      host_name = record { is_short = leb-true _ _ texts.0; is_utf8 = is.host_name; has_no_zero = no_zero config.host_name (fails _ texts.1) };
+      host_name = record { is_short = leb-true _ _ texts.0; is_utf8 = typed.host_name; has_no_zero = no_zero config.host_name (fails _ texts.1) };
       client_id = leb-true _ _ before.1;
       request_opts = leb-true _ _ parts.1;
     }
@@ -125,7 +127,7 @@ limits_of config is =
 all_options : (config : Config) (row : Row) → Limits config → IsRow row → AllByRecursion Stands (options_of config row)
 all_options config row limits is =
     all_of_both _ _
-    (all_of_both _ _ (all_of_both _ _ (all_named config.host_name limits.host_name) (all_requested row.about is.about)) (stands_type row.kind, all_addressed row.about is.about))
+    (all_of_both _ _ (all_of_both _ _ (all_host_name config.host_name limits.host_name) (all_requested row.requested is.requested)) (stands_type row.message_type, all_server row.server is.server))
     (stands_requests config.request_opts limits.request_opts, (stands_client config.client_id limits.client_id, tt))
 
 -- the empty text fits each field
@@ -133,9 +135,9 @@ no_text : (n : ℕ) → 0 < n → FitsField n []
 no_text n some = record { is_shorter = some; is_utf8 = IsUtf8-nil; has_no_zero = λ k d below. absurd (omega arith) }
 
 -- the message of a row is one that reads back
-pub table_message_back : (id : ℕ) (config : Config) (row : Row) → id < 2 ^ 32 → IsSendable config → IsRow row → MessageReadsBack (table_message id config row)
+table_message_back : (id : ℕ) (config : Config) (row : Row) → id < 2 ^ 32 → IsTrue (is_within_limits config) → IsTyped config → IsRow row → MessageReadsBack (table_message id config row)
 unfolding table_message
-table_message_back id config row small sendable is = record {
+table_message_back id config row small within typed is = record {
   op = lit< tt;
   htype = lit< tt;
   hlen = lit< tt;
@@ -143,12 +145,28 @@ table_message_back id config row small sendable is = record {
   xid = small;
   secs = lit< tt;
   flags = lit< tt;
-  ciaddr = is.ciaddr;
+  ciaddr = is.ciaddr.0;
   yiaddr = refl;
   siaddr = refl;
   giaddr = refl;
-  chaddr = omega (arith, sendable.src_mac, length-append config.src_mac (replicate 10 0));
+  chaddr = omega (arith, typed.src_mac, length-append config.src_mac (replicate 10 0));
   sname = no_text 64 (lit< tt);
   file = no_text 128 (lit< tt);
-  options = all_added (options_of config row) empty none_kept (all_options config row (limits_of config sendable) is);
+  options = all_added (options_of config row) empty none_kept (all_options config row (limits_of config within typed) is);
 }
+
+-- the message of a row reads back, if messages that do are read as they are written
+pub row_reads_back : ((message : DhcpV4Message) → MessageReadsBack message → read_message (written_message message) ≡ Some (read_back message)) →
+    (config : Config) (row : Row) → IsTrue (is_within_limits config) → IsTyped config → IsRow row → RowReadsBack config row
+row_reads_back back config row within typed is id small = back (table_message id config row) (table_message_back id config row small within typed is)
+
+-- 0.0.0.0 is an address
+pub no_address_is : IsIpv4Addr no_address
+no_address_is = (refl, small)
+  where
+    small : (k : ℕ) → slice_index (ipv4_octets no_address) k < 2 ^ 8
+    small zero = lit< tt
+    small (suc zero) = lit< tt
+    small (suc (suc zero)) = lit< tt
+    small (suc (suc (suc zero))) = lit< tt
+    small (suc (suc (suc (suc k)))) = lit< tt

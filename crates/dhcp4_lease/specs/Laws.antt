@@ -1,23 +1,28 @@
 -- Messages of a client that read back as they are written.
-use Rattle.std.specs.Prelude.{◌≡◌, length, IsTrue, IfSome}
+use Rattle.std.specs.Prelude.{◌≡◌, ℕ, ◌<◌, ◌^◌, length, Some, IfSome}
+use Rattle.std.specs.Net.Addr.{IsIpv4Addr}
 use Rattle.std.specs.Str.{IsUtf8}
-use Rattle.dhcp4_msg.specs.Laws.{IsWhole}
-use Rattle.dhcp4_lease.specs.declared.row.Row.{Row}
-use Rattle.dhcp4_lease.specs.declared.row.Subject.{Subject}
-use Rattle.dhcp4_lease.specs.Config.{Config, is_within_limits}
+use Rattle.dhcp4_msg.specs.Laws.{read_back}
+use Rattle.dhcp4_msg.specs.Message.{read_message, written_message}
+use Rattle.dhcp4_lease.specs.declared.message_table.Row.{Row}
+use Rattle.dhcp4_lease.specs.Config.{Config}
+use Rattle.dhcp4_lease.specs.MessageTable.{table_message}
 
--- a configuration within its limits, with an Ethernet address of six bytes and a host name that is UTF-8
-pub record IsSendable (config : Config) : Type 0 where
-  pub limits : IsTrue (is_within_limits config)
+-- what the types of a configuration keep: its MAC address has six bytes, and its host name is UTF-8
+pub record IsTyped (config : Config) : Type 0 where
   pub src_mac : length config.src_mac ≡ 6
   pub host_name : IsUtf8 config.host_name
 
--- a lease whose addresses have four octets
-pub record IsSubject (lease : Subject) : Type 0 where
-  pub address : IsWhole lease.address
-  pub server : IsWhole lease.server
-
--- a row whose addresses have four octets
+-- a row whose addresses are IPv4 addresses
 pub record IsRow (row : Row) : Type 0 where
-  pub ciaddr : IsWhole row.ciaddr
-  pub about : IfSome row.about IsSubject
+  pub ciaddr : IsIpv4Addr row.ciaddr
+  pub requested : IfSome row.requested IsIpv4Addr
+  pub server : IfSome row.server IsIpv4Addr
+
+-- The message of a row, with any transaction id, reads back: as the table has it, with the codes
+-- that it requests under their names, and with End, which is written after its options.
+abbrev pub RowReadsBack : Config → Row → Type 0
+RowReadsBack config row =
+    (id : ℕ) → id < 2 ^ 32 →
+    let message = table_message id config row in
+    read_message (written_message message) ≡ Some (read_back message)

@@ -1,5 +1,5 @@
 -- A lease, as it is read from a message: RFC 2131 sections 2 and 4.4.5, RFC 2132, RFC 3442.
-use Rattle.std.specs.Prelude.{◌≡◌, ◌≤◌, ℕ, ◌+◌, ◌-◌, ◌*◌, ◌/◌, ◌%◌, ◌&&◌, nat_lt, nat_le, Bool, List, drop, Option, Some, None, unwrap_or, replicate, Result, ok_or, if◌then◌else◌}
+use Rattle.std.specs.Prelude.{◌≡◌, ℕ, ◌+◌, ◌-◌, ◌*◌, ◌/◌, ◌%◌, ◌&&◌, nat_lt, nat_le, Bool, List, drop, Option, Some, None, option_map, unwrap_or, replicate, Result, ok_or, if◌then◌else◌}
 use Rattle.std.specs.Option.{option_or}
 use Rattle.std.specs.FinMap as map
 use Rattle.std.specs.declared.net.Ipv4Addr.{Ipv4Addr}
@@ -7,7 +7,7 @@ use Rattle.dhcp_wire.specs.Field.{◌>>=◌}
 use Rattle.dhcp_wire.specs.Error.{ErrorParts}
 use Rattle.dhcp_wire.specs.Outcome.{Gives}
 use Rattle.dhcp_wire.specs.declared.error.ErrorKind.TheVariants.{InvalidDhcpMessage}
-use Rattle.dhcp_clock.specs.Words.{next_of}
+use Rattle.dhcp_clock.specs.Words.{next_of, Drawn, Draws}
 use Rattle.dhcp4_msg.specs.declared.message.DhcpV4Message.{DhcpV4Message}
 use Rattle.dhcp4_msg.specs.declared.option.DhcpV4Option.{DhcpV4Option}
 use Rattle.dhcp4_msg.specs.declared.option.DhcpV4Option.TheVariants.{SubnetMask, Router, DomainNameServer, HostName, DomainName, InterfaceMtu, BroadcastAddress, NtpServers, IpAddressLeaseTime, ServerIdentifier, RenewalTime, RebindingTime, ClasslessStaticRoute, Unknown}
@@ -87,11 +87,6 @@ classless_routes options = option_or (map.get options 121) (map.get options 249)
 
 -- ---- the times, RFC 2131 section 4.4.5
 
--- a value, and the words that are left once it is drawn
-pub record Drawn (X : Type 0) : Type 0 where
-  pub value : X
-  pub left : List ℕ
-
 -- About this time: from 20 seconds on a word moves it by 2 seconds less to 1 second more; a shorter one takes no word.
 abbrev pub drawn_about : ℕ → List ℕ → Drawn ℕ
 drawn_about base words =
@@ -110,9 +105,24 @@ times_of options lease_time words =
     let t2 = said_or_drawn (said_by seconds_in options 59) (7 * lease_time / 8) t1.left in
     record { value = record { t1_sec = t1.value; t2_sec = t2.value; lease_time_sec = lease_time }; left = t2.left }
 
--- whether a lease is renewed before it is rebound, and that before it ends
+-- whether a lease of these times is renewed before it is rebound, and that before it ends
 abbrev pub are_in_order : LeaseTimes → Bool
-are_in_order times = nat_le times.t1_sec times.t2_sec && nat_le times.t2_sec times.lease_time_sec
+are_in_order times =
+    nat_le times.t1_sec times.t2_sec && nat_le times.t2_sec times.lease_time_sec
+
+-- the times of a message whose option 51 says its lease time: none if they are out of order
+abbrev pub ordered_times : OptionMap → List ℕ → Option ℕ → Drawn (Option LeaseTimes)
+ordered_times options words None = record { value = None; left = words }
+ordered_times options words (Some lease_time) =
+    let times = times_of options lease_time words in
+    record {
+      value = if are_in_order times.value then Some times.value else None;
+      left = times.left;
+    }
+
+-- the times of a message, if it has a lease time and its times are in order
+unfoldable pub read_times : OptionMap → List ℕ → Drawn (Option LeaseTimes)
+read_times options words = ordered_times options words (said_by seconds_in options 51)
 
 -- ---- the lease
 
@@ -138,56 +148,59 @@ empty_lease = record {
   options = map.empty;
 }
 
--- the lease of a message with these times
-unfoldable pub lease_with : DhcpV4Message → LeaseTimes → Lease
-lease_with message times = record {
-  siaddr = message.siaddr;
-  yiaddr = message.yiaddr;
+-- the lease of this address by this next server, with these options and these times
+unfoldable pub lease_with : Ipv4Addr → Ipv4Addr → OptionMap → LeaseTimes → Lease
+lease_with siaddr yiaddr options times = record {
+  siaddr = siaddr;
+  yiaddr = yiaddr;
   t1_sec = times.t1_sec;
   t2_sec = times.t2_sec;
   lease_time_sec = times.lease_time_sec;
-  srv_id = unwrap_or (said_by address_in message.options 54) no_address;
-  subnet_mask = unwrap_or (said_by address_in message.options 1) no_address;
-  broadcast_addr = said_by address_in message.options 28;
-  dns_srvs = said_by addresses_in message.options 6;
-  gateways = said_by addresses_in message.options 3;
-  ntp_srvs = said_by addresses_in message.options 42;
-  mtu = said_by size_in message.options 26;
-  host_name = said_by text_in message.options 12;
-  domain_name = said_by text_in message.options 15;
-  classless_routes = classless_routes message.options;
+  srv_id = unwrap_or (said_by address_in options 54) no_address;
+  subnet_mask = unwrap_or (said_by address_in options 1) no_address;
+  broadcast_addr = said_by address_in options 28;
+  dns_srvs = said_by addresses_in options 6;
+  gateways = said_by addresses_in options 3;
+  ntp_srvs = said_by addresses_in options 42;
+  mtu = said_by size_in options 26;
+  host_name = said_by text_in options 12;
+  domain_name = said_by text_in options 15;
+  classless_routes = classless_routes options;
   srv_mac = replicate 6 255;
-  options = message.options;
+  options = options;
 }
 
--- the times of a message whose option 51 says its lease time: none where they aren't in order
-abbrev pub ordered_times : OptionMap → List ℕ → Option ℕ → Drawn (Option LeaseTimes)
-ordered_times options words None = record { value = None; left = words }
-ordered_times options words (Some lease_time) =
-    let times = times_of options lease_time words in
-    record { value = if are_in_order times.value then Some times.value else None; left = times.left }
+-- the lease of a message with these times
+abbrev pub lease_of : DhcpV4Message → LeaseTimes → Lease
+lease_of message times = lease_with message.siaddr message.yiaddr message.options times
 
--- the times of a message, if it has a lease time and its times are in order
-unfoldable pub read_times : OptionMap → List ℕ → Drawn (Option LeaseTimes)
-read_times options words = ordered_times options words (said_by seconds_in options 51)
+-- the lease that a message grants, if it grants one, and the words that it leaves
+abbrev pub read_lease : DhcpV4Message → List ℕ → Drawn (Option Lease)
+read_lease message words =
+    let times = read_times message.options words in
+    record { value = option_map (lease_of message) times.value; left = times.left }
 
--- the lease that a message grants, if it grants one
-abbrev pub read_lease : DhcpV4Message → List ℕ → Option Lease
-read_lease message words = (read_times message.options words).value >>= λ times. Some (lease_with message times)
+-- The read of a lease from words that the source exposed as `before`, and exposes as `after`: the
+-- lease that they give, or the refusal if they give none, or out of memory. The words are drawn in
+-- each case.
+abbrev pub ReadsLease :
+    Option (List ℕ) → Result Lease ErrorParts → Option (List ℕ) → DhcpV4Message → Type 0
+ReadsLease before result after message =
+    Draws before after (read_lease message)
+    (λ lease. Gives (λ lease. lease) result (ok_or lease InvalidDhcpMessage))
 
--- A draw from words that were `before` and are `after`: where they are told, the value and the words left are the definition's.
-abbrev pub Draws : {X : Type 0} → Option (List ℕ) → X → Option (List ℕ) → (List ℕ → Drawn X) → Type 0
-Draws None value after expected = Unit {0}
-Draws (Some words) value after expected = (value ≡ (expected words).value) × (after ≡ Some (expected words).left)
+-- the times of a lease
+abbrev pub times_in : Lease → LeaseTimes
+times_in lease = record {
+  t1_sec = lease.t1_sec;
+  t2_sec = lease.t2_sec;
+  lease_time_sec = lease.lease_time_sec;
+}
 
--- The read of a lease: where the words are told, the lease of the message or the refusal, or want of memory; and the words left, also
--- after a refusal and after want of memory.
-abbrev pub ReadsLease : Option (List ℕ) → Result Lease ErrorParts → Option (List ℕ) → DhcpV4Message → Type 0
-ReadsLease None result after message = Unit {0}
-ReadsLease (Some words) result after message =
-    Gives (λ lease. lease) result (ok_or (read_lease message words) InvalidDhcpMessage)
-    × (after ≡ Some (read_times message.options words).left)
+-- whether a lease is renewed before it is rebound, and that before it ends
+abbrev pub are_times_in_order : Lease → Bool
+are_times_in_order lease = are_in_order (times_in lease)
 
--- a lease is renewed before it is rebound, and that before it ends
-abbrev pub IsInOrder : Lease → Type 0
-IsInOrder lease = (lease.t1_sec ≤ lease.t2_sec) × (lease.t2_sec ≤ lease.lease_time_sec)
+-- Every field of the lease but its times is that of the message.
+abbrev pub HasFieldsOf : DhcpV4Message → Lease → Type 0
+HasFieldsOf message lease = lease ≡ lease_of message (times_in lease)

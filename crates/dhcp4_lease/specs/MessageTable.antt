@@ -1,5 +1,6 @@
 -- The messages that a client sends, RFC 2131 section 4.3 and table 5: one row for each.
 use Rattle.std.specs.Prelude.{◌≡◌, ℕ, List, [], ◌∷◌, ◌++◌, fold, replicate, Option, Some, None, Result, Ok, Err, if◌then◌else◌, Bool}
+use Rattle.std.specs.Net.Addr.{ipv4_octets}
 use Rattle.std.specs.Str.{bytes_eq}
 use Rattle.dhcp_wire.specs.Error.{ErrorParts, no_memory}
 use Rattle.std.specs.FinMap as options
@@ -11,65 +12,90 @@ use Rattle.dhcp4_msg.specs.declared.message.DhcpV4Message.{DhcpV4Message}
 use Rattle.dhcp4_msg.specs.Message.{no_address}
 use Rattle.dhcp4_msg.specs.Options.{OptionMap}
 use Rattle.dhcp4_msg.specs.Value.{option_number}
-use Rattle.dhcp4_lease.specs.declared.row.Row.{Row}
-use Rattle.dhcp4_lease.specs.declared.row.Subject.{Subject}
+use Rattle.dhcp4_lease.specs.declared.message_table.Row.{Row}
 use Rattle.dhcp4_lease.specs.Config.{Config}
 use Rattle.dhcp4_lease.specs.Lease.{Lease}
 
 -- whether an address is 0.0.0.0
 abbrev pub is_unspecified : Ipv4Addr → Bool
-is_unspecified address = bytes_eq address.octets no_address.octets
+is_unspecified address = bytes_eq (ipv4_octets address) (ipv4_octets no_address)
 
--- the server with this identifier, or of this address where the identifier is unspecified
-abbrev pub server : Ipv4Addr → Ipv4Addr → Ipv4Addr
-server srv_id siaddr = if is_unspecified srv_id then siaddr else srv_id
+-- the server of a lease: its identifier, or the next server if that is unspecified
+abbrev pub server_of : Lease → Ipv4Addr
+server_of lease = if is_unspecified lease.srv_id then lease.siaddr else lease.srv_id
 
--- what a message says of a lease
-abbrev pub subject_of : Lease → Subject
-subject_of lease = record { address = lease.yiaddr; server = server lease.srv_id lease.siaddr }
-
--- the search for servers
+-- the search for servers, RFC 2131 section 4.4.1
 abbrev pub discover : Row
-discover = record { kind = Discovery; ciaddr = no_address; about = None }
+discover = record {
+  message_type = Discovery;
+  ciaddr = no_address;
+  requested = None;
+  server = None;
+}
 
--- the request of an offer
+-- the request of the lease of an offer, in state SELECTING
 abbrev pub request : Lease → Row
-request offer = record { kind = Request; ciaddr = no_address; about = Some (subject_of offer) }
+request offer = record {
+  message_type = Request;
+  ciaddr = no_address;
+  requested = Some offer.yiaddr;
+  server = Some (server_of offer);
+}
 
--- the request to renew or to rebind a lease that is held
+-- the request of a lease that was held before a reboot, in state INIT-REBOOT
+abbrev pub reboot : Lease → Row
+reboot held = record {
+  message_type = Request;
+  ciaddr = no_address;
+  requested = Some held.yiaddr;
+  server = None;
+}
+
+-- the request to renew or to rebind a lease that is held, RFC 2131 section 4.4.5
 abbrev pub extend : Lease → Row
-extend held = record { kind = Request; ciaddr = held.yiaddr; about = Some (subject_of held) }
+extend held = record {
+  message_type = Request;
+  ciaddr = held.yiaddr;
+  requested = Some held.yiaddr;
+  server = Some (server_of held);
+}
 
--- the release of a lease
+-- the release of a lease, RFC 2131 section 4.4.6
 abbrev pub release : Lease → Row
-release held = record { kind = Release; ciaddr = no_address; about = Some (subject_of held) }
+release held = record {
+  message_type = Release;
+  ciaddr = no_address;
+  requested = Some held.yiaddr;
+  server = Some (server_of held);
+}
 
--- option 12, where there is a host name
-abbrev pub named : List ℕ → List DhcpV4Option
-named [] = []
-named (byte ∷ bytes) = HostName (byte ∷ bytes) ∷ []
+-- option 12, if there is a host name
+abbrev pub host_name_option : List ℕ → List DhcpV4Option
+host_name_option [] = []
+host_name_option (byte ∷ bytes) = HostName (byte ∷ bytes) ∷ []
 
--- option 50, where a lease is spoken of
-abbrev pub requested : Option Subject → List DhcpV4Option
-requested None = []
-requested (Some lease) = RequestedIpAddress lease.address ∷ []
+-- option 50, if an address is requested
+abbrev pub requested_option : Option Ipv4Addr → List DhcpV4Option
+requested_option None = []
+requested_option (Some address) = RequestedIpAddress address ∷ []
 
--- option 54, where a lease is spoken of
-abbrev pub addressed : Option Subject → List DhcpV4Option
-addressed None = []
-addressed (Some lease) = ServerIdentifier lease.server ∷ []
+-- option 54, if a server is named
+abbrev pub server_option : Option Ipv4Addr → List DhcpV4Option
+server_option None = []
+server_option (Some address) = ServerIdentifier address ∷ []
 
--- the options of a row, by rising number: 12, 50, 53, 54, 55, 61
+-- the options of a row, by rising code: 12, 50, 53, 54, 55, 61
 abbrev pub options_of : Config → Row → List DhcpV4Option
 options_of config row =
-    named config.host_name ++ requested row.about ++ MessageType row.kind ∷ addressed row.about
+    host_name_option config.host_name ++ requested_option row.requested
+    ++ MessageType row.message_type ∷ server_option row.server
     ++ ParameterRequestList config.request_opts ∷ ClientIdentifier config.client_id ∷ []
 
 -- these options added to others, by their numbers
 abbrev pub with_options : OptionMap → List DhcpV4Option → OptionMap
 with_options kept list = fold (λ kept option. options.insert kept (option_number option) option) kept list
 
--- the message of a row with this transaction id: a request over Ethernet from the client's address
+-- the message of a row with this transaction id: from a client, over Ethernet, from its MAC address
 unfoldable pub table_message : ℕ → Config → Row → DhcpV4Message
 table_message id config row = record {
   op = 1;
@@ -89,7 +115,7 @@ table_message id config row = record {
   options = with_options options.empty (options_of config row);
 }
 
--- Options added one after the other, or want of memory.
+-- Options are added one after the other, or out of memory.
 abbrev pub Adds : {X : Type 0} → Result X ErrorParts → OptionMap → OptionMap → List DhcpV4Option → Type 0
 Adds (Ok _) old new list = new ≡ with_options old list
 Adds (Err e) old new list = e ≡ no_memory

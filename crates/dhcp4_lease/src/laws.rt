@@ -1,29 +1,61 @@
 //! Laws of leases and of the messages that a client sends. A call does nothing.
 
-ghost use Rattle.std.specs.Prelude.{◌≡◌, ◌^◌, ◌<◌, ℕ, List, Some, None, IsSome};
-ghost use Rattle.dhcp4_msg.specs.Laws.{read_back};
-ghost use Rattle.dhcp4_msg.specs.Message.{read_message, written_message};
+ghost use Rattle.std.specs.Prelude.{◌≡◌, ℕ, List, None, IsTrue, IsSome, length};
+ghost use Rattle.std.specs.Net.Addr.{IsIpv4Addr};
 ghost use Rattle.dhcp4_msg.specs.Options.{OptionMap};
-ghost use Rattle.dhcp4_lease.specs.declared.row.Row.{Row};
-ghost use Rattle.dhcp4_lease.specs.Config.{Config};
-ghost use Rattle.dhcp4_lease.specs.Laws.{IsRow, IsSendable};
+ghost use Rattle.dhcp4_lease.specs.Config.{is_within_limits};
+ghost use Rattle.dhcp4_lease.specs.Laws.{IsTyped, RowReadsBack};
 ghost use Rattle.dhcp4_lease.specs.Lease.{read_times, said_by, seconds_in};
-ghost use Rattle.dhcp4_lease.specs.MessageTable.{table_message};
+ghost use Rattle.dhcp4_lease.specs.MessageTable as table;
 
+use crate::message_table::server_of;
+use crate::{DhcpV4Config, DhcpV4Lease};
 use dhcp4_msg::messages_read_back;
 
-/// A message that says its lease time and neither T1 nor T2 is never refused for its times, whatever words are drawn.
+/// A message that says its lease time and neither T1 nor T2 is never refused for its times, whatever
+/// words are drawn.
 pub fn usual_times_are_in_order()
     ensures { (options : OptionMap) (words : List ℕ) → said_by seconds_in options 58 ≡ None
         → said_by seconds_in options 59 ≡ None → IsSome (said_by seconds_in options 51)
         → IsSome (read_times options words).value }
 {}
 
-/// The message of a row reads back as the table has it, with the codes that it requests under their names, and with End, which is
-/// written after its options.
-pub fn built_messages_read_back()
-    ensures { (id : ℕ) (config : Config) (row : Row) → id < 2 ^ 32 → IsSendable config → IsRow row
-        → read_message (written_message (table_message id config row)) ≡ Some (read_back (table_message id config row)) }
+/// The messages of a configuration within its limits read back, whatever the transaction id: as the
+/// table of messages has them, with the codes that they request under their names, and with End,
+/// which is written after their options.
+pub fn built_messages_read_back(config: &DhcpV4Config, lease: &DhcpV4Lease)
+    requires { IsTrue (is_within_limits config.now) }
+    ensures discover { RowReadsBack config.now table.discover }
+    ensures request { RowReadsBack config.now (table.request lease.now) }
+    ensures reboot { RowReadsBack config.now (table.reboot lease.now) }
+    ensures extend { RowReadsBack config.now (table.extend lease.now) }
+    ensures release { RowReadsBack config.now (table.release lease.now) }
 {
+    is_typed(config);
+    has_addresses(lease);
     messages_read_back();
+}
+
+// What the types of a configuration keep.
+fn is_typed(config: &DhcpV4Config)
+    ensures { IsTyped config.now }
+{
+    has_six_bytes(config.src_mac);
+    let _host_name = config.host_name.as_str();
+}
+
+// A MAC address has six bytes.
+fn has_six_bytes(mac: [u8; 6])
+    ensures { length mac ≡ 6 }
+{
+    let [_, _, _, _, _, _] = mac;
+}
+
+// What the types of a lease keep of the addresses that messages name.
+fn has_addresses(lease: &DhcpV4Lease)
+    ensures yiaddr { IsIpv4Addr lease.now.yiaddr }
+    ensures server { IsIpv4Addr (table.server_of lease.now) }
+{
+    let _yiaddr = lease.yiaddr.octets();
+    let _server = server_of(lease).octets();
 }

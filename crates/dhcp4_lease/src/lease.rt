@@ -3,14 +3,16 @@
 mod options;
 mod times;
 
-ghost use Rattle.std.specs.Prelude.{◌≡◌, IfOk, None, count_ones, option_map, replicate};
+ghost use Rattle.std.specs.Prelude.{◌≡◌, ◌⊎◌, IfOk, IfErr, IsTrue, None, count_ones, option_map, replicate};
 ghost use Rattle.std.specs.FinMap as map;
 ghost use Rattle.std.specs.Net.Addr.{ipv4_bits};
 ghost use Rattle.std.specs.Vec.{vec_items};
+ghost use Rattle.dhcp_wire.specs.Error.{no_memory};
 ghost use Rattle.dhcp_wire.specs.Outcome.{Makes};
 ghost use Rattle.dhcp4_msg.specs.Message.{no_address};
 ghost use Rattle.dhcp4_msg.specs.Value.{written_option};
-ghost use Rattle.dhcp4_lease.specs.Lease.{IsInOrder, ReadsLease, empty_lease, lease_with};
+ghost use Rattle.dhcp4_lease.specs.Lease as Lease;
+ghost use Rattle.dhcp4_lease.specs.Lease.{HasFieldsOf, ReadsLease, are_times_in_order, empty_lease, lease_of, times_in};
 
 use self::options::{address, addresses, routes, size, text};
 use self::times::{LeaseTimes, read_times};
@@ -136,10 +138,11 @@ impl DhcpV4Lease {
         }
     }
 
-    /// The lease that a message grants. T1 and T2 are options 58 and 59; where one is absent it is half, or seven eighths, of the
-    /// lease time, and from 20 seconds on a word of `words` moves it by 2 seconds less to 1 second more, T1 first.
-    /// `InvalidDhcpMessage` exactly where option 51 is absent, or T1 is after T2, or T2 after the end. Words that were drawn
-    /// stay drawn, whatever is answered.
+    /// The lease that a message grants (RFC 2131, section 4.4.5). T1 and T2 are options 58 and 59.
+    /// If one is absent it is half, or seven eighths, of the lease time, and from 20 seconds on a
+    /// word of `words` moves it by 2 seconds less to 1 second more, T1 first. `InvalidDhcpMessage`
+    /// if and only if option 51 is absent, or T1 is after T2, or T2 after the end. Words that were
+    /// drawn stay drawn, whatever is returned.
     #[tactic(auto, unfolding(crate::specs::Lease::lease_with))]
     pub fn new_from_msg<W: Words>(
         alloc: Global,
@@ -147,11 +150,54 @@ impl DhcpV4Lease {
         words: &mut W,
     ) -> Result<Self, DhcpError>
         ensures reads { ReadsLease (W.left words.old) result (W.left words.new) msg.now }
-        ensures in_order { IfOk result IsInOrder }
+        // Over every source of words:
+        ensures fields { IfOk result (HasFieldsOf msg.now) }
+        ensures in_order { IfOk result (λ lease. IsTrue (are_times_in_order lease)) }
+        ensures error { IfErr result (λ e.
+            (e ≡ no_memory) ⊎ (e.kind ≡ ErrorKind.InvalidDhcpMessage)) }
     {
         match read_times(&msg.options, words) {
-            Some(times) => Ok(lease_of(alloc, msg, times)?),
+            Some(times) => copied_lease(alloc, msg, times),
             None => Err(out_of_order()),
+        }
+    }
+
+    /// The same as `new_from_msg`, of a message that is no longer needed: its options are moved into
+    /// the lease, and not copied.
+    #[tactic(auto, unfolding(crate::specs::Lease::lease_with))]
+    pub fn from_message<W: Words>(
+        alloc: Global,
+        msg: DhcpV4Message,
+        words: &mut W,
+    ) -> Result<Self, DhcpError>
+        ensures reads { ReadsLease (W.left words.old) result (W.left words.new) msg }
+        // Over every source of words:
+        ensures fields { IfOk result (HasFieldsOf msg) }
+        ensures in_order { IfOk result (λ lease. IsTrue (are_times_in_order lease)) }
+        ensures error { IfErr result (λ e.
+            (e ≡ no_memory) ⊎ (e.kind ≡ ErrorKind.InvalidDhcpMessage)) }
+    {
+        match read_times(&msg.options, words) {
+            Some(times) => lease_with(alloc, msg.siaddr, msg.yiaddr, msg.options, times),
+            None => Err(out_of_order()),
+        }
+    }
+
+    /// Whether its times are in order: T1 <= T2 <= the end of the lease.
+    pub fn are_times_in_order(&self) -> bool
+        ensures { result ≡ are_times_in_order self.now }
+    {
+        self.times().are_in_order()
+    }
+
+    // Its times.
+    fn times(&self) -> LeaseTimes
+        ensures { result ≡ times_in self.now }
+    {
+        LeaseTimes {
+            t1_sec: self.t1_sec,
+            t2_sec: self.t2_sec,
+            lease_time_sec: self.lease_time_sec,
         }
     }
 
@@ -195,34 +241,51 @@ impl DhcpV4Lease {
     }
 }
 
-// The lease of a message with these times.
-#[tactic(auto, unfolding(crate::specs::Lease::lease_with, dhcp4_msg::specs::OptionCode::number_of))]
-fn lease_of(alloc: Global, msg: &DhcpV4Message, times: LeaseTimes) -> Result<DhcpV4Lease, DhcpError>
-    ensures { Makes (λ lease. lease) result (lease_with msg.now times) }
+// The lease of a message with these times, with a copy of its options.
+fn copied_lease(
+    alloc: Global,
+    msg: &DhcpV4Message,
+    times: LeaseTimes,
+) -> Result<DhcpV4Lease, DhcpError>
+    ensures { Makes (λ lease. lease) result (lease_of msg.now times) }
 {
-    let options = &msg.options;
+    let options = msg.options.try_clone(alloc)?;
+    lease_with(alloc, msg.siaddr, msg.yiaddr, options, times)
+}
+
+// The lease of this address by this next server, with these options and these times.
+#[tactic(auto, unfolding(crate::specs::Lease::lease_with, dhcp4_msg::specs::OptionCode::number_of))]
+fn lease_with(
+    alloc: Global,
+    siaddr: Ipv4Addr,
+    yiaddr: Ipv4Addr,
+    options: DhcpV4Options,
+    times: LeaseTimes,
+) -> Result<DhcpV4Lease, DhcpError>
+    ensures { Makes (λ lease. lease) result (Lease.lease_with siaddr yiaddr options times) }
+{
     Ok(DhcpV4Lease {
-        siaddr: msg.siaddr,
-        yiaddr: msg.yiaddr,
+        siaddr,
+        yiaddr,
         t1_sec: times.t1_sec,
         t2_sec: times.t2_sec,
         lease_time_sec: times.lease_time_sec,
-        srv_id: address(options, DhcpV4OptionCode::ServerIdentifier).unwrap_or(
+        srv_id: address(&options, DhcpV4OptionCode::ServerIdentifier).unwrap_or(
             Ipv4Addr::UNSPECIFIED,
         ),
-        subnet_mask: address(options, DhcpV4OptionCode::SubnetMask).unwrap_or(
+        subnet_mask: address(&options, DhcpV4OptionCode::SubnetMask).unwrap_or(
             Ipv4Addr::UNSPECIFIED,
         ),
-        broadcast_addr: address(options, DhcpV4OptionCode::BroadcastAddress),
-        dns_srvs: addresses(alloc, options, DhcpV4OptionCode::DomainNameServer)?,
-        gateways: addresses(alloc, options, DhcpV4OptionCode::Router)?,
-        ntp_srvs: addresses(alloc, options, DhcpV4OptionCode::NtpServers)?,
-        mtu: size(options, DhcpV4OptionCode::InterfaceMtu),
-        host_name: text(alloc, options, DhcpV4OptionCode::HostName)?,
-        domain_name: text(alloc, options, DhcpV4OptionCode::DomainName)?,
-        classless_routes: routes(alloc, options)?,
+        broadcast_addr: address(&options, DhcpV4OptionCode::BroadcastAddress),
+        dns_srvs: addresses(alloc, &options, DhcpV4OptionCode::DomainNameServer)?,
+        gateways: addresses(alloc, &options, DhcpV4OptionCode::Router)?,
+        ntp_srvs: addresses(alloc, &options, DhcpV4OptionCode::NtpServers)?,
+        mtu: size(&options, DhcpV4OptionCode::InterfaceMtu),
+        host_name: text(alloc, &options, DhcpV4OptionCode::HostName)?,
+        domain_name: text(alloc, &options, DhcpV4OptionCode::DomainName)?,
+        classless_routes: routes(alloc, &options)?,
         srv_mac: BROADCAST_MAC_ADDRESS,
-        options: options.try_clone(alloc)?,
+        options,
     })
 }
 

@@ -32,3 +32,13 @@ draws_both (Some words) between after first second x Says one two =
     let told : Option (List ℕ) → Type 0 = λ words. Draws words after (second x) Says in
     let next = subst told one.0 two in
     subst (λ value. Draws (Some (first words).left) after (second value) Says) (sym one.1) next
+
+-- by an equal definition
+pub draws_same : {X : Type 0} (before after : Option (List ℕ)) (one other : List ℕ → Drawn X) (Says : X → Type 0) → ((words : List ℕ) → other words ≡ one words) →
+    Draws before after one Says → Draws before after other Says
+draws_same None after one other Says same drawn =
+    let some = drawn.1.1.1 in
+    (drawn.0, (drawn.1.0, (drawn.1.1.0, ((λ rest. same (drawn.1.0 ++ rest) ∙ some.0 rest), some.1))))
+draws_same (Some words) after one other Says same drawn =
+    let of : Drawn _ → Type 0 = λ result. (after ≡ Some result.left) × Says result.value in
+    subst of (sym (same words)) drawn

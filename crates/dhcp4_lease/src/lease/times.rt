@@ -1,9 +1,10 @@
 //! The times of a lease, RFC 2131 section 4.4.5.
 
-ghost use Rattle.std.specs.Prelude.{◌≡◌, ◌≤◌, ◌<◌, ◌-◌, ◌*◌, ◌/◌, ◌^◌, IfSome};
+ghost use Rattle.std.specs.Prelude.{◌≡◌, ◌≤◌, ◌<◌, ◌-◌, ◌*◌, ◌/◌, ◌^◌, IfSome, IsTrue};
 ghost use Rattle.dhcp4_msg.specs.OptionCode.{number_of};
 ghost use Rattle.dhcp4_lease.specs.Lease as leases;
-ghost use Rattle.dhcp4_lease.specs.Lease.{Draws, said_by, seconds_in};
+ghost use Rattle.dhcp4_lease.specs.Lease.{said_by, seconds_in};
+ghost use Rattle.dhcp_clock.specs.Words.{Draws};
 
 use dhcp_clock::Words;
 use dhcp4_msg::{DhcpV4Option, DhcpV4OptionCode, DhcpV4Options};
@@ -21,7 +22,7 @@ pub struct LeaseTimes {
 
 impl LeaseTimes {
     // Whether a lease of these times is renewed before it is rebound, and that before it ends.
-    fn are_in_order(&self) -> bool
+    pub fn are_in_order(&self) -> bool
         ensures { result ≡ leases.are_in_order self.now }
     {
         self.t1_sec <= self.t2_sec && self.t2_sec <= self.lease_time_sec
@@ -31,8 +32,9 @@ impl LeaseTimes {
 /// The times of a message with these options, if it has a lease time and its times are in order. Words that were drawn stay drawn.
 #[tactic(auto, unfolding(crate::specs::Lease::read_times, dhcp4_msg::specs::OptionCode::number_of))]
 pub fn read_times<W: Words>(options: &DhcpV4Options, words: &mut W) -> Option<LeaseTimes>
-    ensures told { Draws (W.left words.old) result (W.left words.new) (leases.read_times options.now) }
-    ensures in_order { IfSome result (λ times. (times.t1_sec ≤ times.t2_sec) × (times.t2_sec ≤ times.lease_time_sec)) }
+    ensures drawn { Draws (W.left words.old) (W.left words.new)
+        (leases.read_times options.now) (λ times. times ≡ result) }
+    ensures in_order { IfSome result (λ times. IsTrue (leases.are_in_order times)) }
 {
     let lease_time_sec = seconds(options, DhcpV4OptionCode::IpAddressLeaseTime)?;
     let times = times_of(options, lease_time_sec, words);
@@ -46,7 +48,8 @@ pub fn read_times<W: Words>(options: &DhcpV4Options, words: &mut W) -> Option<Le
 // The times of a lease that lasts so long.
 #[tactic(auto, unfolding(crate::specs::Lease::times_of, dhcp4_msg::specs::OptionCode::number_of))]
 fn times_of<W: Words>(options: &DhcpV4Options, lease_time_sec: u32, words: &mut W) -> LeaseTimes
-    ensures { Draws (W.left words.old) result (W.left words.new) (leases.times_of options.now lease_time_sec) }
+    ensures { Draws (W.left words.old) (W.left words.new)
+        (leases.times_of options.now lease_time_sec) (λ times. times ≡ result) }
 {
     let renewal = seconds(options, DhcpV4OptionCode::RenewalTime);
     let t1_sec = said_or_drawn(renewal, lease_time_sec / 2, words);
@@ -70,7 +73,8 @@ fn seven_eighths(seconds: u32) -> u32
 #[tactic(auto, unfolding(crate::specs::Lease::said_or_drawn))]
 fn said_or_drawn<W: Words>(said: Option<u32>, base: u32, words: &mut W) -> u32
     requires { base < 2 ^ 32 - 1 }
-    ensures { Draws (W.left words.old) result (W.left words.new) (leases.said_or_drawn said base) }
+    ensures { Draws (W.left words.old) (W.left words.new)
+        (leases.said_or_drawn said base) (λ time. time ≡ result) }
 {
     match said {
         Some(seconds) => seconds,

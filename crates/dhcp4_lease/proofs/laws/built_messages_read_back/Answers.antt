@@ -1,6 +1,18 @@
--- The message of a row is one that reads back.
-use Rattle.dhcp4_lease.proofs.BuiltMessages.{table_message_back}
+-- The message of each row is one that reads back.
+use Rattle.dhcp4_lease.proofs.BuiltMessages.{row_reads_back, no_address_is}
 use Rattle.dhcp4_lease.proofs.laws.built_messages_read_back.Goals as goal
 
 pub returns : goal.returns
-returns c = λ id config row small sendable is_row. c.messages_read_back.ensures _ (table_message_back id config row small sendable is_row)
+returns c =
+    let reads = row_reads_back c.messages_read_back.ensures c.args.config.now in
+    let within = c.requires in
+    let typed = c.is_typed.ensures in
+    let yiaddr = c.has_addresses.ensures.yiaddr in
+    let server = c.has_addresses.ensures.server in
+    record {
+      discover = reads _ within typed (record { ciaddr = no_address_is; requested = tt; server = tt });
+      request = reads _ within typed (record { ciaddr = no_address_is; requested = yiaddr; server = server });
+      reboot = reads _ within typed (record { ciaddr = no_address_is; requested = yiaddr; server = tt });
+      extend = reads _ within typed (record { ciaddr = yiaddr; requested = yiaddr; server = server });
+      release = reads _ within typed (record { ciaddr = no_address_is; requested = yiaddr; server = server });
+    }

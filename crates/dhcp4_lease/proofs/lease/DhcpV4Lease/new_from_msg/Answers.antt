@@ -1,0 +1,11 @@
+-- The lease of the times that are drawn, or the refusal.
+use Rattle.dhcp4_lease.proofs.TimesLemmas.{reads_lease, reads_none}
+use Rattle.dhcp4_lease.proofs.lease.DhcpV4Lease.new_from_msg.Goals as goal
+
+pub returns-in-Some-clause-reads : goal.returns-in-Some-clause-reads
+returns-in-Some-clause-reads g c =
+    reads_lease _ _ c.copied_lease.result c.args.msg.now c.read_times.result c.in-Some.times c.in-Some.is c.read_times.ensures.drawn c.copied_lease.ensures
+
+pub returns-in-None-clause-reads : goal.returns-in-None-clause-reads
+returns-in-None-clause-reads g c =
+    reads_none _ _ c.out_of_order.result c.args.msg.now c.read_times.result c.in-None.is c.read_times.ensures.drawn c.out_of_order.ensures

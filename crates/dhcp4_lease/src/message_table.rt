@@ -1,0 +1,258 @@
+//! The messages that a client sends, RFC 2131 section 4.3 and table 5: one row for each.
+
+ghost use Rattle.std.specs.Prelude.{◌≡◌, ◌++◌, IsTrue, replicate};
+ghost use Rattle.std.specs.FinMap as map;
+ghost use Rattle.dhcp_wire.specs.Outcome.{Makes};
+ghost use Rattle.dhcp4_lease.specs.Config.{is_within_limits};
+ghost use Rattle.dhcp4_lease.specs.MessageTable as table;
+ghost use Rattle.dhcp4_lease.specs.MessageTable.{Adds, table_message};
+
+use crate::{DhcpV4Config, DhcpV4Lease};
+use dhcp_wire::{DhcpError, Text};
+use dhcp4_msg::{DhcpV4Message, DhcpV4MessageType, DhcpV4Option, DhcpV4Options};
+use std::alloc::Global;
+use std::net::Ipv4Addr;
+
+/// The Discover that searches for servers, with this transaction id (RFC 2131, section 4.4.1). The
+/// configuration is within its limits, as `is_within_limits` tests; so for each message below. Out
+/// of memory is the only error.
+pub fn new_discovery(
+    alloc: Global,
+    xid: u32,
+    config: &DhcpV4Config,
+) -> Result<DhcpV4Message, DhcpError>
+    requires { IsTrue (is_within_limits config.now) }
+    ensures { Makes (λ message. message) result (table_message xid config.now table.discover) }
+{
+    message_of(alloc, xid, config, Row::discover())
+}
+
+/// The Request of the lease of an offer, in state SELECTING (RFC 2131, section 4.3.2).
+pub fn new_request(
+    alloc: Global,
+    xid: u32,
+    config: &DhcpV4Config,
+    lease: &DhcpV4Lease,
+) -> Result<DhcpV4Message, DhcpError>
+    requires { IsTrue (is_within_limits config.now) }
+    ensures { Makes (λ message. message) result (table_message xid config.now (table.request lease.now)) }
+{
+    message_of(alloc, xid, config, Row::request(lease))
+}
+
+/// The Request of a lease that the client held before, in state INIT-REBOOT: it names the address and
+/// no server (RFC 2131, section 4.3.2).
+pub fn new_reboot_request(
+    alloc: Global,
+    xid: u32,
+    config: &DhcpV4Config,
+    lease: &DhcpV4Lease,
+) -> Result<DhcpV4Message, DhcpError>
+    requires { IsTrue (is_within_limits config.now) }
+    ensures { Makes (λ message. message) result (table_message xid config.now (table.reboot lease.now)) }
+{
+    message_of(alloc, xid, config, Row::reboot(lease))
+}
+
+/// The Request that renews a lease that is held, from T1 on (RFC 2131, section 4.4.5).
+pub fn new_renew(
+    alloc: Global,
+    xid: u32,
+    config: &DhcpV4Config,
+    lease: &DhcpV4Lease,
+) -> Result<DhcpV4Message, DhcpError>
+    requires { IsTrue (is_within_limits config.now) }
+    ensures { Makes (λ message. message) result (table_message xid config.now (table.extend lease.now)) }
+{
+    message_of(alloc, xid, config, Row::extend(lease))
+}
+
+/// The Request that rebinds a lease that is held, from T2 on: the same message as to renew it (RFC
+/// 2131, section 4.4.5).
+pub fn new_rebind(
+    alloc: Global,
+    xid: u32,
+    config: &DhcpV4Config,
+    lease: &DhcpV4Lease,
+) -> Result<DhcpV4Message, DhcpError>
+    requires { IsTrue (is_within_limits config.now) }
+    ensures { Makes (λ message. message) result (table_message xid config.now (table.extend lease.now)) }
+{
+    message_of(alloc, xid, config, Row::extend(lease))
+}
+
+/// The Release of a lease that is held (RFC 2131, section 4.4.6).
+pub fn new_release(
+    alloc: Global,
+    xid: u32,
+    config: &DhcpV4Config,
+    lease: &DhcpV4Lease,
+) -> Result<DhcpV4Message, DhcpError>
+    requires { IsTrue (is_within_limits config.now) }
+    ensures { Makes (λ message. message) result (table_message xid config.now (table.release lease.now)) }
+{
+    message_of(alloc, xid, config, Row::release(lease))
+}
+
+/// What the messages of a client differ in.
+#[derive(Clone, Copy)]
+pub struct Row {
+    /// The type of the message, option 53.
+    pub message_type: DhcpV4MessageType,
+    /// The client's own address, 0.0.0.0 if it may not be used yet.
+    pub ciaddr: Ipv4Addr,
+    /// The address that is requested or released, option 50.
+    pub requested: Option<Ipv4Addr>,
+    /// The server identifier, option 54.
+    pub server: Option<Ipv4Addr>,
+}
+
+impl Row {
+    // The search for servers.
+    fn discover() -> Row
+        ensures { result ≡ table.discover }
+    {
+        Row {
+            message_type: DhcpV4MessageType::Discovery,
+            ciaddr: Ipv4Addr::UNSPECIFIED,
+            requested: None,
+            server: None,
+        }
+    }
+
+    // The request of the lease of an offer.
+    fn request(offer: &DhcpV4Lease) -> Row
+        ensures { result ≡ table.request offer.now }
+    {
+        Row {
+            message_type: DhcpV4MessageType::Request,
+            ciaddr: Ipv4Addr::UNSPECIFIED,
+            requested: Some(offer.yiaddr),
+            server: Some(server_of(offer)),
+        }
+    }
+
+    // The request of a lease that was held before a reboot.
+    fn reboot(held: &DhcpV4Lease) -> Row
+        ensures { result ≡ table.reboot held.now }
+    {
+        Row {
+            message_type: DhcpV4MessageType::Request,
+            ciaddr: Ipv4Addr::UNSPECIFIED,
+            requested: Some(held.yiaddr),
+            server: None,
+        }
+    }
+
+    // The request to renew or to rebind a lease that is held.
+    fn extend(held: &DhcpV4Lease) -> Row
+        ensures { result ≡ table.extend held.now }
+    {
+        Row {
+            message_type: DhcpV4MessageType::Request,
+            ciaddr: held.yiaddr,
+            requested: Some(held.yiaddr),
+            server: Some(server_of(held)),
+        }
+    }
+
+    // The release of a lease.
+    fn release(held: &DhcpV4Lease) -> Row
+        ensures { result ≡ table.release held.now }
+    {
+        Row {
+            message_type: DhcpV4MessageType::Release,
+            ciaddr: Ipv4Addr::UNSPECIFIED,
+            requested: Some(held.yiaddr),
+            server: Some(server_of(held)),
+        }
+    }
+}
+
+// The server of a lease: its identifier, or the next server if that is unspecified.
+pub(crate) fn server_of(lease: &DhcpV4Lease) -> Ipv4Addr
+    ensures { result ≡ table.server_of lease.now }
+{
+    if lease.srv_id.is_unspecified() {
+        lease.siaddr
+    } else {
+        lease.srv_id
+    }
+}
+
+// The message of a row.
+#[tactic(auto, unfolding(crate::specs::MessageTable::table_message, dhcp4_msg::specs::Message::empty_message))]
+fn message_of(
+    alloc: Global,
+    xid: u32,
+    config: &DhcpV4Config,
+    row: Row,
+) -> Result<DhcpV4Message, DhcpError>
+    requires { IsTrue (is_within_limits config.now) }
+    ensures { Makes (λ message. message) result (table_message xid config.now row) }
+{
+    let mut message = DhcpV4Message::empty(alloc);
+    message.xid = xid;
+    message.ciaddr = row.ciaddr;
+    message.chaddr = hardware_address(config.src_mac);
+    message.options = options_of(alloc, config, row)?;
+    Ok(message)
+}
+
+// A MAC address in the field of sixteen bytes, chaddr.
+fn hardware_address(mac: [u8; 6]) -> [u8; 16]
+    ensures { result ≡ mac ++ replicate 10 0 }
+{
+    let mut field = [0; 16];
+    field[..6].copy_from_slice(&mac);
+    field
+}
+
+// The options of a row.
+#[tactic(auto, unfolding(crate::specs::Config::is_within_limits, dhcp4_msg::specs::Value::fits, dhcp4_msg::specs::Value::written_value, dhcp4_msg::specs::MessageType::type_number), using(std::proofs::lemmas::Grind::common_steps))]
+fn options_of(alloc: Global, config: &DhcpV4Config, row: Row) -> Result<DhcpV4Options, DhcpError>
+    requires { IsTrue (is_within_limits config.now) }
+    ensures { Makes (λ options. options) result (table.with_options map.empty (table.options_of config.now row)) }
+{
+    let mut options = DhcpV4Options::new(alloc);
+    add_host_name(&mut options, config.host_name.try_clone(alloc)?)?;
+    add_requested(&mut options, row.requested)?;
+    options.insert(DhcpV4Option::MessageType(row.message_type))?;
+    add_server(&mut options, row.server)?;
+    options.insert(DhcpV4Option::ParameterRequestList(config.request_opts.try_clone(alloc)?))?;
+    options.insert(DhcpV4Option::ClientIdentifier(config.client_id.try_clone(alloc)?))?;
+    Ok(options)
+}
+
+// Adds option 12, if there is a host name.
+#[tactic(auto, using(crate::proofs::OptionLemmas::host_name_fits))]
+fn add_host_name(options: &mut DhcpV4Options, host_name: Text) -> Result<(), DhcpError>
+    ensures { Adds result options.old options.new (table.host_name_option host_name) }
+{
+    if host_name.is_empty() {
+        return Ok(());
+    }
+    options.insert(DhcpV4Option::HostName(host_name))
+}
+
+// Adds option 50, if an address is requested.
+#[tactic(auto, unfolding(dhcp4_msg::specs::Value::fits, dhcp4_msg::specs::Value::written_value))]
+fn add_requested(options: &mut DhcpV4Options, requested: Option<Ipv4Addr>) -> Result<(), DhcpError>
+    ensures { Adds result options.old options.new (table.requested_option requested) }
+{
+    match requested {
+        Some(address) => options.insert(DhcpV4Option::RequestedIpAddress(address)),
+        None => Ok(()),
+    }
+}
+
+// Adds option 54, if a server is named.
+#[tactic(auto, unfolding(dhcp4_msg::specs::Value::fits, dhcp4_msg::specs::Value::written_value))]
+fn add_server(options: &mut DhcpV4Options, server: Option<Ipv4Addr>) -> Result<(), DhcpError>
+    ensures { Adds result options.old options.new (table.server_option server) }
+{
+    match server {
+        Some(address) => options.insert(DhcpV4Option::ServerIdentifier(address)),
+        None => Ok(()),
+    }
+}
