@@ -27,10 +27,10 @@ state_text Selecting = codes "selecting"
 state_text Renewing = codes "renewing"
 state_text Rebinding = codes "rebinding"
 
--- whether a client in this state has its lease
-abbrev pub has_lease : DhcpV4State → Bool
-has_lease (Done lease) = true
-has_lease InitReboot = false
-has_lease Selecting = false
-has_lease Renewing = false
-has_lease Rebinding = false
+-- whether a client in this state is done: it has a lease that it need not renew yet
+abbrev pub is_done : DhcpV4State → Bool
+is_done (Done lease) = true
+is_done InitReboot = false
+is_done Selecting = false
+is_done Renewing = false
+is_done Rebinding = false

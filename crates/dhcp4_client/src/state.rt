@@ -5,38 +5,38 @@ mod tests;
 
 ghost use Rattle.std.specs.Prelude.{◌≡◌, Some};
 ghost use Rattle.dhcp_wire.specs.Outcome.{Makes};
-ghost use Rattle.dhcp4_client.specs.State.{has_lease, plain_state, state_text};
+ghost use Rattle.dhcp4_client.specs.State.{is_done, plain_state, state_text};
 
 use dhcp_wire::DhcpError;
 use dhcp4_lease::DhcpV4Lease;
 use std::alloc::Global;
 use std::fmt;
 
-/// The state of a client.
+/// The state of a client, RFC 2131 figure 5. The default is `InitReboot`.
 #[derive(Debug, Default, PartialEq, Drop)]
 pub enum DhcpV4State {
-    /// It has a lease, and its T1 is still to come.
+    /// BOUND: it has this lease, and T1 is still to come.
     Done(Box<DhcpV4Lease>),
-    /// It searches for servers.
+    /// INIT: it searches for servers.
     #[default]
     InitReboot,
-    /// It has an offer, and requests it.
+    /// SELECTING or INIT-REBOOT: it requests the lease of an offer, or one that it held before.
     Selecting,
-    /// T1 is past: it asks the server of its lease to renew it.
+    /// RENEWING: T1 is past, and it asks the server of its lease to renew it.
     Renewing,
-    /// T2 is past: it asks any server to extend its lease.
+    /// REBINDING: T2 is past, and it asks any server to extend its lease.
     Rebinding,
 }
 
 impl DhcpV4State {
-    /// Whether the client has a lease that it need not renew yet.
+    /// Whether the client is done: it has a lease that it need not renew yet.
     pub fn is_done(&self) -> bool
-        ensures { result ≡ has_lease self.now }
+        ensures { result ≡ is_done self.now }
     {
         matches!(self, DhcpV4State::Done(_))
     }
 
-    /// A copy.
+    /// A copy. Out of memory is the only error.
     pub fn try_clone(&self, alloc: Global) -> Result<Self, DhcpError>
         ensures { Makes plain_state result (plain_state self.now) }
     {

@@ -23,10 +23,15 @@ fn a_state_with_a_lease_is_done_and_prints_its_address(rt: HostRuntime) -> Resul
 #[test]
 fn the_other_states_print_as_their_names(rt: HostRuntime) -> Result<(), Fail> {
     let alloc = rt.alloc();
-    let first = DhcpV4State::default();
+    let first = DhcpV4State::InitReboot;
     assert!(rt; !first.is_done());
     assert_eq!(rt; format!(in alloc; "{first}")?.as_str(), "init_reboot");
     let renewing = DhcpV4State::Renewing;
     assert_eq!(rt; format!(in alloc; "{renewing}")?.as_str(), "renewing");
     Ok(())
+}
+
+#[test]
+fn a_client_begins_with_the_search_for_servers(rt: HostRuntime) {
+    assert!(rt; DhcpV4State::default() == DhcpV4State::InitReboot);
 }
