@@ -5,7 +5,7 @@ ghost use Rattle.dhcp_wire.specs.Outcome.{Gives};
 ghost use Rattle.dhcp_frame.specs.View as View;
 
 use crate::FrameView;
-use dhcp_wire::{Bytes, DhcpError, ErrorKind, FixedText};
+use dhcp_wire::{Bytes, DhcpError, FixedText};
 use std::alloc::Global;
 use std::net::Ipv4Addr;
 
@@ -36,7 +36,7 @@ pub fn read_frame(alloc: Global, bytes: &[u8]) -> Result<Frame, DhcpError>
         (ok_or (View.read_frame bytes.now) ErrorKind.InvalidDhcpMessage) }
 {
     match FrameView::new(bytes) {
-        None => Err(DhcpError::new_fixed(ErrorKind::InvalidDhcpMessage, FixedText::Unreadable)),
+        None => Err(DhcpError::invalid_message(FixedText::Unreadable)),
         Some(view) => view.to_frame(alloc),
     }
 }
