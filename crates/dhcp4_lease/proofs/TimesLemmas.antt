@@ -8,9 +8,10 @@ use Rattle.dhcp_wire.specs.Error.{ErrorParts}
 use Rattle.dhcp_wire.specs.Outcome.{Gives, Makes}
 use Rattle.dhcp_wire.specs.declared.error.ErrorKind.TheVariants.{InvalidDhcpMessage}
 use Rattle.dhcp4_msg.specs.declared.message.DhcpV4Message.{DhcpV4Message}
-use Rattle.dhcp4_msg.specs.Options.{OptionMap}
+use Rattle.dhcp4_msg.specs.Options.{OptionMap, said_by}
+use Rattle.dhcp4_msg.specs.Value.{seconds_said}
 use Rattle.dhcp4_lease.specs.declared.lease.times.LeaseTimes.{LeaseTimes}
-use Rattle.dhcp4_lease.specs.Lease.{drawn_about, said_or_drawn, said_by, seconds_in, times_of, ordered_times, read_times, Lease, lease_of, ReadsLease}
+use Rattle.dhcp4_lease.specs.Lease.{drawn_about, said_or_drawn, times_of, ordered_times, read_times, Lease, lease_of, ReadsLease}
 
 -- a time about this long: at most 2 seconds less or 1 second more, and just as long below 20 seconds
 record IsAbout (base time : ℕ) : Type 0 where
@@ -50,9 +51,9 @@ unsaid_in_order (Some seconds) t2_said lease_time words is _ = cc
 unsaid_in_order None (Some seconds) lease_time words _ is = cc
 
 -- a message with a lease time and without the two others has its times
-pub usual_times_are_read : (options : OptionMap) (words : List ℕ) → said_by seconds_in options 58 ≡ None → said_by seconds_in options 59 ≡ None → IsSome (said_by seconds_in options 51) → IsSome (read_times options words).value
+pub usual_times_are_read : (options : OptionMap) (words : List ℕ) → said_by seconds_said options 58 ≡ None → said_by seconds_said options 59 ≡ None → IsSome (said_by seconds_said options 51) → IsSome (read_times options words).value
 unfolding read_times times_of
-usual_times_are_read options words no_t1 no_t2 some = read (said_by seconds_in options 51) some
+usual_times_are_read options words no_t1 no_t2 some = read (said_by seconds_said options 51) some
   where
     read : (said : Option ℕ) → IsSome said → IsSome (ordered_times options words said).value
     read None some = cc
@@ -79,15 +80,15 @@ drawn_by_word before after said base word is long given =
 
 -- T1 is drawn, and T2 after it
 pub draws_times : (before between after : Option (List ℕ)) (options : OptionMap) (lease_time : ℕ) (renewal rebinding : Option ℕ) (most t1 t2 : ℕ) →
-    renewal ≡ said_by seconds_in options 58 → rebinding ≡ said_by seconds_in options 59 → most ≡ 7 * lease_time / 8 →
+    renewal ≡ said_by seconds_said options 58 → rebinding ≡ said_by seconds_said options 59 → most ≡ 7 * lease_time / 8 →
     Draws before between (said_or_drawn renewal (lease_time / 2)) (λ time. time ≡ t1) →
     Draws between after (said_or_drawn rebinding most) (λ time. time ≡ t2) →
     Draws before after (times_of options lease_time) (λ times. times ≡ record { t1_sec = t1; t2_sec = t2; lease_time_sec = lease_time })
 unfolding times_of
 draws_times before between after options lease_time renewal rebinding most t1 t2 is_renewal is_rebinding is_most first second =
     let all : ℕ → ℕ → LeaseTimes = λ one two. record { t1_sec = one; t2_sec = two; lease_time_sec = lease_time } in
-    let half = said_or_drawn (said_by seconds_in options 58) (lease_time / 2) in
-    let late = said_or_drawn (said_by seconds_in options 59) (7 * lease_time / 8) in
+    let half = said_or_drawn (said_by seconds_said options 58) (lease_time / 2) in
+    let late = said_or_drawn (said_by seconds_said options 59) (7 * lease_time / 8) in
     let t1_drawn : Draws before between half (λ time. time ≡ t1) =
     subst (λ said. Draws before between (said_or_drawn said (lease_time / 2)) (λ time. time ≡ t1)) is_renewal first in
     let t2_about : Draws between after (said_or_drawn rebinding (7 * lease_time / 8)) (λ time. time ≡ t2) =

@@ -1,21 +1,17 @@
 -- A lease, as it is read from a message: RFC 2131 sections 2 and 4.4.5, RFC 2132, RFC 3442.
 use Rattle.std.specs.Prelude.{◌≡◌, ℕ, ◌+◌, ◌-◌, ◌*◌, ◌/◌, ◌%◌, ◌&&◌, nat_lt, nat_le, Bool, List, drop, Option, Some, None, option_map, unwrap_or, replicate, Result, ok_or, if◌then◌else◌}
-use Rattle.std.specs.Option.{option_or}
 use Rattle.std.specs.FinMap as map
 use Rattle.std.specs.declared.net.Ipv4Addr.{Ipv4Addr}
-use Rattle.dhcp_wire.specs.Field.{◌>>=◌}
 use Rattle.dhcp_wire.specs.Error.{ErrorParts}
 use Rattle.dhcp_wire.specs.Outcome.{Gives}
 use Rattle.dhcp_wire.specs.declared.error.ErrorKind.TheVariants.{InvalidDhcpMessage}
 use Rattle.dhcp_clock.specs.Words.{next_of, Drawn, Draws}
 use Rattle.dhcp4_msg.specs.declared.message.DhcpV4Message.{DhcpV4Message}
-use Rattle.dhcp4_msg.specs.declared.option.DhcpV4Option.{DhcpV4Option}
-use Rattle.dhcp4_msg.specs.declared.option.DhcpV4Option.TheVariants.{SubnetMask, Router, DomainNameServer, HostName, DomainName, InterfaceMtu, BroadcastAddress, NtpServers, IpAddressLeaseTime, ServerIdentifier, RenewalTime, RebindingTime, ClasslessStaticRoute, Unknown}
 use Rattle.dhcp4_msg.specs.declared.route.DhcpV4ClasslessRoute.{DhcpV4ClasslessRoute}
 use Rattle.dhcp4_lease.specs.declared.lease.times.LeaseTimes.{LeaseTimes}
 use Rattle.dhcp4_msg.specs.Message.{no_address}
-use Rattle.dhcp4_msg.specs.Options.{OptionMap}
-use Rattle.dhcp4_msg.specs.Route.{routes_of}
+use Rattle.dhcp4_msg.specs.Options.{OptionMap, said_by, classless_routes}
+use Rattle.dhcp4_msg.specs.Value.{address_said, addresses_said, seconds_said, size_said, text_said}
 
 -- what contracts see of a lease; times are in seconds from its acknowledgement
 pub record Lease : Type 0 where
@@ -37,54 +33,6 @@ pub record Lease : Type 0 where
   pub srv_mac : List ℕ
   pub options : OptionMap
 
--- ---- what options say, by the kind of their value
-
--- the seconds of a time
-abbrev pub seconds_in : DhcpV4Option → Option ℕ
-seconds_in (IpAddressLeaseTime seconds) = Some seconds
-seconds_in (RenewalTime seconds) = Some seconds
-seconds_in (RebindingTime seconds) = Some seconds
-seconds_in _ = None
-
--- one address
-abbrev pub address_in : DhcpV4Option → Option Ipv4Addr
-address_in (SubnetMask address) = Some address
-address_in (BroadcastAddress address) = Some address
-address_in (ServerIdentifier address) = Some address
-address_in _ = None
-
--- a list of addresses
-abbrev pub addresses_in : DhcpV4Option → Option (List Ipv4Addr)
-addresses_in (Router addresses) = Some addresses
-addresses_in (DomainNameServer addresses) = Some addresses
-addresses_in (NtpServers addresses) = Some addresses
-addresses_in _ = None
-
--- a text
-abbrev pub text_in : DhcpV4Option → Option (List ℕ)
-text_in (HostName text) = Some text
-text_in (DomainName text) = Some text
-text_in _ = None
-
--- a size
-abbrev pub size_in : DhcpV4Option → Option ℕ
-size_in (InterfaceMtu size) = Some size
-size_in _ = None
-
--- routes; an option that isn't known may have them as its bytes
-abbrev pub routes_in : DhcpV4Option → Option (List DhcpV4ClasslessRoute)
-routes_in (ClasslessStaticRoute routes) = Some routes
-routes_in (Unknown option) = routes_of option.raw
-routes_in _ = None
-
--- what the option of this number says
-abbrev pub said_by : {X : Type 0} → (DhcpV4Option → Option X) → OptionMap → ℕ → Option X
-said_by says options number = map.get options number >>= says
-
--- the routes of option 121, RFC 3442; where it is absent those of option 249, in which some servers send them
-unfoldable pub classless_routes : OptionMap → Option (List DhcpV4ClasslessRoute)
-classless_routes options = option_or (map.get options 121) (map.get options 249) >>= routes_in
-
 -- ---- the times, RFC 2131 section 4.4.5
 
 -- About this time: from 20 seconds on a word moves it by 2 seconds less to 1 second more; a shorter one takes no word.
@@ -101,8 +49,8 @@ said_or_drawn None base words = drawn_about base words
 -- the times of a lease that lasts so long: T1 is option 58, or about half of it; T2 is option 59, or about seven eighths of it
 unfoldable pub times_of : OptionMap → ℕ → List ℕ → Drawn LeaseTimes
 times_of options lease_time words =
-    let t1 = said_or_drawn (said_by seconds_in options 58) (lease_time / 2) words in
-    let t2 = said_or_drawn (said_by seconds_in options 59) (7 * lease_time / 8) t1.left in
+    let t1 = said_or_drawn (said_by seconds_said options 58) (lease_time / 2) words in
+    let t2 = said_or_drawn (said_by seconds_said options 59) (7 * lease_time / 8) t1.left in
     record { value = record { t1_sec = t1.value; t2_sec = t2.value; lease_time_sec = lease_time }; left = t2.left }
 
 -- whether a lease of these times is renewed before it is rebound, and that before it ends
@@ -122,7 +70,7 @@ ordered_times options words (Some lease_time) =
 
 -- the times of a message, if it has a lease time and its times are in order
 unfoldable pub read_times : OptionMap → List ℕ → Drawn (Option LeaseTimes)
-read_times options words = ordered_times options words (said_by seconds_in options 51)
+read_times options words = ordered_times options words (said_by seconds_said options 51)
 
 -- ---- the lease
 
@@ -156,15 +104,15 @@ lease_with siaddr yiaddr options times = record {
   t1_sec = times.t1_sec;
   t2_sec = times.t2_sec;
   lease_time_sec = times.lease_time_sec;
-  srv_id = unwrap_or (said_by address_in options 54) no_address;
-  subnet_mask = unwrap_or (said_by address_in options 1) no_address;
-  broadcast_addr = said_by address_in options 28;
-  dns_srvs = said_by addresses_in options 6;
-  gateways = said_by addresses_in options 3;
-  ntp_srvs = said_by addresses_in options 42;
-  mtu = said_by size_in options 26;
-  host_name = said_by text_in options 12;
-  domain_name = said_by text_in options 15;
+  srv_id = unwrap_or (said_by address_said options 54) no_address;
+  subnet_mask = unwrap_or (said_by address_said options 1) no_address;
+  broadcast_addr = said_by address_said options 28;
+  dns_srvs = said_by addresses_said options 6;
+  gateways = said_by addresses_said options 3;
+  ntp_srvs = said_by addresses_said options 42;
+  mtu = said_by size_said options 26;
+  host_name = said_by text_said options 12;
+  domain_name = said_by text_said options 15;
   classless_routes = classless_routes options;
   srv_mac = replicate 6 255;
   options = options;

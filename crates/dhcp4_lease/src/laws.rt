@@ -2,10 +2,11 @@
 
 ghost use Rattle.std.specs.Prelude.{◌≡◌, ℕ, List, None, IsTrue, IsSome, length};
 ghost use Rattle.std.specs.Net.Addr.{IsIpv4Addr};
-ghost use Rattle.dhcp4_msg.specs.Options.{OptionMap};
+ghost use Rattle.dhcp4_msg.specs.Options.{OptionMap, said_by};
 ghost use Rattle.dhcp4_lease.specs.Config.{is_within_limits};
 ghost use Rattle.dhcp4_lease.specs.Laws.{IsTyped, RowReadsBack};
-ghost use Rattle.dhcp4_lease.specs.Lease.{read_times, said_by, seconds_in};
+ghost use Rattle.dhcp4_lease.specs.Lease.{read_times};
+ghost use Rattle.dhcp4_msg.specs.Value.{seconds_said};
 ghost use Rattle.dhcp4_lease.specs.MessageTable as table;
 
 use crate::message_table::server_of;
@@ -15,8 +16,8 @@ use dhcp4_msg::messages_read_back;
 /// A message that says its lease time and neither T1 nor T2 is never refused for its times, whatever
 /// words are drawn.
 pub fn usual_times_are_in_order()
-    ensures { (options : OptionMap) (words : List ℕ) → said_by seconds_in options 58 ≡ None
-        → said_by seconds_in options 59 ≡ None → IsSome (said_by seconds_in options 51)
+    ensures { (options : OptionMap) (words : List ℕ) → said_by seconds_said options 58 ≡ None
+        → said_by seconds_said options 59 ≡ None → IsSome (said_by seconds_said options 51)
         → IsSome (read_times options words).value }
 {}
 

@@ -1,9 +1,8 @@
 //! A lease.
 
-mod options;
 mod times;
 
-ghost use Rattle.std.specs.Prelude.{◌≡◌, ◌⊎◌, IfOk, IfErr, IsTrue, None, count_ones, option_map, replicate};
+ghost use Rattle.std.specs.Prelude.{◌≡◌, ◌⊎◌, IfOk, IfErr, IsTrue, None, count_ones, option_copied, option_map, replicate};
 ghost use Rattle.std.specs.FinMap as map;
 ghost use Rattle.std.specs.Net.Addr.{ipv4_bits};
 ghost use Rattle.std.specs.Vec.{vec_items};
@@ -14,7 +13,6 @@ ghost use Rattle.dhcp4_msg.specs.Value.{written_option};
 ghost use Rattle.dhcp4_lease.specs.Lease as Lease;
 ghost use Rattle.dhcp4_lease.specs.Lease.{HasFieldsOf, ReadsLease, are_times_in_order, empty_lease, lease_of, times_in};
 
-use self::options::{address, addresses, routes, size, text};
 use self::times::{LeaseTimes, read_times};
 use dhcp_clock::Words;
 use dhcp_wire::{BROADCAST_MAC_ADDRESS, DhcpError, ErrorKind, FixedText, Sequence, Text};
@@ -228,13 +226,13 @@ impl DhcpV4Lease {
             srv_id: self.srv_id,
             subnet_mask: self.subnet_mask,
             broadcast_addr: self.broadcast_addr,
-            dns_srvs: copied(alloc, &self.dns_srvs)?,
-            gateways: copied(alloc, &self.gateways)?,
-            ntp_srvs: copied(alloc, &self.ntp_srvs)?,
+            dns_srvs: copied(alloc, self.dns_srvs.as_ref())?,
+            gateways: copied(alloc, self.gateways.as_ref())?,
+            ntp_srvs: copied(alloc, self.ntp_srvs.as_ref())?,
             mtu: self.mtu,
-            host_name: copied_text(alloc, &self.host_name)?,
-            domain_name: copied_text(alloc, &self.domain_name)?,
-            classless_routes: copied(alloc, &self.classless_routes)?,
+            host_name: copied_text(alloc, self.host_name.as_ref())?,
+            domain_name: copied_text(alloc, self.domain_name.as_ref())?,
+            classless_routes: copied(alloc, self.classless_routes.as_ref())?,
             srv_mac: self.srv_mac,
             options: self.options.try_clone(alloc)?,
         })
@@ -270,20 +268,20 @@ fn lease_with(
         t1_sec: times.t1_sec,
         t2_sec: times.t2_sec,
         lease_time_sec: times.lease_time_sec,
-        srv_id: address(&options, DhcpV4OptionCode::ServerIdentifier).unwrap_or(
-            Ipv4Addr::UNSPECIFIED,
-        ),
-        subnet_mask: address(&options, DhcpV4OptionCode::SubnetMask).unwrap_or(
-            Ipv4Addr::UNSPECIFIED,
-        ),
-        broadcast_addr: address(&options, DhcpV4OptionCode::BroadcastAddress),
-        dns_srvs: addresses(alloc, &options, DhcpV4OptionCode::DomainNameServer)?,
-        gateways: addresses(alloc, &options, DhcpV4OptionCode::Router)?,
-        ntp_srvs: addresses(alloc, &options, DhcpV4OptionCode::NtpServers)?,
-        mtu: size(&options, DhcpV4OptionCode::InterfaceMtu),
-        host_name: text(alloc, &options, DhcpV4OptionCode::HostName)?,
-        domain_name: text(alloc, &options, DhcpV4OptionCode::DomainName)?,
-        classless_routes: routes(alloc, &options)?,
+        srv_id: options
+            .address(DhcpV4OptionCode::ServerIdentifier)
+            .unwrap_or(Ipv4Addr::UNSPECIFIED),
+        subnet_mask: options
+            .address(DhcpV4OptionCode::SubnetMask)
+            .unwrap_or(Ipv4Addr::UNSPECIFIED),
+        broadcast_addr: options.address(DhcpV4OptionCode::BroadcastAddress),
+        dns_srvs: copied(alloc, options.addresses(DhcpV4OptionCode::DomainNameServer))?,
+        gateways: copied(alloc, options.addresses(DhcpV4OptionCode::Router))?,
+        ntp_srvs: copied(alloc, options.addresses(DhcpV4OptionCode::NtpServers))?,
+        mtu: options.size(DhcpV4OptionCode::InterfaceMtu),
+        host_name: copied_text(alloc, options.text(DhcpV4OptionCode::HostName))?,
+        domain_name: copied_text(alloc, options.text(DhcpV4OptionCode::DomainName))?,
+        classless_routes: options.classless_routes(alloc)?,
         srv_mac: BROADCAST_MAC_ADDRESS,
         options,
     })
@@ -299,9 +297,9 @@ fn out_of_order() -> DhcpError
 // A copy of a list, if there is one.
 fn copied<T: Copy>(
     alloc: Global,
-    kept: &Option<Sequence<T>>,
+    kept: Option<&Sequence<T>>,
 ) -> Result<Option<Sequence<T>>, DhcpError>
-    ensures { Makes (λ made. made) result kept.now }
+    ensures { Makes (λ made. made) result (option_copied kept.entry) }
 {
     match kept {
         Some(list) => Ok(Some(list.try_clone(alloc)?)),
@@ -310,8 +308,8 @@ fn copied<T: Copy>(
 }
 
 // A copy of a text, if there is one.
-fn copied_text(alloc: Global, kept: &Option<Text>) -> Result<Option<Text>, DhcpError>
-    ensures { Makes (λ made. made) result kept.now }
+fn copied_text(alloc: Global, kept: Option<&Text>) -> Result<Option<Text>, DhcpError>
+    ensures { Makes (λ made. made) result (option_copied kept.entry) }
 {
     match kept {
         Some(text) => Ok(Some(text.try_clone(alloc)?)),

@@ -5,7 +5,7 @@ ghost use Rattle.dhcp_wire.specs.Outcome.{Gives};
 ghost use Rattle.dhcp_frame.specs.View as View;
 
 use crate::FrameView;
-use dhcp_wire::{Bytes, DhcpError, FixedText};
+use dhcp_wire::{Bytes, DhcpError, ErrorKind, FixedText};
 use std::alloc::Global;
 use std::net::Ipv4Addr;
 

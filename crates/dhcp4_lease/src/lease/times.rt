@@ -1,13 +1,11 @@
 //! The times of a lease, RFC 2131 section 4.4.5.
 
 ghost use Rattle.std.specs.Prelude.{◌≡◌, ◌≤◌, ◌<◌, ◌-◌, ◌*◌, ◌/◌, ◌^◌, IfSome, IsTrue};
-ghost use Rattle.dhcp4_msg.specs.OptionCode.{number_of};
 ghost use Rattle.dhcp4_lease.specs.Lease as leases;
-ghost use Rattle.dhcp4_lease.specs.Lease.{said_by, seconds_in};
 ghost use Rattle.dhcp_clock.specs.Words.{Draws};
 
 use dhcp_clock::Words;
-use dhcp4_msg::{DhcpV4Option, DhcpV4OptionCode, DhcpV4Options};
+use dhcp4_msg::{DhcpV4OptionCode, DhcpV4Options};
 
 /// The times of a lease, in seconds.
 #[derive(Clone, Copy)]
@@ -36,7 +34,7 @@ pub fn read_times<W: Words>(options: &DhcpV4Options, words: &mut W) -> Option<Le
         (leases.read_times options.now) (λ times. times ≡ result) }
     ensures in_order { IfSome result (λ times. IsTrue (leases.are_in_order times)) }
 {
-    let lease_time_sec = seconds(options, DhcpV4OptionCode::IpAddressLeaseTime)?;
+    let lease_time_sec = options.seconds(DhcpV4OptionCode::IpAddressLeaseTime)?;
     let times = times_of(options, lease_time_sec, words);
     if times.are_in_order() {
         Some(times)
@@ -51,9 +49,9 @@ fn times_of<W: Words>(options: &DhcpV4Options, lease_time_sec: u32, words: &mut 
     ensures { Draws (W.left words.old) (W.left words.new)
         (leases.times_of options.now lease_time_sec) (λ times. times ≡ result) }
 {
-    let renewal = seconds(options, DhcpV4OptionCode::RenewalTime);
+    let renewal = options.seconds(DhcpV4OptionCode::RenewalTime);
     let t1_sec = said_or_drawn(renewal, lease_time_sec / 2, words);
-    let rebinding = seconds(options, DhcpV4OptionCode::RebindingTime);
+    let rebinding = options.seconds(DhcpV4OptionCode::RebindingTime);
     let t2_sec = said_or_drawn(rebinding, seven_eighths(lease_time_sec), words);
     LeaseTimes {
         t1_sec,
@@ -80,17 +78,5 @@ fn said_or_drawn<W: Words>(said: Option<u32>, base: u32, words: &mut W) -> u32
         Some(seconds) => seconds,
         None if base < 20 => base,
         None => base - 2 + words.next_word() % 4,
-    }
-}
-
-// The seconds that the option of this code says.
-fn seconds(options: &DhcpV4Options, code: DhcpV4OptionCode) -> Option<u32>
-    ensures { result ≡ said_by seconds_in options.now (number_of code) }
-{
-    match options.get(code)? {
-        DhcpV4Option::IpAddressLeaseTime(seconds)
-        | DhcpV4Option::RenewalTime(seconds)
-        | DhcpV4Option::RebindingTime(seconds) => Some(*seconds),
-        _ => None,
     }
 }
