@@ -25,17 +25,11 @@ use Rattle.dhcp4_lease.specs.declared.message_table.Row.{Row}
 use Rattle.dhcp4_lease.specs.Config.{Config, is_within_limits}
 use Rattle.dhcp4_lease.specs.Laws.{IsTyped, IsRow, RowReadsBack}
 use Rattle.dhcp4_lease.specs.MessageTable.{host_name_option, requested_option, server_option, options_of, with_options, table_message}
-use Rattle.dhcp4_lease.proofs.OptionLemmas.{host_name_fits}
+use Rattle.dhcp4_lease.proofs.OptionLemmas.{host_name_fits, requested_fits, server_fits, type_fits, requests_fit, client_fits, limits_of}
 
 -- an option that reads back under its own number
 abbrev Stands : DhcpV4Option → Type 0
 Stands option = ReadsBackUnder (option_number option) option
-
--- where no element passes the test for zero, none is zero
-no_zero : (bytes : List ℕ) → list_any (λ byte. byte == 0) bytes ≡ false → HasNoZero bytes
-no_zero [] none k d below = absurd (omega arith)
-no_zero (byte ∷ bytes) none zero d below = eqb-false byte 0 (or_parts _ _ none).0
-no_zero (byte ∷ bytes) none (suc k) d below = no_zero bytes (or_parts _ _ none).1 k d (omega arith)
 
 -- each option of two lists
 all_of_both : (xs ys : List DhcpV4Option) → AllByRecursion Stands xs → AllByRecursion Stands ys → AllByRecursion Stands (xs ++ ys)
@@ -67,25 +61,25 @@ stands_host_name : (text : List ℕ) → FitsOption text → Stands (HostName te
 unfolding option_code number_of ReadsBack
 stands_host_name text fits = record { is_byte = lit< tt; is_own = refl; fit = host_name_fits text; reads_back = fits }
 
-stands_requested : (address : Ipv4Addr) → IsWhole address → Stands (RequestedIpAddress address)
-unfolding option_code number_of ReadsBack fits written_value
-stands_requested address whole = record { is_byte = lit< tt; is_own = refl; fit = and_from _ _ (le-leb _ _ (omega arith)) refl; reads_back = whole }
+stands_requested : (address : Ipv4Addr) → IsIpv4Addr address → Stands (RequestedIpAddress address)
+unfolding option_code number_of ReadsBack
+stands_requested address is = record { is_byte = lit< tt; is_own = refl; fit = requested_fits address is; reads_back = is.0 }
 
-stands_server : (address : Ipv4Addr) → IsWhole address → Stands (ServerIdentifier address)
-unfolding option_code number_of ReadsBack fits written_value
-stands_server address whole = record { is_byte = lit< tt; is_own = refl; fit = and_from _ _ (le-leb _ _ (omega arith)) refl; reads_back = whole }
+stands_server : (address : Ipv4Addr) → IsIpv4Addr address → Stands (ServerIdentifier address)
+unfolding option_code number_of ReadsBack
+stands_server address is = record { is_byte = lit< tt; is_own = refl; fit = server_fits address is; reads_back = is.0 }
 
 stands_type : (kind : DhcpV4MessageType) → Stands (MessageType kind)
-unfolding option_code number_of ReadsBack fits written_value
-stands_type kind = record { is_byte = lit< tt; is_own = refl; fit = refl; reads_back = tt }
+unfolding option_code number_of ReadsBack
+stands_type kind = record { is_byte = lit< tt; is_own = refl; fit = type_fits kind; reads_back = tt }
 
-stands_requests : (codes : List DhcpV4OptionCode) → length codes ≤ 255 → Stands (ParameterRequestList codes)
-unfolding option_code number_of ReadsBack fits written_value
-stands_requests codes few = record { is_byte = lit< tt; is_own = refl; fit = and_from _ _ (le-leb _ _ (omega (arith, length-map codes number_of))) refl; reads_back = tt }
+stands_requests : (config : Config) → IsTrue (is_within_limits config) → Stands (ParameterRequestList config.request_opts)
+unfolding option_code number_of ReadsBack
+stands_requests config within = record { is_byte = lit< tt; is_own = refl; fit = requests_fit config.request_opts config refl within; reads_back = tt }
 
-stands_client : (bytes : List ℕ) → length bytes ≤ 255 → Stands (ClientIdentifier bytes)
-unfolding option_code number_of ReadsBack fits written_value
-stands_client bytes few = record { is_byte = lit< tt; is_own = refl; fit = and_from _ _ (le-leb _ _ few) refl; reads_back = tt }
+stands_client : (config : Config) → IsTrue (is_within_limits config) → Stands (ClientIdentifier config.client_id)
+unfolding option_code number_of ReadsBack
+stands_client config within = record { is_byte = lit< tt; is_own = refl; fit = client_fits config.client_id config refl within; reads_back = tt }
 
 -- The options of a part of a row, where there are any.
 
@@ -95,40 +89,26 @@ all_host_name (byte ∷ bytes) fits = (stands_host_name (byte ∷ bytes) fits, t
 
 all_requested : (requested : Option Ipv4Addr) → IfSome requested IsIpv4Addr → AllByRecursion Stands (requested_option requested)
 all_requested None is = tt
-all_requested (Some address) is = (stands_requested address is.0, tt)
+all_requested (Some address) is = (stands_requested address is, tt)
 
 all_server : (server : Option Ipv4Addr) → IfSome server IsIpv4Addr → AllByRecursion Stands (server_option server)
 all_server None is = tt
-all_server (Some address) is = (stands_server address is.0, tt)
+all_server (Some address) is = (stands_server address is, tt)
 
--- The values of a configuration that fit their options.
-record Limits (config : Config) : Type 0 where
-  host_name : FitsOption config.host_name
-  client_id : length config.client_id ≤ 255
-  request_opts : length config.request_opts ≤ 255
-
--- a configuration within its limits has such values
-limits_of : (config : Config) → IsTrue (is_within_limits config) → IsTyped config → Limits config
-unfolding is_within_limits
-limits_of config within typed =
-    let parts = and_parts _ _ within in
-    let before = and_parts _ _ parts.0 in
-    let texts = and_parts _ _ before.0 in
-    record {
-      host_name = record { is_short = leb-true _ _ texts.0; is_utf8 = typed.host_name; has_no_zero = no_zero config.host_name (fails _ texts.1) };
-      client_id = leb-true _ _ before.1;
-      request_opts = leb-true _ _ parts.1;
-    }
-  where
-    fails : (b : Bool) → IsTrue (not b) → b ≡ false
-    fails b = elim b as (λ b. not b ≡ true → b ≡ false) [ true ↦ λ no. sym no | false ↦ λ no. refl ]
+-- the host name of a configuration within its limits
+host_name_within : (config : Config) → IsTrue (is_within_limits config) → IsTyped config → FitsOption config.host_name
+host_name_within config within typed =
+    let limits = limits_of config within in
+    record { is_short = limits.host_name_len; is_utf8 = typed.host_name; has_no_zero = limits.host_name }
 
 -- each option of a row reads back
-all_options : (config : Config) (row : Row) → Limits config → IsRow row → AllByRecursion Stands (options_of config row)
-all_options config row limits is =
-    all_of_both _ _
-    (all_of_both _ _ (all_of_both _ _ (all_host_name config.host_name limits.host_name) (all_requested row.requested is.requested)) (stands_type row.message_type, all_server row.server is.server))
-    (stands_requests config.request_opts limits.request_opts, (stands_client config.client_id limits.client_id, tt))
+all_options : (config : Config) (row : Row) → IsTrue (is_within_limits config) → IsTyped config → IsRow row → AllByRecursion Stands (options_of config row)
+all_options config row within typed is =
+    let host_name = all_host_name config.host_name (host_name_within config within typed) in
+    let requested = all_requested row.requested is.requested in
+    let server = all_server row.server is.server in
+    all_of_both _ _ (all_of_both _ _ (all_of_both _ _ host_name requested) (stands_type row.message_type, server))
+    (stands_requests config within, (stands_client config within, tt))
 
 -- the empty text fits each field
 no_text : (n : ℕ) → 0 < n → FitsField n []
@@ -152,7 +132,7 @@ table_message_back id config row small within typed is = record {
   chaddr = omega (arith, typed.src_mac, length-append config.src_mac (replicate 10 0));
   sname = no_text 64 (lit< tt);
   file = no_text 128 (lit< tt);
-  options = all_added (options_of config row) empty none_kept (all_options config row (limits_of config within typed) is);
+  options = all_added (options_of config row) empty none_kept (all_options config row within typed is);
 }
 
 -- the message of a row reads back, if messages that do are read as they are written

@@ -1,5 +1,5 @@
 -- The configuration of a DHCPv4 client.
-use Rattle.std.specs.Prelude.{ℕ, Bool, true, false, List, [], ◌∷◌, length, map, fold, replicate, Result, Ok, Err, ◌==◌, ◌&&◌, not, nat_le, if◌then◌else◌}
+use Rattle.std.specs.Prelude.{ℕ, Bool, true, false, List, [], ◌∷◌, ◌++◌, length, map, fold, replicate, Result, Ok, Err, ◌==◌, ◌&&◌, not, nat_le, if◌then◌else◌}
 use Rattle.std.specs.List.{list_any}
 use Rattle.std.specs.Ordering.{nat_cmp}
 use Rattle.std.specs.BTreeSet.{insert_key}
@@ -9,8 +9,9 @@ use Rattle.dhcp_wire.specs.Mac.{bytes_of_mac}
 use Rattle.dhcp4_msg.specs.declared.option_code.DhcpV4OptionCode.{DhcpV4OptionCode}
 use Rattle.dhcp4_msg.specs.OptionCode.{code_of, number_of}
 
--- what contracts see of a configuration: the interface, whether the client asks for another host, the time limit in seconds, the
--- Ethernet address, the client identifier with its type byte, the host name, and the options that are asked for
+-- what contracts see of a configuration: the interface, whether the client asks for another host,
+-- the time limit in seconds, the Ethernet address, the client identifier with its type byte, the
+-- host name, and the options that are asked for
 pub record Config : Type 0 where
   pub iface_name : List ℕ
   pub iface_index : ℕ
@@ -59,7 +60,8 @@ with_mac config (Err kind) = Err kind
 abbrev pub proxy_config : List ℕ → List ℕ → Result Config ErrorKind
 proxy_config name mac = with_mac (record (config_of name) { is_proxy = true }) (mac_of_text mac)
 
--- a configuration whose client identifier is its host name, of type 0; without a host name it stays as it is
+-- a configuration whose client identifier is its host name, of type 0; without a host name it stays
+-- as it is
 unfoldable pub with_host_name_as_client_id : Config → Config
 with_host_name_as_client_id config = named config.host_name
   where
@@ -79,8 +81,13 @@ rising_codes numbers = map code_of (rising numbers)
 abbrev pub numbers_of : List DhcpV4OptionCode → List ℕ
 numbers_of asked = map number_of asked
 
--- Whether the values of a configuration fit their options: the host name has at most 254 bytes and no zero byte, the client
--- identifier at most 255 bytes, and at most 255 options are asked for.
+-- a configuration that requests these options too
+abbrev pub with_extra_requests : Config → List ℕ → Config
+with_extra_requests config numbers =
+    record config { request_opts = rising_codes (numbers_of config.request_opts ++ numbers) }
+
+-- Whether the values of a configuration fit their options: the host name has at most 254 bytes and
+-- no zero byte, the client identifier at most 255 bytes, and at most 255 options are asked for.
 unfoldable pub is_within_limits : Config → Bool
 is_within_limits config =
     nat_le (length config.host_name) 254 && not (list_any (λ byte. byte == 0) config.host_name)

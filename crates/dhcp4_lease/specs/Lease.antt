@@ -35,7 +35,8 @@ pub record Lease : Type 0 where
 
 -- ---- the times, RFC 2131 section 4.4.5
 
--- About this time: from 20 seconds on a word moves it by 2 seconds less to 1 second more; a shorter one takes no word.
+-- About this time: from 20 seconds on a word moves it by 2 seconds less to 1 second more; a shorter
+-- one takes no word.
 abbrev pub drawn_about : ℕ → List ℕ → Drawn ℕ
 drawn_about base words =
     if nat_lt base 20 then record { value = base; left = words }
@@ -46,12 +47,16 @@ unfoldable pub said_or_drawn : Option ℕ → ℕ → List ℕ → Drawn ℕ
 said_or_drawn (Some seconds) base words = record { value = seconds; left = words }
 said_or_drawn None base words = drawn_about base words
 
--- the times of a lease that lasts so long: T1 is option 58, or about half of it; T2 is option 59, or about seven eighths of it
+-- the times of a lease that lasts so long: T1 is option 58, or about half of it; T2 is option 59,
+-- or about seven eighths of it
 unfoldable pub times_of : OptionMap → ℕ → List ℕ → Drawn LeaseTimes
 times_of options lease_time words =
     let t1 = said_or_drawn (said_by seconds_said options 58) (lease_time / 2) words in
     let t2 = said_or_drawn (said_by seconds_said options 59) (7 * lease_time / 8) t1.left in
-    record { value = record { t1_sec = t1.value; t2_sec = t2.value; lease_time_sec = lease_time }; left = t2.left }
+    record {
+      value = record { t1_sec = t1.value; t2_sec = t2.value; lease_time_sec = lease_time };
+      left = t2.left;
+    }
 
 -- whether a lease of these times is renewed before it is rebound, and that before it ends
 abbrev pub are_in_order : LeaseTimes → Bool

@@ -93,7 +93,8 @@ options_of config row =
 
 -- these options added to others, by their numbers
 abbrev pub with_options : OptionMap → List DhcpV4Option → OptionMap
-with_options kept list = fold (λ kept option. options.insert kept (option_number option) option) kept list
+with_options kept list =
+    fold (λ kept option. options.insert kept (option_number option) option) kept list
 
 -- the message of a row with this transaction id: from a client, over Ethernet, from its MAC address
 unfoldable pub table_message : ℕ → Config → Row → DhcpV4Message
@@ -116,6 +117,7 @@ table_message id config row = record {
 }
 
 -- Options are added one after the other, or out of memory.
-abbrev pub Adds : {X : Type 0} → Result X ErrorParts → OptionMap → OptionMap → List DhcpV4Option → Type 0
+abbrev pub Adds : {X : Type 0} →
+    Result X ErrorParts → OptionMap → OptionMap → List DhcpV4Option → Type 0
 Adds (Ok _) old new list = new ≡ with_options old list
 Adds (Err e) old new list = e ≡ no_memory

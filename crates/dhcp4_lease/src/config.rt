@@ -16,6 +16,7 @@ ghost use Rattle.dhcp4_lease.specs.Config.{
   proxy_config,
   rising,
   rising_codes,
+  with_extra_requests,
   with_host_name_as_client_id,
   with_mac,
 };
@@ -38,7 +39,8 @@ pub struct DhcpV4Config {
     pub iface_index: u32,
     /// Whether the client asks for another host, whose address its packets then come from.
     pub is_proxy: bool,
-    /// How long the client stays in a state without a lease before it gives up, in seconds; 0 is for ever.
+    /// How long the client stays in a state without a lease before it gives up, in seconds; 0 is
+    /// for ever.
     pub timeout_sec: u32,
     pub(crate) src_mac: [u8; 6],
     pub(crate) client_id: Bytes,
@@ -75,7 +77,8 @@ impl Model for DhcpV4Config {
 }
 
 impl DhcpV4Config {
-    /// A configuration with nothing set: no interface, the Ethernet address zero, and the options that are usually asked for.
+    /// A configuration with nothing set: no interface, the Ethernet address zero, and the options
+    /// that are usually asked for.
     pub fn empty(alloc: Global) -> Result<Self, DhcpError>
         ensures { Makes (λ config. config) result (config_of []) }
     {
@@ -99,8 +102,9 @@ impl DhcpV4Config {
         })
     }
 
-    /// A configuration that asks for another host, of this Ethernet address, on the interface of this name. `InvalidArgument`
-    /// where the text is no bytes in hex with colons between them, `NotSupported` exactly where they are not six.
+    /// A configuration that asks for another host, of this Ethernet address, on the interface of
+    /// this name. `InvalidArgument` where the text is no bytes in hex with colons between them,
+    /// `NotSupported` exactly where they are not six.
     #[tactic(auto, unfolding(crate::specs::Config::with_mac))]
     pub fn new_proxy(
         alloc: Global,
@@ -116,8 +120,9 @@ impl DhcpV4Config {
         Ok(config)
     }
 
-    /// Whether its values fit their options, as the client and its messages want: the host name has at most 254 bytes and no
-    /// zero byte, the client identifier has at most 255 bytes, and at most 255 options are asked for.
+    /// Whether its values fit their options, as the client and its messages want: the host name has
+    /// at most 254 bytes and no zero byte, the client identifier has at most 255 bytes, and at most
+    /// 255 options are asked for.
     #[tactic(auto, unfolding(crate::specs::Config::is_within_limits))]
     pub fn is_within_limits(&self) -> bool
         ensures { result ≡ is_within_limits self.now }
@@ -162,58 +167,69 @@ impl DhcpV4Config {
         self
     }
 
-    /// Sets the Ethernet address from a text as `01:02:2a:2c:f7:04`. `InvalidArgument` where it is no bytes in hex with colons
-    /// between them, `NotSupported` exactly where they are not six; after an error nothing has changed.
+    /// Sets the Ethernet address from a text as `01:02:2a:2c:f7:04`. `InvalidArgument` where it is
+    /// no bytes in hex with colons between them, `NotSupported` exactly where they are not six;
+    /// after an error nothing has changed.
     pub fn set_iface_mac(&mut self, alloc: Global, mac: &str) -> Result<&mut Self, DhcpError>
-        ensures set { Gives (λ config. config.now) result (with_mac self.old (mac_of_text mac.now)) }
+        ensures set { Gives (λ config. config.now) result
+            (with_mac self.old (mac_of_text mac.now)) }
         ensures same { IfOk result (λ config. config.ghost_name ≡ self.entry.ghost_name) }
         ensures* refused { sem 𝓛 (UnchangedIfRefused self.entry result) }
     {
         setter_answer(self.put_mac_text(alloc, mac))
     }
 
-    /// Sets the Ethernet address. `NotSupported` exactly where it is not six bytes; after an error nothing has changed.
+    /// Sets the Ethernet address. `NotSupported` exactly where it is not six bytes; after an error
+    /// nothing has changed.
     pub fn set_iface_mac_raw(&mut self, mac: &[u8]) -> Result<&mut Self, DhcpError>
-        ensures set { Answers (λ config. config.now) result (with_mac self.old (mac_of_bytes mac.now)) }
+        ensures set { Answers (λ config. config.now) result
+            (with_mac self.old (mac_of_bytes mac.now)) }
         ensures same { IfOk result (λ config. config.ghost_name ≡ self.entry.ghost_name) }
         ensures* refused { sem 𝓛 (UnchangedIfRefused self.entry result) }
     {
         setter_answer(self.put_mac(mac))
     }
 
-    /// Sets the host name, which the client sends as option 12 where it isn't empty. After an error nothing has changed.
+    /// Sets the host name, which the client sends as option 12 where it isn't empty. After an error
+    /// nothing has changed.
     pub fn set_host_name(&mut self, alloc: Global, host_name: &str) -> Result<&mut Self, DhcpError>
-        ensures set { Makes (λ config. config.now) result (record self.old { host_name = host_name.now }) }
+        ensures set { Makes (λ config. config.now) result
+            (record self.old { host_name = host_name.now }) }
         ensures same { IfOk result (λ config. config.ghost_name ≡ self.entry.ghost_name) }
         ensures* refused { sem 𝓛 (UnchangedIfRefused self.entry result) }
     {
         setter_answer(self.put_host_name(alloc, host_name))
     }
 
-    /// Sets the client identifier, option 61: its type, then its bytes, RFC 2132 section 9.14. After an error nothing has changed.
+    /// Sets the client identifier, option 61: its type, then its bytes, RFC 2132 section 9.14.
+    /// After an error nothing has changed.
     pub fn set_client_id(
         &mut self,
         alloc: Global,
         client_id_type: u8,
         client_id: &[u8],
     ) -> Result<&mut Self, DhcpError>
-        ensures set { Makes (λ config. config.now) result (record self.old { client_id = client_id_type ∷ client_id.now }) }
+        ensures set { Makes (λ config. config.now) result
+            (record self.old { client_id = client_id_type ∷ client_id.now }) }
         ensures same { IfOk result (λ config. config.ghost_name ≡ self.entry.ghost_name) }
         ensures* refused { sem 𝓛 (UnchangedIfRefused self.entry result) }
     {
         setter_answer(self.put_client_id(alloc, client_id_type, client_id))
     }
 
-    /// Takes the Ethernet address for the client identifier, of type 1. After an error nothing has changed.
+    /// Takes the Ethernet address for the client identifier, of type 1. After an error nothing has
+    /// changed.
     pub fn use_mac_as_client_id(&mut self, alloc: Global) -> Result<&mut Self, DhcpError>
-        ensures set { Makes (λ config. config.now) result (record self.old { client_id = 1 ∷ self.old.src_mac }) }
+        ensures set { Makes (λ config. config.now) result
+            (record self.old { client_id = 1 ∷ self.old.src_mac }) }
         ensures same { IfOk result (λ config. config.ghost_name ≡ self.entry.ghost_name) }
         ensures* refused { sem 𝓛 (UnchangedIfRefused self.entry result) }
     {
         setter_answer(self.put_mac_as_client_id(alloc))
     }
 
-    /// Takes the host name for the client identifier, of type 0; where there is none it changes nothing. Nor does an error.
+    /// Takes the host name for the client identifier, of type 0; where there is none it changes
+    /// nothing. Nor does an error.
     pub fn use_host_name_as_client_id(&mut self, alloc: Global) -> Result<&mut Self, DhcpError>
         ensures set { Makes (λ config. config.now) result (with_host_name_as_client_id self.old) }
         ensures same { IfOk result (λ config. config.ghost_name ≡ self.entry.ghost_name) }
@@ -222,28 +238,30 @@ impl DhcpV4Config {
         setter_answer(self.put_host_name_as_client_id(alloc))
     }
 
-    /// Asks for the options of these numbers too; the options asked for are then in rising order, each once. After an error
-    /// nothing has changed.
+    /// Asks for the options of these numbers too; the options asked for are then in rising order,
+    /// each once. After an error nothing has changed.
     pub fn request_extra_dhcp_opts(
         &mut self,
         alloc: Global,
         opts: &[u8],
     ) -> Result<&mut Self, DhcpError>
         ensures set { Makes (λ config. config.now) result
-            (record self.old { request_opts = rising_codes (numbers_of self.old.request_opts ++ opts.now) }) }
+            (with_extra_requests self.old opts.now) }
         ensures same { IfOk result (λ config. config.ghost_name ≡ self.entry.ghost_name) }
         ensures* refused { sem 𝓛 (UnchangedIfRefused self.entry result) }
     {
         setter_answer(self.put_extra_opts(alloc, opts))
     }
 
-    /// Asks for the options of these numbers alone, in rising order, each once. After an error nothing has changed.
+    /// Asks for the options of these numbers alone, in rising order, each once. After an error
+    /// nothing has changed.
     pub fn override_request_dhcp_opts(
         &mut self,
         alloc: Global,
         opts: &[u8],
     ) -> Result<&mut Self, DhcpError>
-        ensures set { Makes (λ config. config.now) result (record self.old { request_opts = rising_codes opts.now }) }
+        ensures set { Makes (λ config. config.now) result
+            (record self.old { request_opts = rising_codes opts.now }) }
         ensures same { IfOk result (λ config. config.ghost_name ≡ self.entry.ghost_name) }
         ensures* refused { sem 𝓛 (UnchangedIfRefused self.entry result) }
     {

@@ -13,8 +13,8 @@ use crate::message_table::server_of;
 use crate::{DhcpV4Config, DhcpV4Lease};
 use dhcp4_msg::messages_read_back;
 
-/// A message that says its lease time and neither T1 nor T2 is never refused for its times, whatever
-/// words are drawn.
+/// A message that says its lease time and neither T1 nor T2 is never refused for its times,
+/// whatever words are drawn.
 pub fn usual_times_are_in_order()
     ensures { (options : OptionMap) (words : List ℕ) → said_by seconds_said options 58 ≡ None
         → said_by seconds_said options 59 ≡ None → IsSome (said_by seconds_said options 51)

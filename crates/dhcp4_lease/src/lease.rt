@@ -160,8 +160,8 @@ impl DhcpV4Lease {
         }
     }
 
-    /// The same as `new_from_msg`, of a message that is no longer needed: its options are moved into
-    /// the lease, and not copied.
+    /// The same as `new_from_msg`, of a message that is no longer needed: its options are moved
+    /// into the lease, and not copied.
     #[tactic(auto, unfolding(crate::specs::Lease::lease_with))]
     pub fn from_message<W: Words>(
         alloc: Global,
@@ -199,9 +199,11 @@ impl DhcpV4Lease {
         }
     }
 
-    /// The option of this number as its message had it: its number, the length of its value, and the value, written again.
+    /// The option of this number as its message had it: its number, the length of its value, and
+    /// the value, written again.
     pub fn get_option_raw(&self, alloc: Global, code: u8) -> Result<Option<Vec<u8>>, DhcpError>
-        ensures { Makes (option_map vec_items) result (option_map written_option (map.get self.now.options code)) }
+        ensures { Makes (option_map vec_items) result
+            (option_map written_option (map.get self.now.options code)) }
     {
         self.options.get_data_raw(alloc, code)
     }

@@ -1,5 +1,5 @@
-//! What a DHCPv4 client is given and keeps, RFC 2131: its configuration, its lease, and the messages
-//! that it sends.
+//! What a DHCPv4 client is given and keeps, RFC 2131: its configuration, its lease, and the
+//! messages that it sends.
 #![tactic(auto)]
 
 mod config;

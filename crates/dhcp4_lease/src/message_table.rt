@@ -35,13 +35,14 @@ pub fn new_request(
     lease: &DhcpV4Lease,
 ) -> Result<DhcpV4Message, DhcpError>
     requires { IsTrue (is_within_limits config.now) }
-    ensures { Makes (λ message. message) result (table_message xid config.now (table.request lease.now)) }
+    ensures { Makes (λ message. message) result
+        (table_message xid config.now (table.request lease.now)) }
 {
     message_of(alloc, xid, config, Row::request(lease))
 }
 
-/// The Request of a lease that the client held before, in state INIT-REBOOT: it names the address and
-/// no server (RFC 2131, section 4.3.2).
+/// The Request of a lease that the client held before, in state INIT-REBOOT: it names the address
+/// and no server (RFC 2131, section 4.3.2).
 pub fn new_reboot_request(
     alloc: Global,
     xid: u32,
@@ -49,7 +50,8 @@ pub fn new_reboot_request(
     lease: &DhcpV4Lease,
 ) -> Result<DhcpV4Message, DhcpError>
     requires { IsTrue (is_within_limits config.now) }
-    ensures { Makes (λ message. message) result (table_message xid config.now (table.reboot lease.now)) }
+    ensures { Makes (λ message. message) result
+        (table_message xid config.now (table.reboot lease.now)) }
 {
     message_of(alloc, xid, config, Row::reboot(lease))
 }
@@ -62,7 +64,8 @@ pub fn new_renew(
     lease: &DhcpV4Lease,
 ) -> Result<DhcpV4Message, DhcpError>
     requires { IsTrue (is_within_limits config.now) }
-    ensures { Makes (λ message. message) result (table_message xid config.now (table.extend lease.now)) }
+    ensures { Makes (λ message. message) result
+        (table_message xid config.now (table.extend lease.now)) }
 {
     message_of(alloc, xid, config, Row::extend(lease))
 }
@@ -76,7 +79,8 @@ pub fn new_rebind(
     lease: &DhcpV4Lease,
 ) -> Result<DhcpV4Message, DhcpError>
     requires { IsTrue (is_within_limits config.now) }
-    ensures { Makes (λ message. message) result (table_message xid config.now (table.extend lease.now)) }
+    ensures { Makes (λ message. message) result
+        (table_message xid config.now (table.extend lease.now)) }
 {
     message_of(alloc, xid, config, Row::extend(lease))
 }
@@ -89,7 +93,8 @@ pub fn new_release(
     lease: &DhcpV4Lease,
 ) -> Result<DhcpV4Message, DhcpError>
     requires { IsTrue (is_within_limits config.now) }
-    ensures { Makes (λ message. message) result (table_message xid config.now (table.release lease.now)) }
+    ensures { Makes (λ message. message) result
+        (table_message xid config.now (table.release lease.now)) }
 {
     message_of(alloc, xid, config, Row::release(lease))
 }
@@ -181,7 +186,6 @@ pub(crate) fn server_of(lease: &DhcpV4Lease) -> Ipv4Addr
 }
 
 // The message of a row.
-#[tactic(auto, unfolding(crate::specs::MessageTable::table_message, dhcp4_msg::specs::Message::empty_message))]
 fn message_of(
     alloc: Global,
     xid: u32,
@@ -209,10 +213,11 @@ fn hardware_address(mac: [u8; 6]) -> [u8; 16]
 }
 
 // The options of a row.
-#[tactic(auto, unfolding(crate::specs::Config::is_within_limits, dhcp4_msg::specs::Value::fits, dhcp4_msg::specs::Value::written_value, dhcp4_msg::specs::MessageType::type_number), using(std::proofs::lemmas::Grind::common_steps))]
+#[tactic(auto, using(crate::proofs::OptionLemmas::fitting))]
 fn options_of(alloc: Global, config: &DhcpV4Config, row: Row) -> Result<DhcpV4Options, DhcpError>
     requires { IsTrue (is_within_limits config.now) }
-    ensures { Makes (λ options. options) result (table.with_options map.empty (table.options_of config.now row)) }
+    ensures { Makes (λ options. options) result
+        (table.with_options map.empty (table.options_of config.now row)) }
 {
     let mut options = DhcpV4Options::new(alloc);
     add_host_name(&mut options, config.host_name.try_clone(alloc)?)?;

@@ -1,4 +1,5 @@
-//! The steps of the setters that may refuse: each changes the configuration and hands on its reference, or leaves it as it was.
+//! The steps of the setters that may refuse: each changes the configuration and hands on its
+//! reference, or leaves it as it was.
 
 ghost use Rattle.std.specs.Prelude.{◌≡◌, ◌∷◌, ◌++◌, IfOk};
 ghost use Rattle.std.specs.Borrow.{sem};
@@ -10,6 +11,7 @@ ghost use Rattle.dhcp4_lease.specs.Config.{
   mac_of_text,
   numbers_of,
   rising_codes,
+  with_extra_requests,
   with_host_name_as_client_id,
   with_mac,
 };
@@ -26,8 +28,10 @@ impl DhcpV4Config {
         alloc: Global,
         mac: &str,
     ) -> Result<SetterStep<'_, DhcpV4Config>, DhcpError>
-        ensures set { Gives (λ config. config.now) (setter_answer result) (with_mac self.old (mac_of_text mac.now)) }
-        ensures same { IfOk (setter_answer result) (λ config. config.ghost_name ≡ self.entry.ghost_name) }
+        ensures set { Gives (λ config. config.now) (setter_answer result)
+            (with_mac self.old (mac_of_text mac.now)) }
+        ensures same { IfOk (setter_answer result)
+            (λ config. config.ghost_name ≡ self.entry.ghost_name) }
         ensures* refused { sem 𝓛 (UnchangedIfRefused self.entry (setter_answer result)) }
     {
         self.src_mac = mac_of_text(alloc, mac)?;
@@ -37,8 +41,10 @@ impl DhcpV4Config {
     // Puts this Ethernet address.
     #[tactic(auto, unfolding(crate::specs::Config::with_mac))]
     pub(crate) fn put_mac(&mut self, mac: &[u8]) -> Result<SetterStep<'_, DhcpV4Config>, DhcpError>
-        ensures set { Answers (λ config. config.now) (setter_answer result) (with_mac self.old (mac_of_bytes mac.now)) }
-        ensures same { IfOk (setter_answer result) (λ config. config.ghost_name ≡ self.entry.ghost_name) }
+        ensures set { Answers (λ config. config.now) (setter_answer result)
+            (with_mac self.old (mac_of_bytes mac.now)) }
+        ensures same { IfOk (setter_answer result)
+            (λ config. config.ghost_name ≡ self.entry.ghost_name) }
         ensures* refused { sem 𝓛 (UnchangedIfRefused self.entry (setter_answer result)) }
     {
         self.src_mac = mac_of_bytes(mac)?;
@@ -51,8 +57,10 @@ impl DhcpV4Config {
         alloc: Global,
         host_name: &str,
     ) -> Result<SetterStep<'_, DhcpV4Config>, DhcpError>
-        ensures set { Makes (λ config. config.now) (setter_answer result) (record self.old { host_name = host_name.now }) }
-        ensures same { IfOk (setter_answer result) (λ config. config.ghost_name ≡ self.entry.ghost_name) }
+        ensures set { Makes (λ config. config.now) (setter_answer result)
+            (record self.old { host_name = host_name.now }) }
+        ensures same { IfOk (setter_answer result)
+            (λ config. config.ghost_name ≡ self.entry.ghost_name) }
         ensures* refused { sem 𝓛 (UnchangedIfRefused self.entry (setter_answer result)) }
     {
         self.host_name = Text::from_str(alloc, host_name)?;
@@ -68,7 +76,8 @@ impl DhcpV4Config {
     ) -> Result<SetterStep<'_, DhcpV4Config>, DhcpError>
         ensures set { Makes (λ config. config.now) (setter_answer result)
             (record self.old { client_id = client_id_type ∷ client_id.now }) }
-        ensures same { IfOk (setter_answer result) (λ config. config.ghost_name ≡ self.entry.ghost_name) }
+        ensures same { IfOk (setter_answer result)
+            (λ config. config.ghost_name ≡ self.entry.ghost_name) }
         ensures* refused { sem 𝓛 (UnchangedIfRefused self.entry (setter_answer result)) }
     {
         self.client_id = joined(alloc, client_id_type, client_id)?;
@@ -80,8 +89,10 @@ impl DhcpV4Config {
         &mut self,
         alloc: Global,
     ) -> Result<SetterStep<'_, DhcpV4Config>, DhcpError>
-        ensures set { Makes (λ config. config.now) (setter_answer result) (record self.old { client_id = 1 ∷ self.old.src_mac }) }
-        ensures same { IfOk (setter_answer result) (λ config. config.ghost_name ≡ self.entry.ghost_name) }
+        ensures set { Makes (λ config. config.now) (setter_answer result)
+            (record self.old { client_id = 1 ∷ self.old.src_mac }) }
+        ensures same { IfOk (setter_answer result)
+            (λ config. config.ghost_name ≡ self.entry.ghost_name) }
         ensures* refused { sem 𝓛 (UnchangedIfRefused self.entry (setter_answer result)) }
     {
         self.client_id = joined(alloc, 1, &self.src_mac)?;
@@ -94,8 +105,10 @@ impl DhcpV4Config {
         &mut self,
         alloc: Global,
     ) -> Result<SetterStep<'_, DhcpV4Config>, DhcpError>
-        ensures set { Makes (λ config. config.now) (setter_answer result) (with_host_name_as_client_id self.old) }
-        ensures same { IfOk (setter_answer result) (λ config. config.ghost_name ≡ self.entry.ghost_name) }
+        ensures set { Makes (λ config. config.now) (setter_answer result)
+            (with_host_name_as_client_id self.old) }
+        ensures same { IfOk (setter_answer result)
+            (λ config. config.ghost_name ≡ self.entry.ghost_name) }
         ensures* refused { sem 𝓛 (UnchangedIfRefused self.entry (setter_answer result)) }
     {
         if !self.host_name.is_empty() {
@@ -111,8 +124,9 @@ impl DhcpV4Config {
         opts: &[u8],
     ) -> Result<SetterStep<'_, DhcpV4Config>, DhcpError>
         ensures set { Makes (λ config. config.now) (setter_answer result)
-            (record self.old { request_opts = rising_codes (numbers_of self.old.request_opts ++ opts.now) }) }
-        ensures same { IfOk (setter_answer result) (λ config. config.ghost_name ≡ self.entry.ghost_name) }
+            (with_extra_requests self.old opts.now) }
+        ensures same { IfOk (setter_answer result)
+            (λ config. config.ghost_name ≡ self.entry.ghost_name) }
         ensures* refused { sem 𝓛 (UnchangedIfRefused self.entry (setter_answer result)) }
     {
         let mut numbers = numbers_of(alloc, self.request_opts.as_slice())?;
@@ -127,8 +141,10 @@ impl DhcpV4Config {
         alloc: Global,
         opts: &[u8],
     ) -> Result<SetterStep<'_, DhcpV4Config>, DhcpError>
-        ensures set { Makes (λ config. config.now) (setter_answer result) (record self.old { request_opts = rising_codes opts.now }) }
-        ensures same { IfOk (setter_answer result) (λ config. config.ghost_name ≡ self.entry.ghost_name) }
+        ensures set { Makes (λ config. config.now) (setter_answer result)
+            (record self.old { request_opts = rising_codes opts.now }) }
+        ensures same { IfOk (setter_answer result)
+            (λ config. config.ghost_name ≡ self.entry.ghost_name) }
         ensures* refused { sem 𝓛 (UnchangedIfRefused self.entry (setter_answer result)) }
     {
         self.request_opts = rising_codes(alloc, opts)?;

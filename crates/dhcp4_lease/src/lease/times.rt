@@ -27,7 +27,8 @@ impl LeaseTimes {
     }
 }
 
-/// The times of a message with these options, if it has a lease time and its times are in order. Words that were drawn stay drawn.
+/// The times of a message with these options, if it has a lease time and its times are in order.
+/// Words that were drawn stay drawn.
 #[tactic(auto, unfolding(crate::specs::Lease::read_times, dhcp4_msg::specs::OptionCode::number_of))]
 pub fn read_times<W: Words>(options: &DhcpV4Options, words: &mut W) -> Option<LeaseTimes>
     ensures drawn { Draws (W.left words.old) (W.left words.new)
