@@ -101,14 +101,27 @@ fn a_message_without_a_lease_time_or_out_of_order_is_refused(rt: HostRuntime) ->
     Ok(())
 }
 
-// The lease that a usual server's acknowledgement grants; it draws no word.
+// The options of a usual server's acknowledgement; their lease draws no word.
+const USUAL: [u8; 66] = [
+    0x35, 1, 5, 0x36, 4, 192, 0, 2, 1, 0x33, 4, 0, 0, 0x0e, 0x10, 0x3a, 4, 0, 0, 7, 8, 0x3b, 4, 0,
+    0, 0x0c, 0x4e, 1, 4, 255, 255, 255, 0, 0x1c, 4, 192, 0, 2, 255, 3, 4, 192, 0, 2, 1, 6, 4, 192,
+    0, 2, 1, 0x0c, 3, 0x66, 0x6f, 0x6f, 0x0f, 3, 0x6c, 0x61, 0x6e, 255, 0, 0, 0, 0,
+];
+
+// The lease of those options.
 fn usual_lease(alloc: Global) -> Result<DhcpV4Lease, Fail> {
-    let options = [
-        0x35, 1, 5, 0x36, 4, 192, 0, 2, 1, 0x33, 4, 0, 0, 0x0e, 0x10, 0x3a, 4, 0, 0, 7, 8, 0x3b, 4,
-        0, 0, 0x0c, 0x4e, 1, 4, 255, 255, 255, 0, 0x1c, 4, 192, 0, 2, 255, 3, 4, 192, 0, 2, 1, 6,
-        4, 192, 0, 2, 1, 0x0c, 3, 0x66, 0x6f, 0x6f, 0x0f, 3, 0x6c, 0x61, 0x6e, 255, 0, 0, 0, 0,
-    ];
-    lease(alloc, &options, &[])
+    lease(alloc, &USUAL, &[])
+}
+
+// The same lease, of a message that is moved into it.
+fn moved_lease(alloc: Global) -> Result<DhcpV4Lease, DhcpError> {
+    let mut words = WordList::new(Vec::new(alloc));
+    DhcpV4Lease::from_message(alloc, message(alloc, &USUAL)?, &mut words)
+}
+
+// Whether a lease is equal to that one.
+fn is_moved(alloc: Global, lease: &DhcpV4Lease) -> Result<bool, DhcpError> {
+    Ok(moved_lease(alloc)? == *lease)
 }
 
 #[test]
@@ -137,6 +150,14 @@ fn the_acknowledgement_of_a_usual_server_has_its_names(rt: HostRuntime) -> Resul
     let lease = usual_lease(rt.alloc())?;
     assert!(rt; says(&lease.host_name, "foo"));
     assert!(rt; says(&lease.domain_name, "lan"));
+    Ok(())
+}
+
+#[test]
+fn a_message_may_be_moved_into_its_lease(rt: HostRuntime) -> Result<(), Fail> {
+    let lease = usual_lease(rt.alloc())?;
+    assert!(rt; lease.are_times_in_order());
+    assert!(rt; is_moved(rt.alloc(), &lease)?);
     Ok(())
 }
 
