@@ -10,7 +10,7 @@ use Rattle.dhcp4_msg.specs.declared.option_code.DhcpV4OptionCode.{DhcpV4OptionCo
 use Rattle.dhcp4_msg.specs.OptionCode.{code_of, number_of}
 
 -- what contracts see of a configuration: the interface, whether the client asks for another host,
--- the time limit in seconds, the Ethernet address, the client identifier with its type byte, the
+-- the time limit in seconds, the MAC address, the client identifier with its type byte, the
 -- host name, and the options that are asked for
 pub record Config : Type 0 where
   pub iface_name : List ℕ
@@ -22,9 +22,9 @@ pub record Config : Type 0 where
   pub host_name : List ℕ
   pub request_opts : List DhcpV4OptionCode
 
--- the numbers of the options that a client usually asks for
-abbrev pub usual_numbers : List ℕ
-usual_numbers = 12 ∷ 1 ∷ 3 ∷ 6 ∷ 15 ∷ 26 ∷ 42 ∷ 121 ∷ 249 ∷ []
+-- the option codes of the default parameter request list
+abbrev pub default_requests : List ℕ
+default_requests = 12 ∷ 1 ∷ 3 ∷ 6 ∷ 15 ∷ 26 ∷ 42 ∷ 121 ∷ 249 ∷ []
 
 -- a configuration of this interface with nothing else set
 unfoldable pub config_of : List ℕ → Config
@@ -36,14 +36,14 @@ config_of name = record {
   src_mac = replicate 6 0;
   client_id = [];
   host_name = [];
-  request_opts = map code_of usual_numbers;
+  request_opts = map code_of default_requests;
 }
 
--- an Ethernet address: six bytes
+-- an MAC address: six bytes
 abbrev pub mac_of_bytes : List ℕ → Result (List ℕ) ErrorKind
 mac_of_bytes bytes = if length bytes == 6 then Ok bytes else Err NotSupported
 
--- the Ethernet address that a text writes
+-- the MAC address that a text writes
 unfoldable pub mac_of_text : List ℕ → Result (List ℕ) ErrorKind
 mac_of_text text = six (bytes_of_mac text)
   where
@@ -51,7 +51,7 @@ mac_of_text text = six (bytes_of_mac text)
     six (Ok bytes) = mac_of_bytes bytes
     six (Err kind) = Err kind
 
--- a configuration with this Ethernet address, where there is one
+-- a configuration with this MAC address, if there is one
 unfoldable pub with_mac : Config → Result (List ℕ) ErrorKind → Result Config ErrorKind
 with_mac config (Ok mac) = Ok (record config { src_mac = mac })
 with_mac config (Err kind) = Err kind

@@ -1,4 +1,4 @@
-//! The configuration of a client.
+//! The configuration of a client: what it sends of itself, RFC 2131 table 5, and how long it tries.
 
 mod setters;
 
@@ -27,24 +27,28 @@ use std::alloc::Global;
 use std::collections::BTreeSet;
 use std::marker::Model;
 
-// The numbers of the options that a client usually asks for.
-const USUAL_NUMBERS: [u8; 9] = [12, 1, 3, 6, 15, 26, 42, 121, 249];
+// The option codes of the default parameter request list.
+const DEFAULT_REQUESTS: [u8; 9] = [12, 1, 3, 6, 15, 26, 42, 121, 249];
 
 /// The configuration of a client. Contracts see it as the record of its fields.
 #[derive(Debug, PartialEq, Eq, Drop)]
 pub struct DhcpV4Config {
-    /// The name of the interface.
+    /// The name of the network interface.
     pub iface_name: Text,
-    /// The index of the interface; 0 is none.
+    /// The index of the network interface; 0 is none.
     pub iface_index: u32,
-    /// Whether the client asks for another host, whose address its packets then come from.
+    /// Whether the client obtains a lease for another host, from whose MAC address it sends.
     pub is_proxy: bool,
     /// How long the client stays in a state without a lease before it gives up, in seconds; 0 is
-    /// for ever.
+    /// no limit.
     pub timeout_sec: u32,
+    // The MAC address, which is sent as chaddr.
     pub(crate) src_mac: [u8; 6],
+    // The client identifier, option 61: its type, then its bytes.
     pub(crate) client_id: Bytes,
+    // The host name, option 12; empty is none.
     pub(crate) host_name: Text,
+    // The parameter request list, option 55.
     pub(crate) request_opts: Sequence<DhcpV4OptionCode>,
 }
 
@@ -77,15 +81,16 @@ impl Model for DhcpV4Config {
 }
 
 impl DhcpV4Config {
-    /// A configuration with nothing set: no interface, the Ethernet address zero, and the options
-    /// that are usually asked for.
+    /// A configuration with nothing set: no interface, the MAC address 00:00:00:00:00:00, and the
+    /// default parameter request list. Out of memory is the only error.
     pub fn empty(alloc: Global) -> Result<Self, DhcpError>
         ensures { Makes (λ config. config) result (config_of []) }
     {
         DhcpV4Config::new(alloc, "")
     }
 
-    /// A configuration of the interface of this name, with nothing else set.
+    /// A configuration of the interface of this name, with nothing else set. Out of memory is the
+    /// only error.
     #[tactic(auto, unfolding(crate::specs::Config::config_of))]
     pub fn new(alloc: Global, iface_name: &str) -> Result<Self, DhcpError>
         ensures { Makes (λ config. config) result (config_of iface_name.now) }
@@ -98,13 +103,13 @@ impl DhcpV4Config {
             src_mac: [0; 6],
             client_id: Bytes::new(alloc),
             host_name: Text::new(alloc),
-            request_opts: codes_of(alloc, &USUAL_NUMBERS)?,
+            request_opts: codes_of(alloc, &DEFAULT_REQUESTS)?,
         })
     }
 
-    /// A configuration that asks for another host, of this Ethernet address, on the interface of
-    /// this name. `InvalidArgument` where the text is no bytes in hex with colons between them,
-    /// `NotSupported` exactly where they are not six.
+    /// A configuration that obtains a lease for another host, of this MAC address, on the interface
+    /// of this name. `InvalidArgument` if and only if the text is not bytes in hex with colons
+    /// between them, `NotSupported` if and only if they are not six.
     #[tactic(auto, unfolding(crate::specs::Config::with_mac))]
     pub fn new_proxy(
         alloc: Global,
@@ -120,9 +125,9 @@ impl DhcpV4Config {
         Ok(config)
     }
 
-    /// Whether its values fit their options, as the client and its messages want: the host name has
-    /// at most 254 bytes and no zero byte, the client identifier has at most 255 bytes, and at most
-    /// 255 options are asked for.
+    /// Whether its values fit their options, as each message of a client asks: the host name has at
+    /// most 254 bytes and no zero byte, the client identifier has at most 255 bytes, and the
+    /// parameter request list has at most 255 option codes.
     #[tactic(auto, unfolding(crate::specs::Config::is_within_limits))]
     pub fn is_within_limits(&self) -> bool
         ensures { result ≡ is_within_limits self.now }
@@ -133,7 +138,7 @@ impl DhcpV4Config {
             && self.request_opts.len() <= 255
     }
 
-    /// A copy.
+    /// A copy. Out of memory is the only error.
     pub fn try_clone(&self, alloc: Global) -> Result<Self, DhcpError>
         ensures { Makes (λ config. config) result self.now }
     {
@@ -149,7 +154,7 @@ impl DhcpV4Config {
         })
     }
 
-    /// Sets the index of the interface.
+    /// Sets the index of the network interface; 0 is none.
     pub fn set_iface_index(&mut self, index: u32) -> &mut Self
         ensures set { result.now ≡ record self.old { iface_index = index } }
         ensures same { result.ghost_name ≡ self.entry.ghost_name }
@@ -158,7 +163,7 @@ impl DhcpV4Config {
         self
     }
 
-    /// Sets how long the client stays in a state without a lease, in seconds; 0 is for ever.
+    /// Sets how long the client stays in a state without a lease, in seconds; 0 is no limit.
     pub fn set_timeout_sec(&mut self, timeout_sec: u32) -> &mut Self
         ensures set { result.now ≡ record self.old { timeout_sec = timeout_sec } }
         ensures same { result.ghost_name ≡ self.entry.ghost_name }
@@ -167,7 +172,7 @@ impl DhcpV4Config {
         self
     }
 
-    /// Sets the Ethernet address from a text as `01:02:2a:2c:f7:04`. `InvalidArgument` where it is
+    /// Sets the MAC address from a text such as `01:02:2a:2c:f7:04`. `InvalidArgument` where it is
     /// no bytes in hex with colons between them, `NotSupported` exactly where they are not six;
     /// after an error nothing has changed.
     pub fn set_iface_mac(&mut self, alloc: Global, mac: &str) -> Result<&mut Self, DhcpError>
@@ -179,7 +184,7 @@ impl DhcpV4Config {
         setter_answer(self.put_mac_text(alloc, mac))
     }
 
-    /// Sets the Ethernet address. `NotSupported` exactly where it is not six bytes; after an error
+    /// Sets the MAC address. `NotSupported` if and only if it is not six bytes; after an error
     /// nothing has changed.
     pub fn set_iface_mac_raw(&mut self, mac: &[u8]) -> Result<&mut Self, DhcpError>
         ensures set { Answers (λ config. config.now) result
@@ -190,8 +195,8 @@ impl DhcpV4Config {
         setter_answer(self.put_mac(mac))
     }
 
-    /// Sets the host name, which the client sends as option 12 where it isn't empty. After an error
-    /// nothing has changed.
+    /// Sets the host name, which the client sends as option 12 if it is not empty (RFC 2132,
+    /// section 3.14). After an error nothing has changed.
     pub fn set_host_name(&mut self, alloc: Global, host_name: &str) -> Result<&mut Self, DhcpError>
         ensures set { Makes (λ config. config.now) result
             (record self.old { host_name = host_name.now }) }
@@ -217,8 +222,8 @@ impl DhcpV4Config {
         setter_answer(self.put_client_id(alloc, client_id_type, client_id))
     }
 
-    /// Takes the Ethernet address for the client identifier, of type 1. After an error nothing has
-    /// changed.
+    /// Takes the MAC address for the client identifier, of type 1 (RFC 2132, section 9.14). After
+    /// an error nothing has changed.
     pub fn use_mac_as_client_id(&mut self, alloc: Global) -> Result<&mut Self, DhcpError>
         ensures set { Makes (λ config. config.now) result
             (record self.old { client_id = 1 ∷ self.old.src_mac }) }
@@ -228,7 +233,7 @@ impl DhcpV4Config {
         setter_answer(self.put_mac_as_client_id(alloc))
     }
 
-    /// Takes the host name for the client identifier, of type 0; where there is none it changes
+    /// Takes the host name for the client identifier, of type 0; if there is none it changes
     /// nothing. Nor does an error.
     pub fn use_host_name_as_client_id(&mut self, alloc: Global) -> Result<&mut Self, DhcpError>
         ensures set { Makes (λ config. config.now) result (with_host_name_as_client_id self.old) }
@@ -269,7 +274,7 @@ impl DhcpV4Config {
     }
 }
 
-// The Ethernet address that a text writes.
+// The MAC address that a text writes.
 #[tactic(auto, unfolding(crate::specs::Config::mac_of_text))]
 pub(crate) fn mac_of_text(alloc: Global, mac: &str) -> Result<[u8; 6], DhcpError>
     ensures { Gives (λ mac. mac) result (mac_of_text mac.now) }
@@ -278,7 +283,7 @@ pub(crate) fn mac_of_text(alloc: Global, mac: &str) -> Result<[u8; 6], DhcpError
     mac_of_bytes(bytes.as_slice())
 }
 
-// The Ethernet address of these bytes, of which there have to be six.
+// The MAC address of these bytes, of which there have to be six.
 pub(crate) fn mac_of_bytes(bytes: &[u8]) -> Result<[u8; 6], DhcpError>
     ensures { Answers (λ mac. mac) result (mac_of_bytes bytes.now) }
 {

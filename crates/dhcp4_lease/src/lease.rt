@@ -1,4 +1,4 @@
-//! A lease.
+//! A lease, and how it is read from a message: RFC 2131 sections 3.1 and 4.4.5.
 
 mod times;
 
@@ -21,40 +21,40 @@ use std::alloc::Global;
 use std::marker::Model;
 use std::net::Ipv4Addr;
 
-/// A lease. Contracts see it as the record of its fields.
+/// A lease, RFC 2131. Contracts see it as the record of its fields.
 #[derive(Debug, PartialEq, Drop)]
 pub struct DhcpV4Lease {
-    /// The address of the next server, of the message's header; servers often leave it 0.0.0.0.
+    /// The next server, siaddr (RFC 2131, section 2); servers often leave it 0.0.0.0.
     pub siaddr: Ipv4Addr,
-    /// The address that is leased.
+    /// The address that is leased, yiaddr (RFC 2131, section 2).
     pub yiaddr: Ipv4Addr,
-    /// T1: when it is renewed, in seconds.
+    /// T1: when it is renewed, in seconds (RFC 2132, section 9.11).
     pub t1_sec: u32,
-    /// T2: when it is rebound, in seconds; not before T1.
+    /// T2: when it is rebound, in seconds; not before T1 (RFC 2132, section 9.12).
     pub t2_sec: u32,
-    /// When it ends, in seconds; not before T2.
+    /// When it ends, in seconds; not before T2 (RFC 2132, section 9.2).
     pub lease_time_sec: u32,
-    /// The server identifier, option 54; 0.0.0.0 where it is absent.
+    /// The server identifier, option 54; 0.0.0.0 if it is absent (RFC 2132, section 9.7).
     pub srv_id: Ipv4Addr,
-    /// The subnet mask, option 1; 0.0.0.0 where it is absent.
+    /// The subnet mask, option 1; 0.0.0.0 if it is absent (RFC 2132, section 3.3).
     pub subnet_mask: Ipv4Addr,
-    /// The broadcast address, option 28.
+    /// The broadcast address, option 28 (RFC 2132, section 5.3).
     pub broadcast_addr: Option<Ipv4Addr>,
-    /// The name servers, option 6.
+    /// The domain name servers, option 6 (RFC 2132, section 3.8).
     pub dns_srvs: Option<Sequence<Ipv4Addr>>,
-    /// The routers, option 3.
+    /// The routers, option 3 (RFC 2132, section 3.5).
     pub gateways: Option<Sequence<Ipv4Addr>>,
-    /// The time servers, option 42.
+    /// The NTP servers, option 42 (RFC 2132, section 8.3).
     pub ntp_srvs: Option<Sequence<Ipv4Addr>>,
-    /// The greatest size of a packet on the interface, option 26, in bytes.
+    /// The MTU of the interface, option 26, in bytes (RFC 2132, section 5.1).
     pub mtu: Option<u16>,
-    /// The host name, option 12.
+    /// The host name, option 12 (RFC 2132, section 3.14).
     pub host_name: Option<Text>,
-    /// The domain, option 15.
+    /// The domain name, option 15 (RFC 2132, section 3.17).
     pub domain_name: Option<Text>,
-    /// The routes of option 121, or of option 249 where that is absent.
+    /// The routes of option 121, or of option 249 if that is absent (RFC 3442).
     pub classless_routes: Option<Sequence<DhcpV4ClasslessRoute>>,
-    /// The server's Ethernet address: always all ones.
+    /// The MAC address of the server: always ff:ff:ff:ff:ff:ff, the broadcast address.
     pub srv_mac: [u8; 6],
     options: DhcpV4Options,
 }
@@ -110,7 +110,7 @@ impl Model for DhcpV4Lease {
 }
 
 impl DhcpV4Lease {
-    /// A lease with every address and time zero and nothing else; takes no memory.
+    /// A lease with every address 0.0.0.0, every time zero and no option. Does not allocate.
     #[tactic(auto, unfolding(crate::specs::Lease::empty_lease))]
     pub fn empty(alloc: Global) -> Self
         ensures { result ≡ empty_lease }
@@ -199,8 +199,8 @@ impl DhcpV4Lease {
         }
     }
 
-    /// The option of this number as its message had it: its number, the length of its value, and
-    /// the value, written again.
+    /// The option of this code as its message had it: its code, the length of its value, and the
+    /// value, written again. Out of memory is the only error.
     pub fn get_option_raw(&self, alloc: Global, code: u8) -> Result<Option<Vec<u8>>, DhcpError>
         ensures { Makes (option_map vec_items) result
             (option_map written_option (map.get self.now.options code)) }
@@ -208,14 +208,14 @@ impl DhcpV4Lease {
         self.options.get_data_raw(alloc, code)
     }
 
-    /// The width of the subnet, in bits: how many bits of its mask are one.
+    /// The prefix length of the subnet: how many bits of its mask are one.
     pub fn prefix_length(&self) -> u8
         ensures { result ≡ count_ones (ipv4_bits self.now.subnet_mask) }
     {
         self.subnet_mask.to_bits().count_ones() as u8
     }
 
-    /// A copy.
+    /// A copy. Out of memory is the only error.
     pub fn try_clone(&self, alloc: Global) -> Result<Self, DhcpError>
         ensures { Makes (λ lease. lease) result self.now }
     {

@@ -1,4 +1,4 @@
-//! The steps of the setters that may refuse: each changes the configuration and hands on its
+//! The steps of the setters that may refuse: each changes the configuration and returns its
 //! reference, or leaves it as it was.
 
 ghost use Rattle.std.specs.Prelude.{◌≡◌, ◌∷◌, ◌++◌, IfOk};
@@ -21,7 +21,7 @@ use dhcp_wire::{DhcpError, SetterStep, Text};
 use std::alloc::Global;
 
 impl DhcpV4Config {
-    // Puts the Ethernet address that a text writes.
+    // Puts the MAC address that a text writes.
     #[tactic(auto, unfolding(crate::specs::Config::with_mac))]
     pub(crate) fn put_mac_text(
         &mut self,
@@ -38,7 +38,7 @@ impl DhcpV4Config {
         Ok(SetterStep { value: self })
     }
 
-    // Puts this Ethernet address.
+    // Puts this MAC address.
     #[tactic(auto, unfolding(crate::specs::Config::with_mac))]
     pub(crate) fn put_mac(&mut self, mac: &[u8]) -> Result<SetterStep<'_, DhcpV4Config>, DhcpError>
         ensures set { Answers (λ config. config.now) (setter_answer result)
@@ -84,7 +84,7 @@ impl DhcpV4Config {
         Ok(SetterStep { value: self })
     }
 
-    // Puts the Ethernet address as client identifier, of type 1.
+    // Puts the MAC address as client identifier, of type 1.
     pub(crate) fn put_mac_as_client_id(
         &mut self,
         alloc: Global,
@@ -99,7 +99,7 @@ impl DhcpV4Config {
         Ok(SetterStep { value: self })
     }
 
-    // Puts the host name as client identifier, of type 0, where there is one.
+    // Puts the host name as client identifier, of type 0, if there is one.
     #[tactic(auto, unfolding(crate::specs::Config::with_host_name_as_client_id))]
     pub(crate) fn put_host_name_as_client_id(
         &mut self,
@@ -117,7 +117,7 @@ impl DhcpV4Config {
         Ok(SetterStep { value: self })
     }
 
-    // Puts the codes asked for and these.
+    // Puts the codes that are requested, and these.
     pub(crate) fn put_extra_opts(
         &mut self,
         alloc: Global,

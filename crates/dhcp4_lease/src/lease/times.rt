@@ -10,16 +10,16 @@ use dhcp4_msg::{DhcpV4OptionCode, DhcpV4Options};
 /// The times of a lease, in seconds.
 #[derive(Clone, Copy)]
 pub struct LeaseTimes {
-    /// T1: when it is renewed.
+    /// T1, in seconds: when it is renewed.
     pub t1_sec: u32,
-    /// T2: when it is rebound.
+    /// T2, in seconds: when it is rebound.
     pub t2_sec: u32,
-    /// When it ends.
+    /// When it ends, in seconds.
     pub lease_time_sec: u32,
 }
 
 impl LeaseTimes {
-    // Whether a lease of these times is renewed before it is rebound, and that before it ends.
+    /// Whether a lease of these times is renewed before it is rebound, and that before it ends.
     pub fn are_in_order(&self) -> bool
         ensures { result ≡ leases.are_in_order self.now }
     {
