@@ -1,25 +1,23 @@
 -- The messages of the table are ones that read back.
-use Rattle.std.proofs.Common.{◌≡◌, ℕ, zero, suc, ◌<◌, ◌≤◌, ◌^◌, Bool, true, false, ◌==◌, cond, not, List, [], ◌∷◌, ◌++◌, length, replicate, slice_index, IsTrue, IfSome, Option, Some, None, refl, sym, ◌∙◌, arith, length-append, lit<}
-use Rattle.std.specs.List.{AllByRecursion, list_any}
+use Rattle.std.proofs.Common.{◌≡◌, ℕ, zero, suc, ◌<◌, ◌^◌, true, false, cond, List, [], ◌∷◌, ◌++◌, replicate, slice_index, IsTrue, IfSome, Option, Some, None, refl, sym, ◌∙◌, arith, length-append, lit<}
+use Rattle.std.specs.List.{AllByRecursion}
 use Rattle.std.specs.Cmp.{nat_cmp_total, unsigned_tied}
 use Rattle.std.specs.Ordering.{nat_cmp, eq_by_cmp}
 use Rattle.std.specs.FinMap.{get, insert, empty, get-insert, get-empty}
 use Rattle.std.specs.declared.net.Ipv4Addr.{Ipv4Addr}
-use Rattle.std.proofs.lemmas.Bool.{and_parts, and_from, or_parts, eqb-true, eqb-false, le-leb, leb-true}
-use Rattle.std.proofs.lemmas.List.{length-map}
+use Rattle.std.proofs.lemmas.Bool.{eqb-true}
 use Rattle.std.proofs.lemmas.Str.{IsUtf8-nil}
 use Rattle.std.proofs.lemmas.Option.{none-some, same_Some}
-use Rattle.dhcp_wire.specs.Field.{HasNoZero, FitsField}
-use Rattle.dhcp4_msg.specs.declared.option_code.DhcpV4OptionCode.{DhcpV4OptionCode}
+use Rattle.dhcp_wire.specs.Field.{FitsField}
 use Rattle.dhcp4_msg.specs.declared.message_type.DhcpV4MessageType.{DhcpV4MessageType}
 use Rattle.dhcp4_msg.specs.declared.option.DhcpV4Option.{DhcpV4Option}
 use Rattle.dhcp4_msg.specs.declared.option.DhcpV4Option.TheVariants.{HostName, RequestedIpAddress, MessageType, ServerIdentifier, ParameterRequestList, ClientIdentifier}
 use Rattle.dhcp4_msg.specs.OptionCode.{number_of}
 use Rattle.dhcp4_msg.specs.declared.message.DhcpV4Message.{DhcpV4Message}
-use Rattle.dhcp4_msg.specs.Laws.{IsWhole, FitsOption, ReadsBack, ReadsBackUnder, OptionsReadBack, MessageReadsBack, read_back}
+use Rattle.dhcp4_msg.specs.Laws.{FitsOption, ReadsBack, ReadsBackUnder, OptionsReadBack, MessageReadsBack, read_back}
 use Rattle.dhcp4_msg.specs.Message.{no_address, read_message, written_message}
 use Rattle.dhcp4_msg.specs.Options.{OptionMap}
-use Rattle.dhcp4_msg.specs.Value.{option_code, option_number, fits, written_value}
+use Rattle.dhcp4_msg.specs.Value.{option_code, option_number, fits}
 use Rattle.std.specs.Net.Addr.{ipv4_octets, IsIpv4Addr}
 use Rattle.dhcp4_lease.specs.declared.message_table.Row.{Row}
 use Rattle.dhcp4_lease.specs.Config.{Config, is_within_limits}

@@ -11,7 +11,7 @@ ghost use Rattle.dhcp4_lease.specs.MessageTable as table;
 
 use crate::message_table::server_of;
 use crate::{DhcpV4Config, DhcpV4Lease};
-use dhcp4_msg::messages_read_back;
+use dhcp4_msg::laws::messages_read_back;
 
 /// A message that says its lease time and neither T1 nor T2 is never refused for its times,
 /// whatever words are drawn.

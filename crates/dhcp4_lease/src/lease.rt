@@ -293,7 +293,7 @@ fn lease_with(
 fn out_of_order() -> DhcpError
     ensures { result.kind ≡ ErrorKind.InvalidDhcpMessage }
 {
-    DhcpError::new_fixed(ErrorKind::InvalidDhcpMessage, FixedText::Times)
+    DhcpError::invalid_message(FixedText::Times)
 }
 
 // A copy of a list, if there is one.
