@@ -6,8 +6,9 @@ use std::process::ExitCode;
 use std::{env, io};
 
 fn main(rt: HostRuntime) -> ExitCode {
-    let Ok(words) = words(&rt) else {
-        return ExitCode::from(u8::from(Status::NoMemory));
+    let words = match words(&rt) {
+        Ok(words) => words,
+        Err(error) => return ExitCode::from(u8::from(without_words(&error))),
     };
     let mut source = StdSource::new(rt.reader());
     let mut sink = StdSink::new(io::writer(&rt));
@@ -18,4 +19,12 @@ fn main(rt: HostRuntime) -> ExitCode {
 // The words after the program's name.
 fn words(rt: &HostRuntime) -> io::Result<Vec<String>> {
     Ok(env::args(rt)?.skip(1).collect(rt.alloc())?)
+}
+
+// The status where the words cannot be read: a word that is not UTF-8 is a wrong word.
+fn without_words(error: &io::Error) -> Status {
+    match error.kind() {
+        io::ErrorKind::OutOfMemory => Status::NoMemory,
+        _ => Status::WrongWords,
+    }
 }

@@ -4,7 +4,7 @@ use Rattle.std.specs.Prelude.{IfSome, IsTrue, ◌↔◌}
 use Rattle.std.specs.Str.{bytes_eq}
 use Rattle.std.proofs.lemmas.Slice.Eq.{bytes_eq-Decides}
 use Rattle.dhcp_wire.specs.Fault.{Rose}
-use Rattle.dhcp_stream.specs.declared.whole.TheConstants.{MAX_INPUT}
+use Rattle.dhcp_stream.specs.Whole.{most_bytes}
 use Rattle.dhcp_replay.specs.declared.tool.Status.{Status}
 use Rattle.dhcp_replay.specs.declared.tool.Status.TheVariants.{Done, WrongWords, NoScript, ReadFault, WriteFault, NoMemory, TooLong}
 use Rattle.dhcp_replay.specs.Tool.{status_number, IsNoText, AnswersSource}
@@ -16,17 +16,17 @@ one_item (x ∷ []) item short some is = ap (λ first. first ∷ []) (sym is)
 one_item (x ∷ y ∷ items) item short some is = absurd (omega arith)
 
 -- a status that reading ends with where the source hasn't failed and its bytes, which aren't too many, are no script's
-by_status : (status : Status) (bytes : List ℕ) (after : Option (List ℕ)) (faults faults_after : ℕ) → AnswersSource (Err status) (Some bytes) after faults faults_after → (Rose faults faults_after → ⊥) → length bytes ≤ MAX_INPUT → (status_number status ≡ 5) ⊎ (status_number status ≡ 2)
+by_status : (status : Status) (bytes : List ℕ) (after : Option (List ℕ)) (faults faults_after : ℕ) → AnswersSource (Err status) (Some bytes) after faults faults_after → (Rose faults faults_after → ⊥) → length bytes ≤ most_bytes → (status_number status ≡ 5) ⊎ (status_number status ≡ 2)
 by_status NoScript bytes after faults faults_after answers kept short = inr refl
 by_status NoMemory bytes after faults faults_after answers kept short = inl refl
-by_status ReadFault bytes after faults faults_after answers kept short = absurd (kept answers)
+by_status ReadFault bytes after faults faults_after answers kept short = absurd (kept answers.0)
 by_status TooLong bytes after faults faults_after answers kept short = absurd (omega (arith, answers.0))
 by_status Done bytes after faults faults_after answers kept short = absurd answers
 by_status WrongWords bytes after faults faults_after answers kept short = absurd answers
 by_status WriteFault bytes after faults faults_after answers kept short = absurd answers
 
 -- a text of no script, which isn't too long, is refused as such where the source hasn't failed and memory was found
-pub refused : (status : Status) (before after : Option (List ℕ)) (faults faults_after : ℕ) → AnswersSource (Err status) before after faults faults_after → (Rose faults faults_after → ⊥) → IfSome before (λ bytes. length bytes ≤ MAX_INPUT → IsNoText bytes → (status_number status ≡ 5) ⊎ (status_number status ≡ 2))
+pub refused : (status : Status) (before after : Option (List ℕ)) (faults faults_after : ℕ) → AnswersSource (Err status) before after faults faults_after → (Rose faults faults_after → ⊥) → IfSome before (λ bytes. length bytes ≤ most_bytes → IsNoText bytes → (status_number status ≡ 5) ⊎ (status_number status ≡ 2))
 refused status None after faults faults_after answers kept = tt
 refused status (Some bytes) after faults faults_after answers kept = λ short none. by_status status bytes after faults faults_after answers kept short
 

@@ -1,14 +1,14 @@
 //! The program: a thin script comes in, and what its history reports goes out.
 
 ghost use Rattle.std.specs.Prelude.{◌≡◌, ◌≢◌, ◌≤◌, ◌<◌, ◌⊎◌, ◌↔◌, Some, IfSome, IsTrue, length, map, string_bytes};
+ghost use Rattle.dhcp_wire.specs.Error.{no_memory};
 ghost use Rattle.dhcp_wire.specs.Fault.{Rose};
 ghost use Rattle.dhcp_stream.specs.Stream.{behind};
-ghost use Rattle.dhcp_stream.specs.Whole.{TakesFront};
+ghost use Rattle.dhcp_stream.specs.Whole.{HasGone, TakesFront, most_bytes};
 ghost use Rattle.dhcp_replay.specs.ThinText.{IsThinScript, script_text};
-ghost use Rattle.dhcp_replay.specs.Tool.{status_number, AsksForRun, IsTextOf, IsNoText, printed, HasRead, HasReadTooMany, AnswersText, AnswersSource};
+ghost use Rattle.dhcp_replay.specs.Tool.{status_number, AsksForRun, IsTextOf, IsNoText, printed, HasRead, HasReadTooMany, AnswersText, AnswersSource, GivesText};
 ghost use Rattle.dhcp_replay.specs.declared.tool.Status.TheVariants.{NoMemory};
 ghost use Rattle.dhcp_replay.specs.declared.thin_script.ThinScript.{ThinScript};
-ghost use Rattle.dhcp_stream.specs.declared.whole.TheConstants.{MAX_INPUT};
 
 use crate::{
     Sink, Source, Whole, print_thin_outputs, read_thin_script, read_whole, replay_thin, write_whole,
@@ -35,14 +35,6 @@ pub enum Status {
     TooLong = 6,
 }
 
-impl From<DhcpError> for Status {
-    ghost from_gives = { λ _ status. status ≡ NoMemory };
-
-    fn from(_error: DhcpError) -> Self {
-        Status::NoMemory
-    }
-}
-
 impl From<Status> for u8 {
     ghost from_gives = { λ status number. number ≡ status_number status };
 
@@ -61,7 +53,7 @@ pub fn replay_tool<S: Source, K: Sink>(
 ) -> u8
     // The headline: the text of a script is answered by the text of the outputs of its history, unless memory runs out.
     ensures headline { (script : ThinScript) → AsksForRun (map string_bytes words.now) → IsThinScript script
-        → S.left source.old ≡ Some (script_text script) → length (script_text script) ≤ MAX_INPUT
+        → S.left source.old ≡ Some (script_text script) → length (script_text script) ≤ most_bytes
         → ¬ (Rose (S.faults source.old) (S.faults source.new)) → ¬ (Rose (K.faults sink.old) (K.faults sink.new))
         → (result ≡ 5) ⊎ ((result ≡ 0) × (K.taken sink.new ≡ behind (K.taken sink.old) (printed script))) }
 
@@ -70,7 +62,8 @@ pub fn replay_tool<S: Source, K: Sink>(
         (λ bytes. (script : ThinScript) × IsTextOf script bytes × (K.taken sink.new ≡ behind (K.taken sink.old) (printed script))) }
     ensures wrong_words { (result ≡ 1) ↔ ¬ (AsksForRun (map string_bytes words.now)) }
     ensures no_script { result ≡ 2 → HasRead (S.left source.old) (S.left source.new) IsNoText }
-    ensures read_fault { result ≡ 3 → Rose (S.faults source.old) (S.faults source.new) }
+    ensures read_fault { result ≡ 3
+        → Rose (S.faults source.old) (S.faults source.new) × HasGone most_bytes (S.left source.old) (S.left source.new) }
     ensures write_fault { result ≡ 4 → Rose (K.faults sink.old) (K.faults sink.new) }
     ensures front_written { result ≡ 4 → HasRead (S.left source.old) (S.left source.new)
         (λ bytes. (script : ThinScript) × IsTextOf script bytes × TakesFront (K.taken sink.old) (K.taken sink.new) (printed script)) }
@@ -83,9 +76,9 @@ pub fn replay_tool<S: Source, K: Sink>(
 
     // Every text of no script and every text that is too long is refused as such, unless memory runs out or the source fails.
     ensures refuses { AsksForRun (map string_bytes words.now) → ¬ (Rose (S.faults source.old) (S.faults source.new))
-        → IfSome (S.left source.old) (λ bytes. length bytes ≤ MAX_INPUT → IsNoText bytes → (result ≡ 5) ⊎ (result ≡ 2)) }
+        → IfSome (S.left source.old) (λ bytes. length bytes ≤ most_bytes → IsNoText bytes → (result ≡ 5) ⊎ (result ≡ 2)) }
     ensures refuses_long { AsksForRun (map string_bytes words.now) → ¬ (Rose (S.faults source.old) (S.faults source.new))
-        → IfSome (S.left source.old) (λ bytes. MAX_INPUT < length bytes → (result ≡ 5) ⊎ (result ≡ 6)) }
+        → IfSome (S.left source.old) (λ bytes. most_bytes < length bytes → (result ≡ 5) ⊎ (result ≡ 6)) }
 {
     if !asks_for_run(words) {
         return Status::WrongWords.into();
@@ -115,23 +108,44 @@ fn asks_for_run(words: &[String]) -> bool
 fn answer_to<S: Source>(alloc: Global, source: &mut S) -> Result<Bytes, Status>
     ensures { AnswersSource result (S.left source.old) (S.left source.new) (S.faults source.old) (S.faults source.new) }
 {
-    match read_whole(alloc, source)? {
-        Whole::All(bytes) => answer(alloc, bytes.as_slice()),
-        Whole::Failed => Err(Status::ReadFault),
-        Whole::TooLong => Err(Status::TooLong),
+    match read_whole(alloc, source) {
+        Ok(Whole::All(bytes)) => answer(alloc, bytes.as_slice()),
+        Ok(Whole::Failed) => Err(Status::ReadFault),
+        Ok(Whole::TooLong) => Err(Status::TooLong),
+        Err(error) => Err(out_of_memory(error)),
     }
 }
 
 // The text to print for these bytes, or the status.
-#[tactic(auto, unfolding(crate::specs::Tool::printed))]
 fn answer(alloc: Global, bytes: &[u8]) -> Result<Bytes, Status>
     ensures { AnswersText result bytes.now }
 {
+    match text_for(alloc, bytes) {
+        Ok(Some(text)) => Ok(text),
+        Ok(None) => Err(Status::NoScript),
+        Err(error) => Err(out_of_memory(error)),
+    }
+}
+
+// The text to print for these bytes, if they are the text of a script.
+#[tactic(auto, unfolding(crate::specs::Tool::printed))]
+fn text_for(alloc: Global, bytes: &[u8]) -> Result<Option<Bytes>, DhcpError>
+    ensures { GivesText result bytes.now }
+{
     let Some(script) = read_thin_script(alloc, bytes)? else {
-        return Err(Status::NoScript);
+        return Ok(None);
     };
     let outputs = replay_thin(alloc, &script)?;
-    Ok(print_thin_outputs(alloc, outputs.as_slice())?)
+    Ok(Some(print_thin_outputs(alloc, outputs.as_slice())?))
+}
+
+// The status of an error that can only be out of memory: no other error has it.
+fn out_of_memory(error: DhcpError) -> Status
+    requires { error ≡ no_memory }
+    ensures { result ≡ NoMemory }
+{
+    drop(error);
+    Status::NoMemory
 }
 
 #[cfg(test)]

@@ -4,8 +4,7 @@ use Rattle.std.proofs.Math.Seq.{take-add}
 use Rattle.std.specs.Prelude.{IfSome, option_map}
 use Rattle.std.proofs.lemmas.List.{take_at, drop_at, take-append-drop}
 use Rattle.dhcp_stream.specs.Stream.{in_front, behind, NoneLeft}
-use Rattle.dhcp_stream.specs.Whole.{GoesOn}
-use Rattle.dhcp_stream.specs.declared.whole.TheConstants.{MAX_INPUT}
+use Rattle.dhcp_stream.specs.Whole.{HasGone}
 
 -- what a read moved to the front of the slice, and what stands after it in the slice
 pub in_front-piece : (left piece back after : List ℕ) (m : ℕ) → length piece ≡ m → piece ≡ take m left → after ≡ drop m left
@@ -77,6 +76,6 @@ pub in_front-still : (before now after : Option (List ℕ)) (bytes : List ℕ) �
 in_front-still before now after bytes e f = e ∙ ap (in_front bytes) (f ∙ in_front-none after)
 
 -- what was read so far, as what has gone from the front
-pub goes_on-in_front : (before after : Option (List ℕ)) (bytes : List ℕ) → length bytes ≤ MAX_INPUT + 1 → before ≡ in_front bytes after
-    → GoesOn before after
-goes_on-in_front before after bytes within e = (length bytes, within, left-in_front before after bytes (length bytes) refl e)
+pub HasGone-in_front : (before after : Option (List ℕ)) (bytes : List ℕ) (most : ℕ) → length bytes ≤ most → before ≡ in_front bytes after
+    → HasGone most before after
+HasGone-in_front before after bytes most within e = (length bytes, within, left-in_front before after bytes (length bytes) refl e)

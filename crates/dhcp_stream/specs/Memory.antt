@@ -5,14 +5,11 @@ use Rattle.dhcp_stream.specs.declared.stream.ReadOutcome.{ReadOutcome}
 use Rattle.dhcp_stream.specs.declared.stream.ReadOutcome.TheVariants as reads
 use Rattle.dhcp_stream.specs.declared.stream.WriteOutcome.{WriteOutcome}
 use Rattle.dhcp_stream.specs.declared.stream.WriteOutcome.TheVariants as writes
+use Rattle.dhcp_stream.specs.Stream.{one_fault_more}
 
 -- the number of the next call, the first being 1; from 4294967295 on each call has that number
 abbrev pub next_call : ℕ → ℕ
 next_call calls = min (calls + 1) (2 ^ 32 - 1)
-
--- the count of faults after one more; from 18446744073709551615 on it stays
-abbrev pub one_fault_more : ℕ → ℕ
-one_fault_more faults = min (faults + 1) (2 ^ 64 - 1)
 
 -- whether a call with this number is among those that fail
 abbrev pub is_listed : List ℕ → ℕ → Bool

@@ -1,5 +1,5 @@
 -- What moves through a source and a sink, which tell their bytes where they can.
-use Rattle.std.specs.Prelude.{◌≡◌, ℕ, List, [], ◌++◌, Option, option_map, IfSome}
+use Rattle.std.specs.Prelude.{◌≡◌, ℕ, ◌+◌, ◌-◌, ◌^◌, min, List, [], ◌++◌, Option, option_map, IfSome}
 use Rattle.dhcp_stream.specs.declared.stream.ReadOutcome.{ReadOutcome}
 use Rattle.dhcp_stream.specs.declared.stream.ReadOutcome.TheVariants as reads
 use Rattle.dhcp_stream.specs.declared.stream.WriteOutcome.{WriteOutcome}
@@ -26,3 +26,17 @@ behind taken bytes = option_map (λ front. front ++ bytes) taken
 -- no byte is left, where this is told
 abbrev pub NoneLeft : Option (List ℕ) → Type 0
 NoneLeft left = IfSome left (λ rest. rest ≡ [])
+
+-- the count of faults after one more; from 18446744073709551615 on it stays
+abbrev pub one_fault_more : ℕ → ℕ
+one_fault_more faults = min (faults + 1) (2 ^ 64 - 1)
+
+-- the count after a read of std's streams: one more where it failed, else the same
+abbrev pub faults_after_read : ReadOutcome → ℕ → ℕ
+faults_after_read (reads.Read n) faults = faults
+faults_after_read reads.Failed faults = one_fault_more faults
+
+-- the count after a write: one more where it failed, else the same
+abbrev pub faults_after_write : WriteOutcome → ℕ → ℕ
+faults_after_write (writes.Wrote n) faults = faults
+faults_after_write writes.Failed faults = one_fault_more faults

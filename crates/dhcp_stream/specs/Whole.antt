@@ -3,23 +3,27 @@ use Rattle.std.specs.Prelude.{◌≡◌, ℕ, ◌+◌, ◌<◌, ◌≤◌, List,
 use Rattle.dhcp_wire.specs.Fault.{Rose}
 use Rattle.dhcp_wire.specs.Error.{ErrorParts, no_memory}
 use Rattle.dhcp_stream.specs.Stream.{NoneLeft, behind}
-use Rattle.dhcp_stream.specs.declared.whole.TheConstants.{MAX_INPUT}
 use Rattle.dhcp_stream.specs.declared.whole.Whole.{Whole}
 use Rattle.dhcp_stream.specs.declared.whole.Whole.TheVariants.{All, Failed, TooLong}
 
+-- how many bytes are read at most
+abbrev pub most_bytes : ℕ
+most_bytes = 16777216
+
+-- at most so many bytes have gone from the front of what was left
+abbrev pub HasGone : ℕ → Option (List ℕ) → Option (List ℕ) → Type 0
+HasGone most before after = (n : ℕ) × (n ≤ most) × (after ≡ option_map (drop n) before)
+
 -- What reading a source to its end answers, from the bytes left before and after, where they are told, and from the counts of its
--- faults before and after: all the bytes that were left; a fault of the source; or that more were left than are read.
+-- faults before and after: all the bytes that were left; a fault of the source, before more were read than are taken; or that more
+-- were left than are taken, of which one more was read.
 abbrev pub ReadsWhole : Result Whole ErrorParts → Option (List ℕ) → Option (List ℕ) → ℕ → ℕ → Type 0
 ReadsWhole (Ok (All bytes)) before after faults faults_after =
-    IfSome before (λ left. left ≡ bytes) × (length bytes ≤ MAX_INPUT) × NoneLeft after
-ReadsWhole (Ok Failed) before after faults faults_after = Rose faults faults_after
+    IfSome before (λ left. left ≡ bytes) × (length bytes ≤ most_bytes) × NoneLeft after
+ReadsWhole (Ok Failed) before after faults faults_after = Rose faults faults_after × HasGone most_bytes before after
 ReadsWhole (Ok TooLong) before after faults faults_after =
-    IfSome before (λ left. MAX_INPUT < length left) × (after ≡ option_map (drop (MAX_INPUT + 1)) before)
+    IfSome before (λ left. most_bytes < length left) × (after ≡ option_map (drop (most_bytes + 1)) before)
 ReadsWhole (Err e) before after faults faults_after = e ≡ no_memory
-
--- at most one byte more than is read at most has gone from the front of what was left
-abbrev pub GoesOn : Option (List ℕ) → Option (List ℕ) → Type 0
-GoesOn before after = (n : ℕ) × (n ≤ MAX_INPUT + 1) × (after ≡ option_map (drop n) before)
 
 -- what was taken is a prefix of these bytes
 abbrev pub TakesFront : Option (List ℕ) → Option (List ℕ) → List ℕ → Type 0

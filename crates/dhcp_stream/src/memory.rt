@@ -1,7 +1,7 @@
 //! A source and a sink over memory, which fail at chosen calls.
 
 ghost use Rattle.std.specs.Prelude.{◌≡◌, ◌≤◌, ◌<◌, Some, [], length, take};
-ghost use Rattle.dhcp_wire.specs.Fault.{Rose};
+ghost use Rattle.dhcp_wire.specs.Fault.{HasCause};
 ghost use Rattle.dhcp_wire.specs.Outcome.{Makes};
 ghost use Rattle.dhcp_stream.specs.Stream.{read_count, write_count, in_front, behind, NoneLeft};
 ghost use Rattle.dhcp_stream.specs.Memory.{after_read, after_write, read_answer, write_answer};
@@ -66,8 +66,7 @@ impl Source for MemSource {
         ensures within { read_count result ≤ length into.new }
         ensures moved { Some self.old.left ≡ in_front (take (read_count result) into.new) (Some self.new.left) }
         ensures end { result ≡ ReadOutcome.Read 0 → 0 < length into.old → NoneLeft (Some self.old.left) }
-        ensures failed { result ≡ ReadOutcome.Failed → Rose self.old.faults self.new.faults }
-        ensures counted { self.old.faults ≤ self.new.faults }
+        ensures fault { HasCause (result ≡ ReadOutcome.Failed) self.old.faults self.new.faults }
 
         ensures answer { result ≡ read_answer self.old (length into.old) }
         ensures after { self.new ≡ after_read self.old (length into.old) }
@@ -150,8 +149,7 @@ impl Sink for MemSink {
         ensures within { write_count result ≤ length bytes.now }
         ensures took { Some self.new.taken ≡ behind (Some self.old.taken) (take (write_count result) bytes.now) }
         ensures some { result ≡ WriteOutcome.Wrote 0 → bytes.now ≡ [] }
-        ensures failed { result ≡ WriteOutcome.Failed → Rose self.old.faults self.new.faults }
-        ensures counted { self.old.faults ≤ self.new.faults }
+        ensures fault { HasCause (result ≡ WriteOutcome.Failed) self.old.faults self.new.faults }
 
         ensures answer { result ≡ write_answer self.old bytes.now }
         ensures after { self.new ≡ after_write self.old bytes.now }

@@ -1,6 +1,17 @@
-//! Sources and sinks over the readers and writers of std, as standard input and output are. They tell no bytes, and count each error.
+//! Sources and sinks over the readers and writers of std, as standard input and output are. Their bytes are not known to contracts;
+//! each error is counted.
 
-ghost use Rattle.std.specs.Prelude.{◌≡◌, None};
+ghost use Rattle.std.specs.Prelude.{◌≡◌, ◌≤◌, ◌<◌, [], None, length, take};
+ghost use Rattle.dhcp_wire.specs.Fault.{HasCause};
+ghost use Rattle.dhcp_stream.specs.Stream.{
+  NoneLeft,
+  behind,
+  faults_after_read,
+  faults_after_write,
+  in_front,
+  read_count,
+  write_count,
+};
 
 use crate::{ReadOutcome, Sink, Source, WriteOutcome};
 use std::io::{Read, Write};
@@ -60,8 +71,16 @@ impl<R: Read> Source for StdSource<R> {
 
     ghost faults = { λ source. source };
 
+    /// As the trait says; the count of faults rises by one at an error of the reader, and stays else.
     #[tactic(auto, unfolding(crate::specs::Stream::in_front))]
-    fn read(&mut self, into: &mut [u8]) -> ReadOutcome {
+    fn read(&mut self, into: &mut [u8]) -> ReadOutcome
+        ensures within { read_count result ≤ length into.new }
+        ensures moved { None ≡ in_front (take (read_count result) into.new) None }
+        ensures end { result ≡ ReadOutcome.Read 0 → 0 < length into.old → NoneLeft None }
+        ensures fault { HasCause (result ≡ ReadOutcome.Failed) self.old self.new }
+
+        ensures count { self.new ≡ faults_after_read result self.old }
+    {
         match self.reader.read(into) {
             Ok(count) => ReadOutcome::Read(count),
             Err(_) => {
@@ -77,8 +96,17 @@ impl<W: Write> Sink for StdSink<W> {
 
     ghost faults = { λ sink. sink };
 
+    /// As the trait says; the count of faults rises by one at an error of the writer and where it takes nothing of a piece that is not
+    /// empty, and stays else.
     #[tactic(auto, unfolding(crate::specs::Stream::behind))]
-    fn write(&mut self, bytes: &[u8]) -> WriteOutcome {
+    fn write(&mut self, bytes: &[u8]) -> WriteOutcome
+        ensures within { write_count result ≤ length bytes.now }
+        ensures took { None ≡ behind None (take (write_count result) bytes.now) }
+        ensures some { result ≡ WriteOutcome.Wrote 0 → bytes.now ≡ [] }
+        ensures fault { HasCause (result ≡ WriteOutcome.Failed) self.old self.new }
+
+        ensures count { self.new ≡ faults_after_write result self.old }
+    {
         match self.writer.write(bytes) {
             Ok(count) if count > 0 || bytes.is_empty() => WriteOutcome::Wrote(count),
             _ => {

@@ -1,7 +1,7 @@
 //! Where bytes come from and where they go to.
 
 ghost use Rattle.std.specs.Prelude.{◌≡◌, ◌≤◌, ◌<◌, ℕ, List, [], Option, length, take};
-ghost use Rattle.dhcp_wire.specs.Fault.{Rose};
+ghost use Rattle.dhcp_wire.specs.Fault.{HasCause};
 ghost use Rattle.dhcp_stream.specs.Stream.{read_count, write_count, in_front, behind, NoneLeft};
 
 /// What a read did.
@@ -36,8 +36,7 @@ pub trait Source {
         ensures within { read_count result ≤ length into.new }
         ensures moved { left self.old ≡ in_front (take (read_count result) into.new) (left self.new) }
         ensures end { result ≡ ReadOutcome.Read 0 → 0 < length into.old → NoneLeft (left self.old) }
-        ensures failed { result ≡ ReadOutcome.Failed → Rose (faults self.old) (faults self.new) }
-        ensures counted { faults self.old ≤ faults self.new };
+        ensures fault { HasCause (result ≡ ReadOutcome.Failed) (faults self.old) (faults self.new) };
 }
 
 /// Where bytes go to.
@@ -54,6 +53,5 @@ pub trait Sink {
         ensures within { write_count result ≤ length bytes.now }
         ensures took { taken self.new ≡ behind (taken self.old) (take (write_count result) bytes.now) }
         ensures some { result ≡ WriteOutcome.Wrote 0 → bytes.now ≡ [] }
-        ensures failed { result ≡ WriteOutcome.Failed → Rose (faults self.old) (faults self.new) }
-        ensures counted { faults self.old ≤ faults self.new };
+        ensures fault { HasCause (result ≡ WriteOutcome.Failed) (faults self.old) (faults self.new) };
 }

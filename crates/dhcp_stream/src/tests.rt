@@ -50,7 +50,7 @@ fn source_of(alloc: Global, len: usize, fails: &[u32]) -> Result<MemSource, Fail
 
 #[test]
 fn a_source_is_read_to_its_end_up_to_the_limit(rt: HostRuntime) -> Result<(), Fail> {
-    for len in [0, 1, 8192, 20_000, MAX_INPUT] {
+    for len in [0, 1, 8192, 20_000, 16_777_216] {
         let mut source = source_of(rt.alloc(), len, &[])?;
         let Whole::All(bytes) = read_whole(rt.alloc(), &mut source)? else {
             return Err(Fail::from("not read"));
@@ -58,7 +58,7 @@ fn a_source_is_read_to_its_end_up_to_the_limit(rt: HostRuntime) -> Result<(), Fa
         assert_eq!(rt; bytes.len(), len);
         assert!(rt; bytes.as_slice().iter().all(|byte| *byte == 7));
     }
-    let mut source = source_of(rt.alloc(), MAX_INPUT + 2, &[])?;
+    let mut source = source_of(rt.alloc(), 16_777_218, &[])?;
     assert!(rt; matches!(read_whole(rt.alloc(), &mut source)?, Whole::TooLong));
     let mut last = [0; 4];
     assert_eq!(rt;
@@ -96,15 +96,21 @@ fn a_sink_takes_bytes_whole_or_a_prefix_of_them(rt: HostRuntime) -> Result<(), F
 }
 
 #[test]
-fn the_streams_of_std_are_read_and_written(rt: HostRuntime) -> Result<(), Fail> {
+fn a_reader_of_std_gives_its_bytes(rt: HostRuntime) -> Result<(), Fail> {
     let mut source = StdSource::new(io::Cursor::new(b"text".as_slice()));
     let Whole::All(bytes) = read_whole(rt.alloc(), &mut source)? else {
         return Err(Fail::from("not read"));
     };
     assert_eq!(rt; bytes.as_slice(), b"text".as_slice());
+    Ok(())
+}
 
-    let mut sink = StdSink::new(Vec::with_capacity(rt.alloc(), 4)?);
-    assert!(rt; write_whole(&mut sink, b"text"));
+#[test]
+fn a_writer_of_std_takes_the_bytes(rt: HostRuntime) -> Result<(), Fail> {
+    let mut written = Vec::with_capacity(rt.alloc(), 4)?;
+    let is_whole = write_whole(&mut StdSink::new(&mut written), b"text");
+    assert!(rt; is_whole);
+    assert_eq!(rt; written.as_slice(), b"text".as_slice());
     Ok(())
 }
 
@@ -149,5 +155,23 @@ fn hex_is_read_in_lower_case_pairs(rt: HostRuntime) -> Result<(), Fail> {
     ] {
         assert!(rt; mac_field(field.as_bytes()).is_none(), "{field}");
     }
+    Ok(())
+}
+
+#[test]
+fn words_are_read_from_eight_digits_each(rt: HostRuntime) -> Result<(), Fail> {
+    let words = words_field(rt.alloc(), b"12345678ffffffff")?.ok_or("refused")?;
+    assert_eq!(rt; words.as_slice(), [0x12345678u32, 0xffffffff].as_slice());
+    assert!(rt; words_field(rt.alloc(), b"1234567")?.is_none());
+    assert!(rt; words_field(rt.alloc(), b"123456")?.is_none());
+    Ok(())
+}
+
+#[test]
+fn a_line_is_cut_after_its_tag(rt: HostRuntime) -> Result<(), Fail> {
+    let found = tagged_line(b"start 10\nend\n", b"start ");
+    assert!(rt; found == Some((b"10".as_slice(), b"end\n".as_slice())));
+    assert!(rt; tagged_line(b"start 10", b"start ").is_none());
+    assert!(rt; tagged_line(b"end\n", b"start ").is_none());
     Ok(())
 }

@@ -1,15 +1,15 @@
 //! Reading a source to its end, and writing bytes whole.
 
-ghost use Rattle.std.specs.Prelude.{◌≡◌, ◌≤◌, true, false};
-ghost use Rattle.dhcp_wire.specs.Fault.{Rose};
+ghost use Rattle.std.specs.Prelude.{◌≡◌, ◌≤◌, ◌+◌, true, false};
+ghost use Rattle.dhcp_wire.specs.Fault.{HasCause};
 ghost use Rattle.dhcp_stream.specs.Stream.{behind};
-ghost use Rattle.dhcp_stream.specs.Whole.{ReadsWhole, GoesOn, TakesFront};
+ghost use Rattle.dhcp_stream.specs.Whole.{HasGone, ReadsWhole, TakesFront, most_bytes};
 
 use crate::{ReadOutcome, Sink, Source, WriteOutcome};
 use dhcp_wire::{Bytes, DhcpError};
 use std::alloc::Global;
 
-/// How many bytes are read at most.
+/// How many bytes are read at most: 16 MiB.
 pub const MAX_INPUT: usize = 16_777_216;
 
 /// What reading a source to its end found.
@@ -26,8 +26,8 @@ pub enum Whole {
 /// Reads the source to its end. After want of memory the bytes that were read by then are gone.
 pub fn read_whole<S: Source>(alloc: Global, source: &mut S) -> Result<Whole, DhcpError>
     ensures outcome { ReadsWhole result (S.left source.old) (S.left source.new) (S.faults source.old) (S.faults source.new) }
-    ensures goes_on { GoesOn (S.left source.old) (S.left source.new) }
-    ensures counted { S.faults source.old ≤ S.faults source.new }
+    ensures goes_on { HasGone (most_bytes + 1) (S.left source.old) (S.left source.new) }
+    ensures later { S.faults source.old ≤ S.faults source.new }
 {
     let mut bytes = Vec::new(alloc);
     let mut piece = [0u8; 8192];
@@ -46,9 +46,8 @@ pub fn read_whole<S: Source>(alloc: Global, source: &mut S) -> Result<Whole, Dhc
 /// it took then is a prefix of the bytes.
 pub fn write_whole<K: Sink>(sink: &mut K, bytes: &[u8]) -> bool
     ensures done { result ≡ true → K.taken sink.new ≡ behind (K.taken sink.old) bytes.now }
-    ensures failed { result ≡ false → Rose (K.faults sink.old) (K.faults sink.new) }
+    ensures fault { HasCause (result ≡ false) (K.faults sink.old) (K.faults sink.new) }
     ensures front { TakesFront (K.taken sink.old) (K.taken sink.new) bytes.now }
-    ensures counted { K.faults sink.old ≤ K.faults sink.new }
 {
     let mut done = 0;
     while done < bytes.len() {

@@ -2,8 +2,8 @@ use Rattle.std.proofs.Common.{◌+◌, ◌++◌, take, arith, sym, ap, ◌∙◌
 use Rattle.std.proofs.lemmas.Grind.{common_steps}
 use Rattle.dhcp_stream.specs.Stream.{NoneLeft}
 use Rattle.dhcp_stream.specs.declared.stream.ReadOutcome.TheVariants.{Read}
-use Rattle.dhcp_stream.specs.declared.whole.TheConstants.{MAX_INPUT}
-use Rattle.dhcp_stream.proofs.StreamLemmas.{in_front-none, in_front-more, in_front-still, left-in_front, all-in_front, more-in_front, goes_on-in_front}
+use Rattle.dhcp_stream.specs.Whole.{most_bytes}
+use Rattle.dhcp_stream.proofs.StreamLemmas.{in_front-none, in_front-more, in_front-still, left-in_front, all-in_front, more-in_front, HasGone-in_front}
 use Rattle.dhcp_stream.proofs.whole.read_whole.Goals as goal
 
 pub loop-piece-init : goal.loop-piece-init
@@ -22,7 +22,7 @@ returns-in-Read-eq0-clause-outcome g c =
 pub returns-in-Read-eq0-clause-goes_on : goal.returns-in-Read-eq0-clause-goes_on
 returns-in-Read-eq0-clause-goes_on g c =
     let still = rw c.in-Read-eq0.field-0-test at c.in-Read-eq0.ensures.moved in
-    goes_on-in_front _ _ c.loop-piece.bytes.items c.loop-piece.invariant.within
+    HasGone-in_front _ _ c.loop-piece.bytes.items _ c.loop-piece.invariant.within
     (in_front-still _ _ _ _ c.loop-piece.invariant.moved still)
 
 pub loop-piece-preserved : goal.loop-piece-preserved
@@ -35,19 +35,26 @@ loop-piece-preserved g c = record {
 pub returns-in_err-extend_from_slice-in-Read-clause-goes_on :
     goal.returns-in_err-extend_from_slice-in-Read-clause-goes_on
 returns-in_err-extend_from_slice-in-Read-clause-goes_on g c =
-    goes_on-in_front _ _ (c.loop-piece.bytes.items ++ take c.in-Read.count c.read.new.into) (grind (arith, common_steps))
+    HasGone-in_front _ _ (c.loop-piece.bytes.items ++ take c.in-Read.count c.read.new.into) _ (grind (arith, common_steps))
     (in_front-more _ _ _ _ _ c.loop-piece.invariant.moved c.in-Read.ensures.moved)
 
 pub returns-in-Failed-clause-goes_on : goal.returns-in-Failed-clause-goes_on
 returns-in-Failed-clause-goes_on g c =
-    goes_on-in_front _ _ c.loop-piece.bytes.items c.loop-piece.invariant.within
+    HasGone-in_front _ _ c.loop-piece.bytes.items _ c.loop-piece.invariant.within
     (in_front-still _ _ _ _ c.loop-piece.invariant.moved c.in-Failed.ensures.moved)
 
 pub returns-clause-outcome : goal.returns-clause-outcome
 returns-clause-outcome g c = (
-  more-in_front _ _ _ MAX_INPUT (grind (arith, common_steps)) c.loop-piece.invariant.moved,
-  left-in_front _ _ c.loop-piece.bytes.items (MAX_INPUT + 1) (grind (arith, common_steps)) c.loop-piece.invariant.moved,
+  more-in_front _ _ _ most_bytes (grind (arith, common_steps)) c.loop-piece.invariant.moved,
+  left-in_front _ _ c.loop-piece.bytes.items (most_bytes + 1) (grind (arith, common_steps)) c.loop-piece.invariant.moved,
 )
 
 pub returns-clause-goes_on : goal.returns-clause-goes_on
-returns-clause-goes_on g c = goes_on-in_front _ _ _ c.loop-piece.invariant.within c.loop-piece.invariant.moved
+returns-clause-goes_on g c = HasGone-in_front _ _ _ _ c.loop-piece.invariant.within c.loop-piece.invariant.moved
+
+pub returns-in-Failed-clause-outcome : goal.returns-in-Failed-clause-outcome
+returns-in-Failed-clause-outcome g c = (
+  grind (arith, common_steps),
+  HasGone-in_front _ _ c.loop-piece.bytes.items _ (grind (arith, common_steps))
+      (in_front-still _ _ _ _ c.loop-piece.invariant.moved c.in-Failed.ensures.moved),
+)

@@ -1,14 +1,14 @@
 use Rattle.std.proofs.Common.{length, ◌+◌, ◌-◌, ◌≡◌, ◌≤◌}
 use Rattle.dhcp_stream.specs.Stream.{in_front}
-use Rattle.dhcp_stream.specs.declared.whole.TheConstants.{MAX_INPUT}
+use Rattle.dhcp_stream.specs.Whole.{most_bytes}
 use Rattle.dhcp_stream.proofs.whole.read_whole.Given as goal
 
 abbrev pub invariant-loop-piece : goal.invariant-loop-piece
 invariant-loop-piece g l = record {
-  within : length l.bytes.items ≤ MAX_INPUT + 1;
+  within : length l.bytes.items ≤ most_bytes + 1;
   moved : g.S.Source.left l.fn.source ≡ in_front l.bytes.items (g.S.Source.left l.source);
   counted : g.S.Source.faults l.fn.source ≤ g.S.Source.faults l.source;
 }
 
 abbrev pub decreases-loop-piece : goal.decreases-loop-piece
-decreases-loop-piece g l = MAX_INPUT + 1 - length l.bytes.items
+decreases-loop-piece g l = most_bytes + 1 - length l.bytes.items
