@@ -3,9 +3,10 @@
 #
 #   tools/benchmark_messages.sh      at the repository's top, after `rt run < stdin -- frame 3` in crates/dhcp_bench has built the program
 #
-# For each input it prints how many were read and written in a second (the best of five runs), and the bytes read and written in a second.
+# For each input and task it prints the nanoseconds for each time (the best of five runs, the start of the process taken off), and the
+# bytes read and written in a second. PROGRAM names another build of dhcp_bench, to compare two of them on one machine.
 set -eu
-program=crates/dhcp_bench/out/dhcp_bench
+program=${PROGRAM:-crates/dhcp_bench/out/dhcp_bench}
 [ -x "$program" ] || { echo "$program is not built: run 'rt run < stdin -- frame 3' in crates/dhcp_bench"; exit 2; }
 input=$(mktemp)
 trap 'rm -f "$input"' EXIT
@@ -18,7 +19,6 @@ message() { # options in hex, bytes in all
         printf "%s63825363", text
         for (i = 240; i + length(options) / 2 <= size; i += length(options) / 2) {
             printf "%s", options
-            if (size <= 1500) { i += length(options) / 2; break }
         }
         for (; i < size; i++) printf "00"
         printf "\n"
@@ -34,26 +34,49 @@ frame() { # bytes in all
     }' >"$input"
 }
 
-measure() { # a name, the words of the program
+# A message with 239 options of four bytes, one of them the message type.
+many_options() {
+    awk 'BEGIN {
+        text = "0201060012345678" "00000000" "00000000" "c000020a" "c0000201" "00000000" "020000000001"
+        for (i = 0; i < 202; i++) text = text "00"
+        printf "%s63825363350105", text
+        for (code = 1; code <= 240; code++) if (code != 53 && code != 121) printf "%02x0400000e10", code
+        printf "ff\n"
+    }' >"$input"
+}
+
+# The least time of five runs of a task, in nanoseconds.
+least() { # the words of the program
     best=
     for _ in 1 2 3 4 5; do
         start=$(date +%s%N)
-        total=$("$program" "$2" "$3" <"$input")
+        total=$("$program" "$1" "$2" <"$input")
         took=$(($(date +%s%N) - start))
         if [ -z "$best" ] || [ "$took" -lt "$best" ]; then best=$took; fi
     done
-    echo "$1 $3 $best ${total% bytes}" | awk '{ printf "%s: %.0f a second, %.1f MB/s\n", $1, $2 / ($3 / 1e9), $4 / ($3 / 1e9) / 1e6 }'
+}
+
+measure() { # a name, the words of the program
+    least "$2" 1
+    empty=$best
+    least "$2" "$3"
+    echo "$1 $2 $3 $((best - empty)) ${total% bytes}" |
+        awk '{ printf "%s, %s: %.0f ns, %.1f MB/s\n", $1, $2, $4 / $3, $5 / ($4 / 1e9) / 1e6 }'
 }
 
 # A usual Ack: type, server, lease time, T1, T2, mask, broadcast, router, name server, host name, domain name, End.
 ack=3501053604c0000201330400000e103a04000007083b0400000c4e0104ffffff001c04c00002ff0304c00002010604c00002010c03666f6f0f036c616eff
-message "$ack" 300
-measure ack_of_300_bytes message 100000
+message "$ack" 302
+for task in read message lease; do measure ack_of_302_bytes "$task" 200000; done
+many_options
+for task in read message lease; do measure message_with_239_options "$task" 10000; done
 # Options of 64 KiB: unknown options of 30 bytes, and lease times.
 message e01c00112233445566778899aabbccddeeff00112233445566778899aabb330400000e10 65776
-measure options_of_64_KiB message 500
+for task in read message lease; do measure options_of_64_KiB "$task" 500; done
 message e01c00112233445566778899aabbccddeeff00112233445566778899aabb330400000e10 131312
 measure options_of_128_KiB message 250
+message "$ack" 302
+measure discover_built_and_written discover 200000
 frame 342
 measure frame_of_342_bytes frame 200000
 frame 1500

@@ -1,9 +1,14 @@
-//! Reads and writes a message or a frame so many times, for a clock beside it: `message <times>` or `frame <times>`, with the bytes as a
-//! line of hex on standard input. It prints how many bytes were read and written in all.
+//! Does one thing so many times, for a clock beside it: `<what> <times>`, with bytes as a line of hex on standard input. It prints how many
+//! bytes were read and written in all.
+//!
+//! `read` reads a message, `message` reads and writes it, `lease` reads it and its lease, `discover` builds and writes a Discover, and
+//! `frame` reads and writes a frame.
 #![tactic(auto)]
 
+use dhcp_clock::WordList;
 use dhcp_frame::{MOST_PAYLOAD, read_frame, write_frame};
-use dhcp_wire::{BufferMut, DhcpError};
+use dhcp_wire::{BufferMut, DhcpError, ErrorKind, FixedText};
+use dhcp4_lease::{DhcpV4Config, DhcpV4Lease, new_discovery};
 use dhcp4_msg::DhcpV4Message;
 use std::alloc::{AllocError, Global};
 use std::process::ExitCode;
@@ -12,7 +17,7 @@ use std::{env, io};
 /// Why there is nothing to measure.
 #[derive(Debug, Drop)]
 enum Failure {
-    /// The words are not `message` or `frame` and a number.
+    /// The words are not a name and a number.
     Words,
     /// The line is no hex.
     Hex,
@@ -56,11 +61,20 @@ fn measure(rt: &HostRuntime) -> Result<(), Failure> {
         return Err(Failure::Words);
     };
     let bytes = hex_line(rt)?;
-    let total = match what.as_str() {
-        "message" => messages(rt.alloc(), bytes.as_slice(), times)?,
-        "frame" => frames(rt.alloc(), bytes.as_slice(), times)?,
-        _ => return Err(Failure::Words),
-    };
+    let alloc = rt.alloc();
+    let bytes = bytes.as_slice();
+    let mut total = 0u64;
+    for _ in 0..times {
+        let count = match what.as_str() {
+            "read" => read(alloc, bytes)?,
+            "message" => read_and_written(alloc, bytes)?,
+            "lease" => read_to_lease(alloc, bytes)?,
+            "discover" => discover(alloc)?,
+            "frame" => frame(alloc, bytes)?,
+            _ => return Err(Failure::Words),
+        };
+        total = total.saturating_add(count as u64);
+    }
     println!(rt; "{total} bytes")?;
     Ok(())
 }
@@ -71,28 +85,44 @@ fn hex_line(rt: &HostRuntime) -> Result<Vec<u8>, Failure> {
     hex::decode(rt.alloc(), line.as_str().trim_end()).map_err(|_| Failure::Hex)
 }
 
-// How many bytes are read and written where the message is read and written so many times.
-fn messages(alloc: Global, bytes: &[u8], times: u32) -> Result<u64, DhcpError> {
-    let mut total = 0u64;
-    for _ in 0..times {
-        let message = DhcpV4Message::parse(alloc, bytes)?;
-        let mut buffer = BufferMut::new(alloc);
-        message.emit(&mut buffer)?;
-        total = total.saturating_add(bytes.len() as u64);
-        total = total.saturating_add(buffer.len() as u64);
-    }
-    Ok(total)
+// Reads a message.
+fn read(alloc: Global, bytes: &[u8]) -> Result<usize, DhcpError> {
+    let _message = DhcpV4Message::parse(alloc, bytes)?;
+    Ok(bytes.len())
 }
 
-// The same of a frame.
-fn frames(alloc: Global, bytes: &[u8], times: u32) -> Result<u64, DhcpError> {
-    let mut total = 0u64;
-    for _ in 0..times {
-        let frame = read_frame(alloc, bytes)?;
-        total = total.saturating_add(bytes.len() as u64);
-        if frame.payload.len() <= MOST_PAYLOAD {
-            total = total.saturating_add(write_frame(alloc, &frame)?.len() as u64);
-        }
+// Reads a message and writes it.
+fn read_and_written(alloc: Global, bytes: &[u8]) -> Result<usize, DhcpError> {
+    let message = DhcpV4Message::parse(alloc, bytes)?;
+    let mut buffer = BufferMut::new(alloc);
+    message.emit(&mut buffer)?;
+    Ok(bytes.len().saturating_add(buffer.len()))
+}
+
+// Reads a message and the lease that it grants.
+fn read_to_lease(alloc: Global, bytes: &[u8]) -> Result<usize, DhcpError> {
+    let message = DhcpV4Message::parse(alloc, bytes)?;
+    let _lease = DhcpV4Lease::new_from_msg(alloc, &message, &mut WordList::new(Vec::new(alloc)))?;
+    Ok(bytes.len())
+}
+
+// Builds a Discover and writes it.
+#[tactic(auto, unfolding(dhcp4_lease::specs::Config::is_within_limits, dhcp4_lease::specs::Config::config_of))]
+fn discover(alloc: Global) -> Result<usize, DhcpError> {
+    let mut buffer = BufferMut::new(alloc);
+    new_discovery(alloc, 0x12345678, &DhcpV4Config::empty(alloc)?)?.emit(&mut buffer)?;
+    Ok(buffer.len())
+}
+
+// Reads a frame and writes it.
+fn frame(alloc: Global, bytes: &[u8]) -> Result<usize, DhcpError> {
+    let frame = read_frame(alloc, bytes)?;
+    if frame.payload.len() > MOST_PAYLOAD {
+        return Err(DhcpError::new_fixed(ErrorKind::Bug, FixedText::Unreadable));
     }
-    Ok(total)
+    Ok(
+        bytes
+            .len()
+            .saturating_add(write_frame(alloc, &frame)?.len()),
+    )
 }
