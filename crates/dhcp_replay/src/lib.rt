@@ -1,4 +1,5 @@
-//! Scripts and their texts. The streams that they come from and go to stand in dhcp_stream, and are named here too.
+//! Scripts and their texts. The streams that they come from and go to stand in dhcp_stream, and are
+//! named here too.
 #![tactic(auto)]
 
 #[cfg(test)]

@@ -29,9 +29,9 @@ pub enum Status {
     ReadFault = 3,
     /// The sink failed.
     WriteFault = 4,
-    /// There was no memory.
+    /// Out of memory.
     NoMemory = 5,
-    /// There are more bytes than are read.
+    /// There are more than 16,777,216 bytes.
     TooLong = 6,
 }
 
@@ -43,42 +43,55 @@ impl From<Status> for u8 {
     }
 }
 
-/// Runs the thin script that the source holds, and writes what it reports: the text of the outputs of the script's history. The answer
-/// is the exit status. With every status but 0 and 4 nothing is written.
+/// Runs the thin script that the source holds, and writes what it reports: the text of the outputs of
+/// the script's history. Returns the exit status. With every status but 0 and 4 nothing is written.
 pub fn replay_tool<S: Source, K: Sink>(
     alloc: Global,
     words: &[String],
     source: &mut S,
     sink: &mut K,
 ) -> u8
-    // The headline: the text of a script is answered by the text of the outputs of its history, unless memory runs out.
-    ensures headline { (script : ThinScript) → AsksForRun (map string_bytes words.now) → IsThinScript script
-        → S.left source.old ≡ Some (script_text script) → length (script_text script) ≤ most_bytes
-        → ¬ (Rose (S.faults source.old) (S.faults source.new)) → ¬ (Rose (K.faults sink.old) (K.faults sink.new))
-        → (result ≡ 5) ⊎ ((result ≡ 0) × (K.taken sink.new ≡ behind (K.taken sink.old) (printed script))) }
+    // The headline: the text of a script is answered by the text of the outputs of its history,
+    // unless out of memory.
+    ensures headline { (script : ThinScript) → AsksForRun (map string_bytes words.now)
+        → IsThinScript script
+        → S.left source.old ≡ Some (script_text script)
+        → length (script_text script) ≤ most_bytes
+        → ¬ (Rose (S.faults source.old) (S.faults source.new))
+        → ¬ (Rose (K.faults sink.old) (K.faults sink.new))
+        → (result ≡ 5)
+        ⊎ ((result ≡ 0) × (K.taken sink.new ≡ behind (K.taken sink.old) (printed script))) }
 
     // What each status says.
     ensures done { result ≡ 0 → HasRead (S.left source.old) (S.left source.new)
-        (λ bytes. (script : ThinScript) × IsTextOf script bytes × (K.taken sink.new ≡ behind (K.taken sink.old) (printed script))) }
+        (λ bytes. (script : ThinScript) × IsTextOf script bytes
+        × (K.taken sink.new ≡ behind (K.taken sink.old) (printed script))) }
     ensures wrong_words { (result ≡ 1) ↔ ¬ (AsksForRun (map string_bytes words.now)) }
     ensures no_script { result ≡ 2 → HasRead (S.left source.old) (S.left source.new) IsNoText }
-    ensures read_fault { result ≡ 3
-        → Rose (S.faults source.old) (S.faults source.new) × HasGone most_bytes (S.left source.old) (S.left source.new) }
+    ensures read_fault { result ≡ 3 → Rose (S.faults source.old) (S.faults source.new)
+        × HasGone most_bytes (S.left source.old) (S.left source.new) }
     ensures write_fault { result ≡ 4 → Rose (K.faults sink.old) (K.faults sink.new) }
     ensures front_written { result ≡ 4 → HasRead (S.left source.old) (S.left source.new)
-        (λ bytes. (script : ThinScript) × IsTextOf script bytes × TakesFront (K.taken sink.old) (K.taken sink.new) (printed script)) }
+        (λ bytes. (script : ThinScript) × IsTextOf script bytes
+        × TakesFront (K.taken sink.old) (K.taken sink.new) (printed script)) }
     ensures too_long { result ≡ 6 → HasReadTooMany (S.left source.old) (S.left source.new) }
     ensures no_other { result ≤ 6 }
 
-    // Nothing is read or written for other words, and nothing is written with any status but 0 and 4.
+    // Nothing is read or written for other words, and nothing is written with any status but 0
+    // and 4.
     ensures untouched { result ≡ 1 → (source.new ≡ source.old) × (sink.new ≡ sink.old) }
     ensures nothing_written { result ≢ 0 → result ≢ 4 → sink.new ≡ sink.old }
 
-    // Every text of no script and every text that is too long is refused as such, unless memory runs out or the source fails.
-    ensures refuses { AsksForRun (map string_bytes words.now) → ¬ (Rose (S.faults source.old) (S.faults source.new))
-        → IfSome (S.left source.old) (λ bytes. length bytes ≤ most_bytes → IsNoText bytes → (result ≡ 5) ⊎ (result ≡ 2)) }
-    ensures refuses_long { AsksForRun (map string_bytes words.now) → ¬ (Rose (S.faults source.old) (S.faults source.new))
-        → IfSome (S.left source.old) (λ bytes. most_bytes < length bytes → (result ≡ 5) ⊎ (result ≡ 6)) }
+    // Every text of no script and every text that is too long is refused as such, unless out of
+    // memory or the source fails.
+    ensures refuses { AsksForRun (map string_bytes words.now)
+        → ¬ (Rose (S.faults source.old) (S.faults source.new))
+        → IfSome (S.left source.old)
+        (λ bytes. length bytes ≤ most_bytes → IsNoText bytes → (result ≡ 5) ⊎ (result ≡ 2)) }
+    ensures refuses_long { AsksForRun (map string_bytes words.now)
+        → ¬ (Rose (S.faults source.old) (S.faults source.new))
+        → IfSome (S.left source.old)
+        (λ bytes. most_bytes < length bytes → (result ≡ 5) ⊎ (result ≡ 6)) }
 {
     if !asks_for_run(words) {
         return Status::WrongWords.into();
@@ -106,7 +119,8 @@ fn asks_for_run(words: &[String]) -> bool
 
 // The text to print for what the source holds, or the status.
 fn answer_to<S: Source>(alloc: Global, source: &mut S) -> Result<Bytes, Status>
-    ensures { AnswersSource result (S.left source.old) (S.left source.new) (S.faults source.old) (S.faults source.new) }
+    ensures { AnswersSource result (S.left source.old) (S.left source.new)
+        (S.faults source.old) (S.faults source.new) }
 {
     match read_whole(alloc, source) {
         Ok(Whole::All(bytes)) => answer(alloc, bytes.as_slice()),

@@ -1,4 +1,4 @@
--- Fields of texts in hex: bytes, two lower-case digits for each, words of 32 bits, and Ethernet addresses.
+-- Fields of texts in hex: bytes, two lower-case digits for each, words of 32 bits, and MAC addresses.
 use Rattle.std.specs.Prelude.{◌≡◌, ◌<◌, ◌^◌, ℕ, Bool, ◌&&◌, ◌||◌, nat_le, List, [], ◌∷◌, length, codes, All}
 use Rattle.std.specs.List.{flat_map}
 use Rattle.std.specs.Int.{w32, to_be_bytes}
@@ -13,7 +13,7 @@ hex_text (byte ∷ bytes) = encode_lower (byte ∷ bytes)
 abbrev pub is_lower_digit : ℕ → Bool
 is_lower_digit byte = (nat_le 48 byte && nat_le byte 57) || (nat_le 97 byte && nat_le byte 102)
 
--- the six bytes of an Ethernet address
+-- the six bytes of an MAC address
 abbrev pub IsMac : List ℕ → Type 0
 IsMac mac = (length mac ≡ 6) × IsBytes mac
 

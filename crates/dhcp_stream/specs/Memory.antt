@@ -1,4 +1,4 @@
--- A source and a sink over memory, which fail at chosen calls.
+-- A source and a sink in memory, which fail at chosen calls.
 use Rattle.std.specs.Prelude.{ℕ, ◌+◌, ◌-◌, ◌^◌, ◌==◌, Bool, ◌&&◌, ◌||◌, List, ◌++◌, length, take, drop, min, nat_lt, if◌then◌else◌}
 use Rattle.std.specs.List.{list_any}
 use Rattle.dhcp_stream.specs.declared.stream.ReadOutcome.{ReadOutcome}
@@ -15,14 +15,16 @@ next_call calls = min (calls + 1) (2 ^ 32 - 1)
 abbrev pub is_listed : List ℕ → ℕ → Bool
 is_listed fails call = list_any (λ number. number == call) fails
 
--- a source: the bytes that are left, the calls that fail, the number of calls so far, and that of faults
+-- a source: the bytes that are left, the calls that fail, the number of calls so far, and that of
+-- faults
 pub record MemSourceView : Type 0 where
   pub left : List ℕ
   pub fails : List ℕ
   pub calls : ℕ
   pub faults : ℕ
 
--- a sink: the bytes taken, the room for more, the calls that fail, the number of calls so far, and that of faults
+-- a sink: the bytes taken, the room for more, the calls that fail, the number of calls so far, and
+-- that of faults
 pub record MemSinkView : Type 0 where
   pub taken : List ℕ
   pub room : ℕ
@@ -36,7 +38,8 @@ read_fails source = is_listed source.fails (next_call source.calls)
 
 -- what a read into a slice of n bytes answers: as many bytes as fit
 abbrev pub read_answer : MemSourceView → ℕ → ReadOutcome
-read_answer source n = if read_fails source then reads.Failed else reads.Read (min n (length source.left))
+read_answer source n =
+    if read_fails source then reads.Failed else reads.Read (min n (length source.left))
 
 -- the source after it
 abbrev pub after_read : MemSourceView → ℕ → MemSourceView

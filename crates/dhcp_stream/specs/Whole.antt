@@ -14,17 +14,20 @@ most_bytes = 16777216
 abbrev pub HasGone : ℕ → Option (List ℕ) → Option (List ℕ) → Type 0
 HasGone most before after = (n : ℕ) × (n ≤ most) × (after ≡ option_map (drop n) before)
 
--- What reading a source to its end answers, from the bytes left before and after, where they are told, and from the counts of its
--- faults before and after: all the bytes that were left; a fault of the source, before more were read than are taken; or that more
--- were left than are taken, of which one more was read.
+-- What reading a source to its end gives, by the bytes left before and after, where they are known,
+-- and the counts of its faults: all the bytes that were left; a fault of the source, after at most
+-- the bytes that are read; or that more were left than are read.
 abbrev pub ReadsWhole : Result Whole ErrorParts → Option (List ℕ) → Option (List ℕ) → ℕ → ℕ → Type 0
 ReadsWhole (Ok (All bytes)) before after faults faults_after =
     IfSome before (λ left. left ≡ bytes) × (length bytes ≤ most_bytes) × NoneLeft after
-ReadsWhole (Ok Failed) before after faults faults_after = Rose faults faults_after × HasGone most_bytes before after
+ReadsWhole (Ok Failed) before after faults faults_after =
+    Rose faults faults_after × HasGone most_bytes before after
 ReadsWhole (Ok TooLong) before after faults faults_after =
-    IfSome before (λ left. most_bytes < length left) × (after ≡ option_map (drop (most_bytes + 1)) before)
+    IfSome before (λ left. most_bytes < length left)
+    × (after ≡ option_map (drop (most_bytes + 1)) before)
 ReadsWhole (Err e) before after faults faults_after = e ≡ no_memory
 
 -- what was taken is a prefix of these bytes
 abbrev pub TakesFront : Option (List ℕ) → Option (List ℕ) → List ℕ → Type 0
-TakesFront before after bytes = (n : ℕ) × (n ≤ length bytes) × (after ≡ behind before (take n bytes))
+TakesFront before after bytes =
+    (n : ℕ) × (n ≤ length bytes) × (after ≡ behind before (take n bytes))

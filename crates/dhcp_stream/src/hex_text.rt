@@ -1,4 +1,4 @@
-//! The fields of texts in hex: bytes, words of 32 bits and Ethernet addresses.
+//! Fields of texts in hex: bytes, words of 32 bits and MAC addresses.
 
 ghost use Rattle.std.specs.Prelude.{◌≡◌, ◌↔◌, IsTrue, length};
 ghost use Rattle.std.specs.Int.{w32, to_be_bytes};
@@ -11,8 +11,8 @@ use dhcp_wire::{Bytes, DhcpError, Sequence};
 use hex::{FromHex, FromHexError};
 use std::alloc::{AllocError, Global};
 
-/// The bytes of a field in lower-case hex, two digits for each byte; the field `-` is that of no bytes. None exactly where the field is
-/// neither.
+/// The bytes of a field in lower-case hex, two digits for each byte; the field `-` is no bytes.
+/// None if and only if the field is neither.
 pub fn hex_field(alloc: Global, field: &[u8]) -> Result<Option<Bytes>, DhcpError>
     ensures { GivesReading hex_text IsBytes result field.now }
 {
@@ -31,7 +31,8 @@ pub fn hex_field(alloc: Global, field: &[u8]) -> Result<Option<Bytes>, DhcpError
     }
 }
 
-/// The Ethernet address of a field of twelve lower-case hex digits. None exactly where the field is no such one.
+/// The MAC address of a field of twelve lower-case hex digits. None if and only if the field is not
+/// of this form. Does not allocate.
 pub fn mac_field(field: &[u8]) -> Option<[u8; 6]>
     ensures { IsReading encode_lower IsMac result field.now }
 {
@@ -51,8 +52,8 @@ fn is_lower_hex(field: &[u8]) -> bool
         .all(|byte| matches!(byte, b'0'..=b'9' | b'a'..=b'f'))
 }
 
-/// The words of a field of eight lower-case hex digits for each; the field `-` is that of no words. None exactly where the
-/// field is neither.
+/// The words of a field in lower-case hex, eight digits for each; the field `-` is no words. None
+/// if and only if the field is neither.
 pub fn words_field(alloc: Global, field: &[u8]) -> Result<Option<Sequence<u32>>, DhcpError>
     ensures { GivesReading words_text AreWords result field.now }
 {

@@ -1,4 +1,5 @@
-//! Streams and the fields of texts: sources and sinks, reading and writing whole, lines, and fields in hex.
+//! Streams and the fields of texts: sources and sinks, reading and writing whole, lines, and fields
+//! in hex.
 #![tactic(auto)]
 
 mod hex_text;

@@ -3,8 +3,8 @@
 ghost use Rattle.std.specs.Prelude.{◌≡◌, ◌==◌, ℕ, List, MatchOption, position};
 ghost use Rattle.dhcp_stream.specs.Line.{HasLine};
 
-/// The field of the text's first line after the line's tag, and the rest after that line. None exactly where the text does not begin
-/// with a whole line that has this tag.
+/// What stands after the tag in the first line of a text, and what follows that line. None if and
+/// only if the text doesn't begin with a whole line that has this tag. Does not allocate.
 pub fn tagged_line<'a>(text: &'a [u8], tag: &[u8]) -> Option<(&'a [u8], &'a [u8])>
     ensures { MatchOption result
         ((field : List ℕ) (rest : List ℕ) → HasLine tag.now text.now field rest → ⊥)

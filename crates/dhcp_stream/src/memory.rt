@@ -1,4 +1,4 @@
-//! A source and a sink over memory, which fail at chosen calls.
+//! A source and a sink in memory, which fail at chosen calls.
 
 ghost use Rattle.std.specs.Prelude.{◌≡◌, ◌≤◌, ◌<◌, Some, [], length, take};
 ghost use Rattle.dhcp_wire.specs.Fault.{HasCause};
@@ -12,8 +12,9 @@ use dhcp_wire::DhcpError;
 use std::alloc::Global;
 use std::marker::Model;
 
-/// A source over memory: each read moves as many bytes as fit, apart from the calls at which it fails. Contracts see it as the
-/// bytes that are left, the calls that fail, the number of calls so far and that of faults.
+/// A source in memory: each read gives as many bytes as fit, but for the calls at which it fails.
+/// Contracts see the bytes that are left, the calls that fail, and the numbers of calls and faults
+/// so far.
 #[derive(Debug, Drop)]
 pub struct MemSource {
     bytes: Vec<u8>,
@@ -40,10 +41,11 @@ impl Model for MemSource {
 }
 
 impl MemSource {
-    /// These bytes, failing at the calls with these numbers. The first call has the number 1, and every call from number
-    /// 4294967295 on has that number.
+    /// These bytes, failing at the calls with these numbers. The first call has number 1; every
+    /// call from number 4294967295 on has that number. Does not allocate.
     pub fn new(bytes: Vec<u8>, fails: Vec<u32>) -> Self
-        ensures { result ≡ record { left = bytes.items; fails = fails.items; calls = 0; faults = 0 } }
+        ensures { result
+            ≡ record { left = bytes.items; fails = fails.items; calls = 0; faults = 0 } }
     {
         MemSource {
             bytes,
@@ -64,8 +66,10 @@ impl Source for MemSource {
     #[tactic(auto, unfolding(crate::specs::Stream::in_front))]
     fn read(&mut self, into: &mut [u8]) -> ReadOutcome
         ensures within { read_count result ≤ length into.new }
-        ensures moved { Some self.old.left ≡ in_front (take (read_count result) into.new) (Some self.new.left) }
-        ensures end { result ≡ ReadOutcome.Read 0 → 0 < length into.old → NoneLeft (Some self.old.left) }
+        ensures moved { Some self.old.left
+            ≡ in_front (take (read_count result) into.new) (Some self.new.left) }
+        ensures end { result ≡ ReadOutcome.Read 0 → 0 < length into.old
+            → NoneLeft (Some self.old.left) }
         ensures fault { HasCause (result ≡ ReadOutcome.Failed) self.old.faults self.new.faults }
 
         ensures answer { result ≡ read_answer self.old (length into.old) }
@@ -84,9 +88,9 @@ impl Source for MemSource {
     }
 }
 
-/// A sink over memory: each write takes as much of its piece as there is room for, apart from the calls at which it fails. A piece
-/// that is not empty fails where no room is left. Contracts see it as the bytes taken, the room for more, the calls that fail, the
-/// number of calls so far and that of faults.
+/// A sink in memory: each write takes as much of its piece as there is room for, but for the calls
+/// at which it fails. A piece that is not empty fails if no room is left. Contracts see the bytes
+/// written, the room for more, the calls that fail, and the numbers of calls and faults so far.
 #[derive(Debug, Drop)]
 pub struct MemSink {
     taken: Vec<u8>,
@@ -115,8 +119,9 @@ impl Model for MemSink {
 }
 
 impl MemSink {
-    /// A sink with room for so many bytes, failing at the calls with these numbers. The first call has the number 1, and every call
-    /// from number 4294967295 on has that number. All the memory is taken here, and none by a write.
+    /// A sink with room for so many bytes, failing at the calls with these numbers. The first call
+    /// has number 1; every call from number 4294967295 on has that number. All its memory is taken
+    /// here, so a write does not allocate.
     pub fn new(alloc: Global, room: usize, fails: Vec<u32>) -> Result<Self, DhcpError>
         ensures { Makes (λ sink. sink) result
             (record { taken = []; room = room; fails = fails.items; calls = 0; faults = 0 }) }
@@ -130,7 +135,7 @@ impl MemSink {
         })
     }
 
-    /// The bytes taken so far.
+    /// The bytes written so far.
     pub fn bytes(&self) -> &[u8]
         ensures { result.now ≡ self.now.taken }
     {
@@ -147,7 +152,8 @@ impl Sink for MemSink {
     #[tactic(auto, unfolding(crate::specs::Stream::behind))]
     fn write(&mut self, bytes: &[u8]) -> WriteOutcome
         ensures within { write_count result ≤ length bytes.now }
-        ensures took { Some self.new.taken ≡ behind (Some self.old.taken) (take (write_count result) bytes.now) }
+        ensures took { Some self.new.taken
+            ≡ behind (Some self.old.taken) (take (write_count result) bytes.now) }
         ensures some { result ≡ WriteOutcome.Wrote 0 → bytes.now ≡ [] }
         ensures fault { HasCause (result ≡ WriteOutcome.Failed) self.old.faults self.new.faults }
 

@@ -1,5 +1,5 @@
-//! Sources and sinks over the readers and writers of std, as standard input and output are. Their bytes are not known to contracts;
-//! each error is counted.
+//! Sources and sinks over the readers and writers of std, such as standard input and output.
+//! Contracts do not know their bytes; each error is counted.
 
 ghost use Rattle.std.specs.Prelude.{◌≡◌, ◌≤◌, ◌<◌, [], None, length, take};
 ghost use Rattle.dhcp_wire.specs.Fault.{HasCause};
@@ -17,15 +17,15 @@ use crate::{ReadOutcome, Sink, Source, WriteOutcome};
 use std::io::{Read, Write};
 use std::marker::Model;
 
-/// A source over a reader. It tells no bytes; each error of the reader is a fault. Contracts see it as the number of its faults.
+/// A source over a reader: each error of the reader is a fault. Contracts see the number of faults.
 #[derive(Debug, Drop)]
 pub struct StdSource<R> {
     reader: R,
     faults: u64,
 }
 
-/// A sink over a writer. It tells no bytes; each error of the writer is a fault, and so is a write that took nothing of a piece that
-/// is not empty. Contracts see it as the number of its faults.
+/// A sink over a writer: each error of the writer is a fault, and so is a write that took nothing
+/// of a piece that is not empty. Contracts see the number of faults.
 #[derive(Debug, Drop)]
 pub struct StdSink<W> {
     writer: W,
@@ -49,7 +49,7 @@ impl<W> Model for StdSink<W> {
 }
 
 impl<R: Read> StdSource<R> {
-    /// Reads from this reader, with no fault yet.
+    /// Reads from this reader; no fault was counted yet.
     pub fn new(reader: R) -> Self
         ensures { result ≡ 0 }
     {
@@ -58,7 +58,7 @@ impl<R: Read> StdSource<R> {
 }
 
 impl<W: Write> StdSink<W> {
-    /// Writes to this writer, with no fault yet.
+    /// Writes to this writer; no fault was counted yet.
     pub fn new(writer: W) -> Self
         ensures { result ≡ 0 }
     {
@@ -71,7 +71,8 @@ impl<R: Read> Source for StdSource<R> {
 
     ghost faults = { λ source. source };
 
-    /// As the trait says; the count of faults rises by one at an error of the reader, and stays else.
+    /// As the trait says. The count of faults rises by one at an error of the reader, and at no
+    /// other read.
     #[tactic(auto, unfolding(crate::specs::Stream::in_front))]
     fn read(&mut self, into: &mut [u8]) -> ReadOutcome
         ensures within { read_count result ≤ length into.new }
@@ -96,8 +97,8 @@ impl<W: Write> Sink for StdSink<W> {
 
     ghost faults = { λ sink. sink };
 
-    /// As the trait says; the count of faults rises by one at an error of the writer and where it takes nothing of a piece that is not
-    /// empty, and stays else.
+    /// As the trait says. The count of faults rises by one at an error of the writer and if it
+    /// takes nothing of a piece that is not empty, and at no other write.
     #[tactic(auto, unfolding(crate::specs::Stream::behind))]
     fn write(&mut self, bytes: &[u8]) -> WriteOutcome
         ensures within { write_count result ≤ length bytes.now }

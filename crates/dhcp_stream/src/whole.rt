@@ -15,17 +15,19 @@ pub const MAX_INPUT: usize = 16_777_216;
 /// What reading a source to its end found.
 #[derive(Debug, Drop)]
 pub enum Whole {
-    /// All the bytes that were left.
+    /// All the bytes that were left, at most `MAX_INPUT`.
     All(Bytes),
-    /// The source failed; the bytes that were read by then are gone.
+    /// The source failed, after at most `MAX_INPUT` bytes, which are dropped.
     Failed,
-    /// More than `MAX_INPUT` bytes were left. One more than these was read, and reading stopped there.
+    /// More than `MAX_INPUT` bytes were left; reading stopped after one more than these.
     TooLong,
 }
 
-/// Reads the source to its end. After want of memory the bytes that were read by then are gone.
+/// Reads the source to its end. `Failed` only if the source's count of faults rose. When out of
+/// memory, the bytes that were read are dropped.
 pub fn read_whole<S: Source>(alloc: Global, source: &mut S) -> Result<Whole, DhcpError>
-    ensures outcome { ReadsWhole result (S.left source.old) (S.left source.new) (S.faults source.old) (S.faults source.new) }
+    ensures outcome { ReadsWhole result (S.left source.old) (S.left source.new)
+        (S.faults source.old) (S.faults source.new) }
     ensures goes_on { HasGone (most_bytes + 1) (S.left source.old) (S.left source.new) }
     ensures later { S.faults source.old ≤ S.faults source.new }
 {
@@ -42,8 +44,8 @@ pub fn read_whole<S: Source>(alloc: Global, source: &mut S) -> Result<Whole, Dhc
     Ok(Whole::TooLong)
 }
 
-/// Writes all the bytes, and says whether the sink took them. It did not only where the sink's count of faults rose in this call; what
-/// it took then is a prefix of the bytes.
+/// Writes all the bytes, and returns whether the sink took them. Does not allocate. `false` only if
+/// the sink's count of faults rose; a prefix of the bytes was written then.
 pub fn write_whole<K: Sink>(sink: &mut K, bytes: &[u8]) -> bool
     ensures done { result ≡ true → K.taken sink.new ≡ behind (K.taken sink.old) bytes.now }
     ensures fault { HasCause (result ≡ false) (K.faults sink.old) (K.faults sink.new) }
