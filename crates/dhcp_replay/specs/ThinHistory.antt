@@ -51,7 +51,8 @@ is_of_type awaited message = option_map_or (λ kind. type_number kind == type_nu
 -- the lease that a message grants where this type is awaited with this transaction id
 unfoldable pub granted_by : DhcpV4MessageType → ℕ → DhcpV4Message → Option Lease
 granted_by awaited id message =
-    if (message.xid == id) && is_of_type awaited message && says_times message.options then read_lease message [] else None
+    if (message.xid == id) && is_of_type awaited message && says_times message.options
+    then (read_lease message []).value else None
 
 -- the lease that an event grants: its payload reads as such a message
 unfoldable pub granted : DhcpV4MessageType → ℕ → ThinEvent → Option Lease

@@ -62,7 +62,7 @@ fn says_times(options: &DhcpV4Options) -> bool
 
 // The lease of a message, if it has one, read with no words to draw.
 fn lease_of(alloc: Global, message: &DhcpV4Message) -> Result<Option<DhcpV4Lease>, DhcpError>
-    ensures { Makes (λ lease. lease) result (read_lease message.now []) }
+    ensures { Makes (λ lease. lease) result (read_lease message.now []).value }
 {
     let mut no_words = WordList::new(Vec::new(alloc));
     match DhcpV4Lease::new_from_msg(alloc, message, &mut no_words) {
