@@ -1,0 +1,65 @@
+//! Reading a lease.
+
+ghost use Rattle.std.specs.Prelude.{◌≡◌, ◌⊎◌, IfErr, IfOk, IfSome, IsTrue, None, Some};
+ghost use Rattle.dhcp_wire.specs.Error.{no_memory};
+ghost use Rattle.dhcp4_msg.specs.declared.message.DhcpV4Message.{DhcpV4Message};
+ghost use Rattle.dhcp4_msg.specs.Message.{read_message};
+ghost use Rattle.dhcp4_lease.specs.Lease.{HasFieldsOf, are_times_in_order};
+
+use dhcp_clock::Words;
+use dhcp_wire::{DhcpError, ErrorKind};
+use dhcp4_lease::DhcpV4Lease;
+use dhcp4_msg::{DhcpV4Message, DhcpV4MessageType};
+use std::alloc::Global;
+use std::net::Ipv4Addr;
+
+/// The lease that an Ack grants; none if the payload is a message of another type.
+pub fn lease_of_ack<W: Words>(
+    alloc: Global,
+    payload: &[u8],
+    words: &mut W,
+) -> Result<Option<DhcpV4Lease>, DhcpError>
+    ensures fields { IfOk result (λ found. IfSome found (λ lease.
+        (message : DhcpV4Message) × (read_message payload.now ≡ Some message)
+        × HasFieldsOf message lease)) }
+    ensures in_order { IfOk result (λ found. IfSome found (λ lease.
+        IsTrue (are_times_in_order lease))) }
+    ensures error { IfErr result (λ e.
+        (e ≡ no_memory) ⊎ (e.kind ≡ ErrorKind.InvalidDhcpMessage)) }
+{
+    let message = DhcpV4Message::parse(alloc, payload)?;
+    if message.message_type() != Some(DhcpV4MessageType::Ack) {
+        return Ok(None);
+    }
+    Ok(Some(DhcpV4Lease::from_message(alloc, message, words)?))
+}
+
+/// A source of words that no contract knows. A real client takes them from the system's source of
+/// randomness.
+#[derive(Debug, Drop)]
+pub struct Counter {
+    /// The next word.
+    pub next: u32,
+}
+
+impl Words for Counter {
+    ghost left = { λ _. None };
+
+    fn next_word(&mut self) -> u32 {
+        self.next = self.next.wrapping_mul(1_664_525).wrapping_add(1_013_904_223);
+        self.next
+    }
+}
+
+/// The address that a message leases, by random words that no contract knows.
+pub fn address_of_lease(
+    alloc: Global,
+    message: &DhcpV4Message,
+    words: &mut Counter,
+) -> Result<Ipv4Addr, DhcpError>
+    ensures address { IfOk result (λ address. address ≡ message.now.yiaddr) }
+    ensures error { IfErr result (λ e.
+        (e ≡ no_memory) ⊎ (e.kind ≡ ErrorKind.InvalidDhcpMessage)) }
+{
+    Ok(DhcpV4Lease::new_from_msg(alloc, message, words)?.yiaddr)
+}

@@ -1,0 +1,12 @@
+//! Short callers of the library, proved from the contracts alone: the examples of the documents.
+#![tactic(auto)]
+
+mod lease;
+mod message;
+mod options;
+#[cfg(test)]
+mod tests;
+
+pub use lease::{address_of_lease, lease_of_ack};
+pub use message::{discover_payload, has_no_type, read_again};
+pub use options::{copy_option, insert_parsed, subnet_mask};

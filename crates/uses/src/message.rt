@@ -1,0 +1,37 @@
+//! Building a message, writing it and reading it.
+
+ghost use Rattle.std.specs.Prelude.{◌≡◌, ◌↔◌, None, IfOk, IfSome, IsTrue};
+ghost use Rattle.std.specs.FinMap as map;
+ghost use Rattle.dhcp_wire.specs.Outcome.{Makes};
+ghost use Rattle.dhcp4_msg.specs.Message.{written_message};
+ghost use Rattle.dhcp4_lease.specs.MessageTable.{discover, table_message};
+
+use dhcp_wire::{BufferMut, Bytes, DhcpError};
+use dhcp4_lease::{DhcpV4Config, new_discovery};
+use dhcp4_msg::DhcpV4Message;
+use std::alloc::Global;
+
+/// The payload of a Discover with this transaction id. None if the configuration is outside its
+/// limits.
+pub fn discover_payload(
+    alloc: Global,
+    xid: u32,
+    config: &DhcpV4Config,
+) -> Result<Option<Bytes>, DhcpError>
+    ensures { IfOk result (λ found. IfSome found (λ payload.
+        payload ≡ written_message (table_message xid config.now discover))) }
+{
+    if !config.is_within_limits() {
+        return Ok(None);
+    }
+    let mut payload = BufferMut::new(alloc);
+    new_discovery(alloc, xid, config)?.emit(&mut payload)?;
+    Ok(Some(payload.into_bytes()))
+}
+
+/// Whether a message has no option 53.
+pub fn has_no_type(message: &DhcpV4Message) -> bool
+    ensures { IsTrue result ↔ (map.get message.now.options 53 ≡ None) }
+{
+    message.message_type().is_none()
+}
