@@ -1,8 +1,7 @@
 //! Reading a lease.
 
-ghost use Rattle.std.specs.Prelude.{◌≡◌, ◌⊎◌, IfErr, IfOk, IfSome, IsTrue, None, Some};
+ghost use Rattle.std.specs.Prelude.{◌≡◌, ◌⊎◌, IfErr, IfOk, IfSome, IsTrue, None};
 ghost use Rattle.dhcp_wire.specs.Error.{no_memory};
-ghost use Rattle.dhcp4_msg.specs.declared.message.DhcpV4Message.{DhcpV4Message};
 ghost use Rattle.dhcp4_msg.specs.Message.{read_message};
 ghost use Rattle.dhcp4_lease.specs.Lease.{HasFieldsOf, are_times_in_order};
 
@@ -20,8 +19,7 @@ pub fn lease_of_ack<W: Words>(
     words: &mut W,
 ) -> Result<Option<DhcpV4Lease>, DhcpError>
     ensures fields { IfOk result (λ found. IfSome found (λ lease.
-        (message : DhcpV4Message) × (read_message payload.now ≡ Some message)
-        × HasFieldsOf message lease)) }
+        IfSome (read_message payload.now) (λ message. HasFieldsOf message lease))) }
     ensures in_order { IfOk result (λ found. IfSome found (λ lease.
         IsTrue (are_times_in_order lease))) }
     ensures error { IfErr result (λ e.
@@ -46,12 +44,16 @@ impl Words for Counter {
     ghost left = { λ _. None };
 
     fn next_word(&mut self) -> u32 {
-        self.next = self.next.wrapping_mul(1_664_525).wrapping_add(1_013_904_223);
+        self.next = self
+            .next
+            .wrapping_mul(1_664_525)
+            .wrapping_add(1_013_904_223);
         self.next
     }
 }
 
 /// The address that a message leases, by random words that no contract knows.
+#[tactic(auto, unfolding(dhcp4_lease::specs::Lease::lease_with))]
 pub fn address_of_lease(
     alloc: Global,
     message: &DhcpV4Message,
@@ -61,5 +63,6 @@ pub fn address_of_lease(
     ensures error { IfErr result (λ e.
         (e ≡ no_memory) ⊎ (e.kind ≡ ErrorKind.InvalidDhcpMessage)) }
 {
-    Ok(DhcpV4Lease::new_from_msg(alloc, message, words)?.yiaddr)
+    let lease = DhcpV4Lease::new_from_msg(alloc, message, words)?;
+    Ok(lease.yiaddr)
 }

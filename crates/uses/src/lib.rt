@@ -4,9 +4,7 @@
 mod lease;
 mod message;
 mod options;
-#[cfg(test)]
-mod tests;
 
-pub use lease::{address_of_lease, lease_of_ack};
-pub use message::{discover_payload, has_no_type, read_again};
+pub use lease::{Counter, address_of_lease, lease_of_ack};
+pub use message::{discover_payload, has_no_type};
 pub use options::{copy_option, insert_parsed, subnet_mask};
