@@ -31,7 +31,7 @@ ghost use Rattle.dhcp4_msg.specs.Route.{route_at, written_route};
 ghost use Rattle.dhcp4_msg.specs.Value.{fits, written_option};
 
 use crate::{DhcpV4ClasslessRoute, DhcpV4Message, DhcpV4Option, DhcpV4Options};
-use dhcp_wire::laws::addresses_have_four_bytes;
+use dhcp_wire::laws::an_address_reads_back;
 use std::net::Ipv4Addr;
 
 /// The number of the code of a number is that number.
@@ -171,7 +171,7 @@ pub(crate) fn option_widths(option: &DhcpV4Option)
 fn address_is_whole(address: Ipv4Addr)
     ensures { IsWhole address }
 {
-    addresses_have_four_bytes(address);
+    an_address_reads_back(address);
 }
 
 // So have those of a list,

@@ -3,12 +3,14 @@
 ghost use Rattle.std.specs.Prelude.{◌≡◌, ◌↔◌, None, IfOk, IfSome, IsTrue};
 ghost use Rattle.std.specs.FinMap as map;
 ghost use Rattle.dhcp_wire.specs.Outcome.{Makes};
+ghost use Rattle.dhcp4_msg.specs.Laws.{MessageIsInRange, read_back};
 ghost use Rattle.dhcp4_msg.specs.Message.{written_message};
 ghost use Rattle.dhcp4_lease.specs.MessageTable.{discover, table_message};
 
 use dhcp_wire::{BufferMut, Bytes, DhcpError};
 use dhcp4_lease::{DhcpV4Config, new_discovery};
 use dhcp4_msg::DhcpV4Message;
+use dhcp4_msg::laws::message_reads_back;
 use std::alloc::Global;
 
 /// The payload of a Discover with this transaction id. None if the configuration is outside its
@@ -27,6 +29,17 @@ pub fn discover_payload(
     let mut payload = BufferMut::new(alloc);
     new_discovery(alloc, xid, config)?.emit(&mut payload)?;
     Ok(Some(payload.into_bytes()))
+}
+
+/// Writes a message and reads it again: it is the same, with End added to its options.
+pub fn read_again(alloc: Global, message: &DhcpV4Message) -> Result<DhcpV4Message, DhcpError>
+    requires { MessageIsInRange message.now }
+    ensures { Makes (λ read. read) result (read_back message.now) }
+{
+    message_reads_back(message);
+    let mut payload = BufferMut::new(alloc);
+    message.emit(&mut payload)?;
+    DhcpV4Message::parse(alloc, payload.bytes())
 }
 
 /// Whether a message has no option 53.
