@@ -6,5 +6,5 @@ mod message;
 mod options;
 
 pub use lease::{Counter, address_of_lease, lease_of_ack};
-pub use message::{discover_payload, has_no_type, read_again};
+pub use message::{configuration, discover_payload, has_no_type, read_again};
 pub use options::{copy_option, insert_parsed, subnet_mask};

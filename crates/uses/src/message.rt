@@ -1,6 +1,6 @@
 //! Building a message, writing it and reading it.
 
-ghost use Rattle.std.specs.Prelude.{◌≡◌, ◌↔◌, None, IfOk, IfSome, IsTrue};
+ghost use Rattle.std.specs.Prelude.{◌≡◌, ◌↔◌, None, IfOk, IfSome, IsTrue, codes};
 ghost use Rattle.std.specs.FinMap as map;
 ghost use Rattle.dhcp_wire.specs.Outcome.{Makes};
 ghost use Rattle.dhcp4_msg.specs.Laws.{MessageIsInRange, read_back};
@@ -12,6 +12,19 @@ use dhcp4_lease::{DhcpV4Config, new_discovery};
 use dhcp4_msg::DhcpV4Message;
 use dhcp4_msg::laws::message_reads_back;
 use std::alloc::Global;
+
+/// The configuration of a client on `eth0` that names its host, is known by its MAC address, and asks
+/// for static routes too.
+pub fn configuration(alloc: Global) -> Result<DhcpV4Config, DhcpError>
+    ensures { IfOk result (λ config. config.host_name ≡ codes "foo") }
+{
+    let mut config = DhcpV4Config::new(alloc, "eth0")?;
+    config.set_iface_index(3);
+    config.set_iface_mac(alloc, "02:00:00:00:00:01")?.use_mac_as_client_id(alloc)?;
+    config.set_host_name(alloc, "foo")?;
+    config.request_extra_dhcp_opts(alloc, &[33])?;
+    Ok(config)
+}
 
 /// The payload of a Discover with this transaction id. None if the configuration is outside its
 /// limits.
