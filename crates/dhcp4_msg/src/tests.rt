@@ -30,6 +30,7 @@ fn offer(alloc: Global) -> Result<Bytes, DhcpError> {
 // Callers, proved from the contracts alone.
 
 // What is kept under the code of a subnet mask is a subnet mask.
+#[tactic(auto, unfolding(crate::specs::OptionCode::number_of))]
 fn subnet_mask(options: &DhcpV4Options) -> Option<Ipv4Addr>
     ensures { (result ≡ None) ↔ (map.get options.now 1 ≡ None) }
 {
@@ -120,8 +121,8 @@ fn a_message_is_written_as_it_was_read(rt: HostRuntime) -> Result<(), Fail> {
 #[test]
 fn of_two_options_51_the_second_is_kept(rt: HostRuntime) -> Result<(), Fail> {
     let mut options = DhcpV4Options::new(rt.alloc());
-    options.insert(DhcpV4Option::IpAddressLeaseTime(100))?;
-    options.insert(DhcpV4Option::IpAddressLeaseTime(101))?;
+    enter_first(rt.alloc(), &[0x33, 4, 0, 0, 0, 100], &mut options)?;
+    enter_first(rt.alloc(), &[0x33, 4, 0, 0, 0, 101], &mut options)?;
     let mut written = BufferMut::new(rt.alloc());
     options.emit(&mut written)?;
     assert_eq!(rt; written.bytes(), [0x33, 4, 0, 0, 0, 101, 255].as_slice());
