@@ -102,7 +102,7 @@ empty_lease = record {
 }
 
 -- the lease of this address by this next server, with these options and these times
-unfoldable pub lease_with : Ipv4Addr → Ipv4Addr → OptionMap → LeaseTimes → Lease
+abbrev pub lease_with : Ipv4Addr → Ipv4Addr → OptionMap → LeaseTimes → Lease
 lease_with siaddr yiaddr options times = record {
   siaddr = siaddr;
   yiaddr = yiaddr;

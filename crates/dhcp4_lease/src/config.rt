@@ -172,9 +172,9 @@ impl DhcpV4Config {
         self
     }
 
-    /// Sets the MAC address from a text such as `01:02:2a:2c:f7:04`. `InvalidArgument` where it is
-    /// no bytes in hex with colons between them, `NotSupported` exactly where they are not six;
-    /// after an error nothing has changed.
+    /// Sets the MAC address from a text such as `01:02:2a:2c:f7:04`. `InvalidArgument` if and only
+    /// if it is not bytes in hex with colons between them, `NotSupported` if and only if they are
+    /// not six. After an error nothing has changed.
     pub fn set_iface_mac(&mut self, alloc: Global, mac: &str) -> Result<&mut Self, DhcpError>
         ensures set { Gives (λ config. config.now) result
             (with_mac self.old (mac_of_text mac.now)) }

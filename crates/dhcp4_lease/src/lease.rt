@@ -141,7 +141,6 @@ impl DhcpV4Lease {
     /// word of `words` moves it by 2 seconds less to 1 second more, T1 first. `InvalidDhcpMessage`
     /// if and only if option 51 is absent, or T1 is after T2, or T2 after the end. Words that were
     /// drawn stay drawn, whatever is returned.
-    #[tactic(auto, unfolding(crate::specs::Lease::lease_with))]
     pub fn new_from_msg<W: Words>(
         alloc: Global,
         msg: &DhcpV4Message,
@@ -162,7 +161,6 @@ impl DhcpV4Lease {
 
     /// The same as `new_from_msg`, of a message that is no longer needed: its options are moved
     /// into the lease, and not copied.
-    #[tactic(auto, unfolding(crate::specs::Lease::lease_with))]
     pub fn from_message<W: Words>(
         alloc: Global,
         msg: DhcpV4Message,
@@ -254,7 +252,7 @@ fn copied_lease(
 }
 
 // The lease of this address by this next server, with these options and these times.
-#[tactic(auto, unfolding(crate::specs::Lease::lease_with, dhcp4_msg::specs::OptionCode::number_of))]
+#[tactic(auto, unfolding(dhcp4_msg::specs::OptionCode::number_of))]
 fn lease_with(
     alloc: Global,
     siaddr: Ipv4Addr,
