@@ -4,7 +4,8 @@
 #   tools/benchmark_messages.sh      at the repository's top, after `rt run < stdin -- frame 3` in crates/dhcp_bench has built the program
 #
 # For each input and task it prints the nanoseconds for each time (the best of five runs, the start of the process taken off), and the
-# bytes read and written in a second. PROGRAM names another build of dhcp_bench, to compare two of them on one machine.
+# bytes read and written in a second. PROGRAM names another build of dhcp_bench, to compare two of them on one machine, and
+# TASKS the tasks of messages that it has.
 set -eu
 program=${PROGRAM:-crates/dhcp_bench/out/dhcp_bench}
 [ -x "$program" ] || { echo "$program is not built: run 'rt run < stdin -- frame 3' in crates/dhcp_bench"; exit 2; }
@@ -67,12 +68,12 @@ measure() { # a name, the words of the program
 # A usual Ack: type, server, lease time, T1, T2, mask, broadcast, router, name server, host name, domain name, End.
 ack=3501053604c0000201330400000e103a04000007083b0400000c4e0104ffffff001c04c00002ff0304c00002010604c00002010c03666f6f0f036c616eff
 message "$ack" 302
-for task in read message lease; do measure ack_of_302_bytes "$task" 200000; done
+for task in ${TASKS:-read message lease moved}; do measure ack_of_302_bytes "$task" 200000; done
 many_options
-for task in read message lease; do measure message_with_239_options "$task" 10000; done
+for task in ${TASKS:-read message lease moved}; do measure message_with_239_options "$task" 10000; done
 # Options of 64 KiB: unknown options of 30 bytes, and lease times.
 message e01c00112233445566778899aabbccddeeff00112233445566778899aabb330400000e10 65776
-for task in read message lease; do measure options_of_64_KiB "$task" 500; done
+for task in ${TASKS:-read message lease moved}; do measure options_of_64_KiB "$task" 500; done
 message e01c00112233445566778899aabbccddeeff00112233445566778899aabb330400000e10 131312
 measure options_of_128_KiB message 250
 message "$ack" 302

@@ -1,7 +1,7 @@
 -- The fields of a message that reads, by their offsets.
-use Rattle.std.proofs.Common.{◌≡◌, ℕ, ◌+◌, ◌≤◌, Bool, true, false, ◌==◌, cond, List, [], length, take, drop, Option, Some, None, option_map, refl, sym, ap, subst, ◌∙◌, arith, length-drop, length-append}
+use Rattle.std.proofs.Common.{◌≡◌, ℕ, ◌+◌, ◌≤◌, Bool, true, false, ◌==◌, cond, List, length, take, drop, Option, Some, None, option_map, refl, sym, ap, subst, ◌∙◌, arith, length-drop, length-append}
 use Rattle.std.proofs.lemmas.List.{drop-drop}
-use Rattle.std.specs.Int.{Width, w8, w16, w32, byte_len, from_be_bytes}
+use Rattle.std.specs.Int.{Width, w8, w16, w32, byte_len}
 use Rattle.std.proofs.lemmas.Bool.{eqb-true}
 use Rattle.std.proofs.lemmas.List.{take_at, drop_at}
 use Rattle.std.proofs.lemmas.Option.{none-some, same_Some, option_and_then_some}

@@ -1,6 +1,6 @@
 //! Laws: what is written reads back. A call does nothing.
 
-ghost use Rattle.std.specs.Prelude.{◌≡◌, ◌<◌, ◌^◌, ◌++◌, ℕ, List, Some, IsTrue, length};
+ghost use Rattle.std.specs.Prelude.{[], ◌≡◌, ◌<◌, ◌^◌, ◌++◌, ℕ, List, Some, IsTrue, length};
 ghost use Rattle.std.specs.FinMap as map;
 ghost use Rattle.dhcp_wire.specs.RawOption.{raw_options};
 ghost use Rattle.dhcp_wire.specs.declared.raw_option.OptionFormat.TheVariants.{DhcpV4};
@@ -80,7 +80,9 @@ pub fn messages_read_back()
 /// An option that a caller holds reads back, whatever follows it, if it fits and its text or its
 /// routes are in range. The codes that it requests read under their names.
 pub fn option_reads_back(option: &DhcpV4Option)
-    ensures { (rest : List ℕ) → IsTrue (fits option.now) → IsInRange option.now
+    ensures alone { IsTrue (fits option.now) → IsInRange option.now
+        → option_at (written_option option.now) ≡ (Some (with_names option.now), []) }
+    ensures before { (rest : List ℕ) → IsTrue (fits option.now) → IsInRange option.now
         → option_at (written_option option.now ++ rest) ≡ (Some (with_names option.now), rest) }
 {
     option_widths(option);
@@ -89,7 +91,9 @@ pub fn option_reads_back(option: &DhcpV4Option)
 /// Options that a caller holds read back as they are written, whatever follows their End, if their
 /// texts and routes are in range. End is added.
 pub fn option_list_reads_back(options: &DhcpV4Options)
-    ensures { (rest : List ℕ) → AreInRange options.now
+    ensures alone { AreInRange options.now
+        → read_options (written_options options.now) ≡ options_read_back options.now }
+    ensures before { (rest : List ℕ) → AreInRange options.now
         → read_options (written_options options.now ++ rest) ≡ options_read_back options.now }
 {
     options.stand();
@@ -98,7 +102,9 @@ pub fn option_list_reads_back(options: &DhcpV4Options)
 /// A message that a caller holds reads back as it is written, whatever follows its End, if its
 /// texts and routes are in range. End is added to its options.
 pub fn message_reads_back(message: &DhcpV4Message)
-    ensures { (rest : List ℕ) → MessageIsInRange message.now
+    ensures alone { MessageIsInRange message.now
+        → read_message (written_message message.now) ≡ Some (read_back message.now) }
+    ensures before { (rest : List ℕ) → MessageIsInRange message.now
         → read_message (written_message message.now ++ rest) ≡ Some (read_back message.now) }
 {
     number_widths(message);

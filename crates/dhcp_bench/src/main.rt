@@ -1,8 +1,9 @@
-//! Does one thing so many times, for a clock beside it: `<what> <times>`, with bytes as a line of hex on standard input. It prints how many
-//! bytes were read and written in all.
+//! Does one thing so many times, for a clock beside it: `<what> <times>`, with bytes as a line of
+//! hex on standard input. It prints how many bytes were read and written in all.
 //!
-//! `read` reads a message, `message` reads and writes it, `lease` reads it and its lease, `discover` builds and writes a Discover, and
-//! `frame` reads and writes a frame.
+//! `read` reads a message, `message` reads and writes it, `lease` reads it and its lease, `moved` does so
+//! and moves its options into the lease, `discover` builds and writes a Discover, and `frame` reads
+//! and writes a frame.
 #![tactic(auto)]
 
 use dhcp_clock::WordList;
@@ -69,6 +70,7 @@ fn measure(rt: &HostRuntime) -> Result<(), Failure> {
             "read" => read(alloc, bytes)?,
             "message" => read_and_written(alloc, bytes)?,
             "lease" => read_to_lease(alloc, bytes)?,
+            "moved" => moved_to_lease(alloc, bytes)?,
             "discover" => discover(alloc)?,
             "frame" => frame(alloc, bytes)?,
             _ => return Err(Failure::Words),
@@ -106,11 +108,21 @@ fn read_to_lease(alloc: Global, bytes: &[u8]) -> Result<usize, DhcpError> {
     Ok(bytes.len())
 }
 
+// Reads a message and moves its options into the lease that it grants.
+fn moved_to_lease(alloc: Global, bytes: &[u8]) -> Result<usize, DhcpError> {
+    let message = DhcpV4Message::parse(alloc, bytes)?;
+    let _lease = DhcpV4Lease::from_message(alloc, message, &mut WordList::new(Vec::new(alloc)))?;
+    Ok(bytes.len())
+}
+
 // Builds a Discover and writes it.
-#[tactic(auto, unfolding(dhcp4_lease::specs::Config::is_within_limits, dhcp4_lease::specs::Config::config_of))]
 fn discover(alloc: Global) -> Result<usize, DhcpError> {
+    let config = DhcpV4Config::empty(alloc)?;
+    if !config.is_within_limits() {
+        return Err(DhcpError::new_fixed(ErrorKind::Bug, FixedText::Config));
+    }
     let mut buffer = BufferMut::new(alloc);
-    new_discovery(alloc, 0x12345678, &DhcpV4Config::empty(alloc)?)?.emit(&mut buffer)?;
+    new_discovery(alloc, 0x12345678, &config)?.emit(&mut buffer)?;
     Ok(buffer.len())
 }
 

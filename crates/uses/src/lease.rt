@@ -53,7 +53,6 @@ impl Words for Counter {
 }
 
 /// The address that a message leases, by random words that no contract knows.
-#[tactic(auto, unfolding(dhcp4_lease::specs::Lease::lease_with))]
 pub fn address_of_lease(
     alloc: Global,
     message: &DhcpV4Message,
