@@ -14,7 +14,7 @@ use Rattle.std.proofs.lemmas.List.Elements.{All-set, All-append, filter_map-appe
 use Rattle.std.proofs.lemmas.List.Folds.{find_at, find-set}
 use Rattle.std.proofs.lemmas.List.Quantifiers.{position-Some}
 use Rattle.std.proofs.lemmas.Iterator.Adapters.{position_from-zero}
-use Rattle.std.proofs.lemmas.List.Sums.{count_by-le-length, sum_by-set, passes_at_first}
+use Rattle.std.proofs.lemmas.List.Sums.{count_by-le-length, sum_by-append, sum_by-set, passes_at_first}
 use Rattle.std.proofs.lemmas.Option.{none-some, same_Some, slice_get-get_or, slice_get_past, slice_get_within, get_or_from_slice_get}
 use Rattle.dhcp4_msg.specs.declared.option.DhcpV4Option.{DhcpV4Option}
 use Rattle.dhcp4_msg.specs.Options.{OptionMap}
@@ -268,6 +268,27 @@ kept_same kept places i inside none =
 -- a place of the table is within the list
 pub place_inside : (kept : List DhcpV4Option) (places : List (Option ℕ)) (q at : ℕ) → IsIndexed kept places → q < 256 → get_or places q None ≡ Some at → at < length kept
 place_inside kept places q at indexed below is = (at_position (has_number q) kept at (sym (indexed.placed q below) ∙ is)).1
+
+-- where no place is taken there are no options,
+none_kept : (kept : List DhcpV4Option) (places : List (Option ℕ)) → count_by is_some places ≡ 0 → filter_map (kept_in kept) places ≡ []
+none_kept kept [] none = refl
+none_kept kept (None ∷ places) none = none_kept kept places none
+none_kept kept (Some i ∷ places) none =
+    let weight : Option ℕ → ℕ = λ place. cond (is_some place) 1 0 in
+    let parts : count_by is_some (Some i ∷ places) ≡ 1 + count_by is_some places = sum_by-append weight (Some i ∷ []) places in
+    absurd (omega (arith, parts, none))
+
+-- and where so many were taken as there are options, those so far are all.
+pub all_kept : (kept : List DhcpV4Option) (places : List (Option ℕ)) (i : ℕ) → IsIndexed kept places → count_by is_some (take i places) ≡ length kept → filter_map (kept_in kept) (take i places) ≡ filter_map (kept_in kept) places
+all_kept kept places i indexed taken =
+    let weight : Option ℕ → ℕ = λ place. cond (is_some place) 1 0 in
+    let parts : count_by is_some (take i places ++ drop i places) ≡ count_by is_some (take i places) + count_by is_some (drop i places) = sum_by-append weight (take i places) (drop i places) in
+    let whole : count_by is_some (take i places ++ drop i places) ≡ count_by is_some places = ap (count_by is_some) (take-append-drop i places) in
+    let rest : count_by is_some (drop i places) ≡ 0 = omega (arith, parts, whole, taken, indexed.counted) in
+    sym (ap (filter_map (kept_in kept)) (sym (take-append-drop i places))
+    ∙ filter_map-append (kept_in kept) (take i places) (drop i places)
+    ∙ ap (λ later. filter_map (kept_in kept) (take i places) ++ later) (none_kept kept (drop i places) rest)
+    ∙ append-nil (filter_map (kept_in kept) (take i places)))
 
 -- ---- equality
 

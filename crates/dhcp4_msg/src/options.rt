@@ -324,13 +324,19 @@ impl DhcpV4Options {
         Ok(())
     }
 
-    // Writes the options that are kept, by rising number.
+    // Writes the options that are kept, by rising number; the walk over the table ends with the last
+    // of them.
     fn emit_kept(&self, buf: &mut BufferMut) -> Result<(), DhcpError>
         ensures { Emits result buf.old buf.new (flat_map written_option (map.values self.now)) }
     {
+        let mut left = self.kept.len();
         for place in &self.places {
+            if left == 0 {
+                break;
+            }
             if let Some(place) = place {
                 self.kept[usize::from(*place)].emit(buf)?;
+                left -= 1;
             }
         }
         Ok(())
