@@ -324,8 +324,8 @@ impl DhcpV4Options {
         Ok(())
     }
 
-    // Writes the options that are kept, by rising number; the walk over the table ends with the last
-    // of them.
+    // Writes the options that are kept, by rising number; the walk over the table ends with the
+    // last of them.
     fn emit_kept(&self, buf: &mut BufferMut) -> Result<(), DhcpError>
         ensures { Emits result buf.old buf.new (flat_map written_option (map.values self.now)) }
     {

@@ -1,4 +1,5 @@
-//! The program: runs the script on standard input, and prints what its client hands to the link and each state that it reaches.
+//! The program: runs the script on standard input, and prints what its client hands to the link and
+//! each state that it reaches.
 #![tactic(auto)]
 
 use dhcp_replay::{Status, StdSink, StdSource, replay_tool};

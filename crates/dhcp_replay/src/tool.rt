@@ -43,8 +43,9 @@ impl From<Status> for u8 {
     }
 }
 
-/// Runs the thin script that the source holds, and writes what it reports: the text of the outputs of
-/// the script's history. Returns the exit status. With every status but 0 and 4 nothing is written.
+/// Runs the thin script that the source holds, and writes what it reports: the text of the outputs
+/// of the script's history. Returns the exit status. With every status but 0 and 4 nothing is
+/// written.
 pub fn replay_tool<S: Source, K: Sink>(
     alloc: Global,
     words: &[String],

@@ -1,4 +1,5 @@
--- Fields of texts in hex: bytes, two lower-case digits for each, words of 32 bits, and MAC addresses.
+-- Fields of texts in hex: bytes, two lower-case digits for each, words of 32 bits, and MAC
+-- addresses.
 use Rattle.std.specs.Prelude.{◌≡◌, ◌<◌, ◌^◌, ℕ, Bool, ◌&&◌, ◌||◌, nat_le, List, [], ◌∷◌, length, codes, All}
 use Rattle.std.specs.List.{flat_map}
 use Rattle.std.specs.Int.{w32, to_be_bytes}

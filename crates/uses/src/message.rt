@@ -13,14 +13,16 @@ use dhcp4_msg::DhcpV4Message;
 use dhcp4_msg::laws::message_reads_back;
 use std::alloc::Global;
 
-/// The configuration of a client on `eth0` that names its host, is known by its MAC address, and asks
-/// for static routes too.
+/// The configuration of a client on `eth0` that names its host, is known by its MAC address, and
+/// asks for static routes too.
 pub fn configuration(alloc: Global) -> Result<DhcpV4Config, DhcpError>
     ensures { IfOk result (λ config. config.host_name ≡ codes "foo") }
 {
     let mut config = DhcpV4Config::new(alloc, "eth0")?;
     config.set_iface_index(3);
-    config.set_iface_mac(alloc, "02:00:00:00:00:01")?.use_mac_as_client_id(alloc)?;
+    config
+        .set_iface_mac(alloc, "02:00:00:00:00:01")?
+        .use_mac_as_client_id(alloc)?;
     config.set_host_name(alloc, "foo")?;
     config.request_extra_dhcp_opts(alloc, &[33])?;
     Ok(config)

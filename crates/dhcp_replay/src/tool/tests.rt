@@ -4,7 +4,8 @@ use crate::{MemSink, MemSource, replay_tool};
 use std::alloc::{AllocError, Global};
 use std::test::Fail;
 
-// Options of an Offer and of an Ack: type, server 192.0.2.1, lease time 600, renewal time 300, rebinding time 525.
+// Options of an Offer and of an Ack: type, server 192.0.2.1, lease time 600, renewal time 300,
+// rebinding time 525.
 const OFFER: &str = "3501023604c00002013304000002583a040000012c3b040000020dff";
 
 const ACK: &str = "3501053604c00002013304000002583a040000012c3b040000020dff";
@@ -17,7 +18,8 @@ const DISCOVER: &str = "35010137090c0103060f1a2a79f93d00ff";
 
 const REQUEST: &str = "3204c000020a3501033604c000020137090c0103060f1a2a79f93d00ff";
 
-// Adds a message in hex: what stands before chaddr, the Ethernet address 02:00:00:00:00:01 with zero bytes up to the cookie, the options.
+// Adds a message in hex: what stands before chaddr, the Ethernet address 02:00:00:00:00:01 with
+// zero bytes up to the cookie, the options.
 fn push_message(text: &mut String, before: &str, options: &str) -> Result<(), AllocError> {
     text.push_str(before)?;
     text.push_str("020000000001")?;
@@ -59,8 +61,9 @@ fn push_handed(text: &mut String, event: &str, options: &str) -> Result<(), Allo
     text.push_str("\n")
 }
 
-// The status of a run with these words over a source of these bytes, and what the sink took. The calls of the source and of the sink
-// with these numbers fail. A run that finds no memory fails the test as any other want of memory.
+// The status of a run with these words over a source of these bytes, and what the sink took. The
+// calls of the source and of the sink with these numbers fail. A run that finds no memory fails the
+// test as any other want of memory.
 fn run(
     alloc: Global,
     words: &[&str],
