@@ -1,0 +1,6 @@
+pub mod Protocol
+pub mod Script
+pub mod History
+pub mod Machine
+pub mod Bounds
+pub mod Drawing

@@ -1,0 +1,150 @@
+//! The laws of histories, over all rules and every script. Each is the clause of a function that does nothing.
+
+ghost use Rattle.std.specs.Prelude.{◌≡◌, ◌≤◌, ℕ, List, All, Bool, true};
+ghost use Rattle.dhcp_clock.specs.declared.link.Packet.{Packet};
+ghost use Rattle.dhcp_history.specs.Protocol.{Lawful};
+ghost use Rattle.dhcp_history.specs.Script.{Event, Script};
+ghost use Rattle.dhcp_history.specs.History.{history, outputs};
+ghost use Rattle.dhcp_history.specs.Machine.{View, polls, replay};
+ghost use Rattle.dhcp_history.specs.Bounds.{
+  count_of,
+  is_change,
+  is_send,
+  is_send_at,
+  allowed,
+  poll_count,
+  IsWithinState,
+  CloseInTurn,
+  IsApart,
+  HasAtMost,
+  IsSparse,
+  HoldsAtEntries,
+  IsKept,
+  IsDistant,
+  IsTakenDistant,
+  Numbered,
+  InOrder,
+};
+
+use crate::Rules;
+
+/// What the calls and polls of a script report, event by event, is what the history of the script reports.
+pub fn polls_give_the_history<R: Rules>(rules: &R)
+    ensures { Lawful (R.protocol rules.now) → (script : Script Packet R.State R.Exchange) →
+        replay (R.protocol rules.now) script
+        ≡ outputs (R.protocol rules.now) (history (R.protocol rules.now) script) }
+{
+    let _rules = rules;
+}
+
+/// At an event a client is polled at most seven times, and changes its state at most six times; more polls than seven would
+/// do nothing more.
+pub fn seven_polls_an_event<R: Rules>(rules: &R)
+    ensures polls { Lawful (R.protocol rules.now) →
+        (fuel : ℕ) (event : Event Packet) (client : View R.State R.Exchange) →
+        poll_count (R.protocol rules.now) fuel event client ≤ 7 }
+    ensures changes { Lawful (R.protocol rules.now) →
+        (fuel : ℕ) (event : Event Packet) (client : View R.State R.Exchange) →
+        count_of is_change (polls (R.protocol rules.now) fuel event client).outputs ≤ 6 }
+    ensures enough { Lawful (R.protocol rules.now) →
+        (fuel : ℕ) (event : Event Packet) (client : View R.State R.Exchange) → 7 ≤ fuel →
+        polls (R.protocol rules.now) fuel event client ≡ polls (R.protocol rules.now) 7 event client }
+{
+    let _rules = rules;
+}
+
+/// At an event the polls of a client hand at most two messages to the link.
+pub fn two_messages_an_event<R: Rules>(rules: &R)
+    ensures { Lawful (R.protocol rules.now) →
+        (fuel : ℕ) (event : Event Packet) (client : View R.State R.Exchange) →
+        count_of is_send (polls (R.protocol rules.now) fuel event client).outputs ≤ 2 }
+{
+    let _rules = rules;
+}
+
+/// In what a history reports, an event has at most two messages, and a third where it asks for a release.
+pub fn two_messages_a_number<R: Rules>(rules: &R)
+    ensures { Lawful (R.protocol rules.now) → (script : Script Packet R.State R.Exchange) (number : ℕ) →
+        count_of (is_send_at number)
+        (outputs (R.protocol rules.now) (history (R.protocol rules.now) script))
+        ≤ allowed number script.events }
+{
+    let _rules = rules;
+}
+
+/// What a history reports stay by stay is in the order of events.
+pub fn reports_are_in_order<R: Rules>(rules: &R)
+    ensures { Lawful (R.protocol rules.now) → (script : Script Packet R.State R.Exchange) (least : ℕ) →
+        Numbered least script.events →
+        InOrder least (outputs (R.protocol rules.now) (history (R.protocol rules.now) script)) }
+{
+    let _rules = rules;
+}
+
+/// After the polls of an event a client without a kept error is not past the end of its state.
+pub fn no_state_is_overdue<R: Rules>(rules: &R)
+    ensures { Lawful (R.protocol rules.now) → (event : Event Packet) (client : View R.State R.Exchange) →
+        IsWithinState (R.protocol rules.now) event.moment (polls (R.protocol rules.now) 7 event client).view }
+{
+    let _rules = rules;
+}
+
+/// The last stay of a history lasts, and all others close.
+pub fn stays_close_in_turn<R: Rules>(rules: &R)
+    ensures { Lawful (R.protocol rules.now) → (script : Script Packet R.State R.Exchange) →
+        CloseInTurn (history (R.protocol rules.now) script) }
+{
+    let _rules = rules;
+}
+
+/// In a stay each attempt is made when the wait of the one before is over, or later.
+pub fn attempts_are_apart<R: Rules>(rules: &R)
+    ensures { (script : Script Packet R.State R.Exchange) →
+        All IsApart (history (R.protocol rules.now) script) }
+{
+    let _rules = rules;
+}
+
+/// A stay in a state that ends after n taken attempts has at most n of them.
+pub fn attempts_run_out<R: Rules>(rules: &R)
+    ensures { (script : Script Packet R.State R.Exchange) →
+        All (HasAtMost (R.protocol rules.now)) (history (R.protocol rules.now) script) }
+{
+    let _rules = rules;
+}
+
+/// In a state whose waits are half of the rest, the messages of a stay get rarer by half.
+pub fn messages_halve<R: Rules>(rules: &R)
+    ensures { (script : Script Packet R.State R.Exchange) →
+        All (IsSparse (R.protocol rules.now)) (history (R.protocol rules.now) script) }
+{
+    let _rules = rules;
+}
+
+/// Successive attempts of a stay keep the least distance that the waits of its state have.
+pub fn attempts_are_far_apart<R: Rules>(rules: &R)
+    ensures { (good : R.Exchange → Bool) → IsKept (R.protocol rules.now) good →
+        (script : Script Packet R.State R.Exchange) → good script.exchange ≡ true →
+        All (IsDistant (R.protocol rules.now) good) (history (R.protocol rules.now) script) }
+{
+    let _rules = rules;
+}
+
+/// And so do the messages of a stay that the link took.
+pub fn messages_are_far_apart<R: Rules>(rules: &R)
+    ensures { (good : R.Exchange → Bool) → IsKept (R.protocol rules.now) good →
+        (script : Script Packet R.State R.Exchange) → good script.exchange ≡ true →
+        All (IsTakenDistant (R.protocol rules.now) good) (history (R.protocol rules.now) script) }
+{
+    let _rules = rules;
+}
+
+/// What holds of the first state at each moment, and of each state at its entry, holds of all stays.
+pub fn entries_hold<R: Rules>(rules: &R)
+    ensures { (holds : R.State → ℕ → Bool) → HoldsAtEntries (R.protocol rules.now) holds →
+        (script : Script Packet R.State R.Exchange) → ((now : ℕ) → holds script.state now ≡ true) →
+        All (λ stay. holds stay.setting.state stay.setting.entered ≡ true)
+        (history (R.protocol rules.now) script) }
+{
+    let _rules = rules;
+}
