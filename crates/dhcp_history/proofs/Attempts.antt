@@ -99,7 +99,7 @@ module _ {PublicState Packet Message State Exchange Answer Lease : Type 0} (p : 
       later = hear p setting exchange listens (reading_if p listens setting exchange words v.input).words vs
 
       go : (answer : Option Answer) → attempts_of later.acts ≡ [] →
-          attempts_of (answer_or p answer (reading_if p listens setting exchange words v.input).words (refused_release p setting exchange v) (v ∷ vs) later).acts ≡ []
+          attempts_of (answer_or answer (reading_if p listens setting exchange words v.input).words (refused_release p setting exchange v) (v ∷ vs) later).acts ≡ []
       go None ih = rw (attempts-append (refused_release p setting exchange v) later.acts, none_denied setting exchange v, ih)
       go (Some answer) ih = none_denied setting exchange v
 
@@ -307,7 +307,7 @@ module _ {PublicState Packet Message State Exchange Answer Lease : Type 0} (p : 
     stays_have fuel limit entry [] = tt
     stays_have zero limit entry (v ∷ vs) = tt
     stays_have (suc fuel) limit entry (v ∷ vs) =
-        let setting : Setting State = setting_at p limit entry v.moment in
+        let setting : Setting State = setting_at limit entry v.moment in
         let run : Course Packet Message Exchange Answer = course p (suc (length (v ∷ vs))) setting (entry_progress p setting entry v) (before (closes p setting) (v ∷ vs)) in
         let next : Transition Packet Message State Exchange = transition p setting run.finish (from (closes p setting) (v ∷ vs)) in
         let same : attempts_of (run.acts ++ next.acts) ≡ attempts_of run.acts =
@@ -475,7 +475,7 @@ module _ {PublicState Packet Message State Exchange Answer Lease : Type 0} (p : 
     stays_far zero limit entry (v ∷ vs) g = tt
     stays_far (suc fuel) limit entry (v ∷ vs) (inl none) = absurd (cc none)
     stays_far (suc fuel) limit entry (v ∷ vs) (inr g) =
-        let setting : Setting State = setting_at p limit entry v.moment in
+        let setting : Setting State = setting_at limit entry v.moment in
         let progress : Progress Exchange = entry_progress p setting entry v in
         let run : Course Packet Message Exchange Answer = course p (suc (length (v ∷ vs))) setting progress (before (closes p setting) (v ∷ vs)) in
         let next : Transition Packet Message State Exchange = transition p setting run.finish (from (closes p setting) (v ∷ vs)) in

@@ -5,7 +5,7 @@ use Rattle.dhcp_history.specs.Protocol.{Protocol, Lawful}
 use Rattle.dhcp_history.specs.Script.{Input, Nothing, Arrival, Release, CleanUp, Event, Output, Script}
 use Rattle.dhcp_history.specs.History.{before, from, ends, overruns, closes, cuts, NoneYet, Progress, Course, course, Entry, Transition, transition, entry_progress, entry_pause, setting_at, act_outputs, closing_outputs, stays, outputs, history, Setting, Finish, refused_release, refused_release_of, cut_message, cuts_by, Cut, Act, limit_acts, cut, LimitOver, entry_of_next}
 use Rattle.dhcp_history.specs.Script.{after_call}
-use Rattle.dhcp_history.specs.Machine.{View, Phase, Unpolled, Pausing, Listening, Resting, Stopped, Reported, is_stopped, begin_stay, begin_in, call, call_by, release_of, clean_up, replay_from, replay, first_view}
+use Rattle.dhcp_history.specs.Machine.{View, Phase, Unpolled, Pausing, Listening, Resting, Stopped, EventEffect, is_stopped, begin_stay, begin_in, call, call_by, release_of, clean_up, replay_from, replay, first_view}
 use Rattle.dhcp_history.proofs.Steps.{called_plain, before_hit, from_hit, before_miss, from_miss, none_left, denied_first}
 use Rattle.dhcp_history.proofs.Polls.{setting_of, progress_of, entry_of, reported, turned, rest, stopped_rest, rest_none, broken_none, finish_of, IsBegun, Follows}
 use Rattle.dhcp_history.proofs.Follows.{flat_map-append, stay_reported, fresh_follows, begun_follows_all, broken_follows, fresh_rest, begun_is, begun_polls, rank, called_calm, begun_state, told, has_packet}
@@ -17,7 +17,7 @@ module _ {PublicState Packet Message State Exchange Answer Lease : Type 0} (p : 
 
   -- what the stays report from a clean-up at this event on
   abbrev cut_stays : ℕ → ℕ → Exchange → List ℕ → Event Packet → List (Event Packet) → List (Output PublicState Message)
-  cut_stays fuel limit exchange words v vs = outputs p (stays p fuel limit (entry_of_next p (p.after_clean_up exchange) words) (after_call v ∷ vs))
+  cut_stays fuel limit exchange words v vs = outputs p (stays p fuel limit (entry_of_next (p.after_clean_up exchange) words) (after_call v ∷ vs))
 
   call_cut : (view : View State Exchange) (v : Event Packet) → cuts p (setting_of p view) v ≡ true → call p v view ≡ record { outputs = cut_outputs (setting_of p view) view.exchange v; view = clean_up p view }
   call_cut view v e = by_what v.input e
@@ -78,7 +78,7 @@ module _ {PublicState Packet Message State Exchange Answer Lease : Type 0} (p : 
   fresh_cut : (fuel : ℕ) (view : View State Exchange) (v : Event Packet) (vs : List (Event Packet)) → cuts p (setting_of p view) v ≡ true →
       outputs p (stays p (suc fuel) view.limit (entry_of p view) (v ∷ vs)) ≡ cut_outputs (setting_of p view) view.exchange v ++ cut_stays fuel view.limit view.exchange view.words v vs
   fresh_cut fuel view v vs e =
-      let setting : Setting State = setting_at p view.limit (entry_of p view) v.moment in
+      let setting : Setting State = setting_at view.limit (entry_of p view) v.moment in
       let progress : Progress Exchange = record { last = NoneYet; due = None; exchange = view.exchange; words = view.words } in
       let progress_cut : entry_progress p setting (entry_of p view) v ≡ progress = rw e in
       stay_reported p fuel setting (course p (suc (length (v ∷ vs))) setting (entry_progress p setting (entry_of p view) v) (before (closes p setting) (v ∷ vs)))
@@ -252,12 +252,12 @@ module _ {PublicState Packet Message State Exchange Answer Lease : Type 0} (p : 
             let polled : rest p (suc fuel) (suc (suc (length vs))) begun_view (after_call v ∷ vs) ≡ told p lawful vs later 7 (after_call v) begun_view =
             begun_follows_all p lawful vs later 6 (suc fuel) (length vs) (after_call v) begun_view (called_calm v.input) (begun_is p v.moment view fresh) few room (omega arith) in
             let same : told p lawful vs later 7 (after_call v) begun_view ≡ told p lawful vs later 7 (after_call v) view =
-            ap (λ (once : Reported PublicState Message State Exchange). once.outputs ++ replay_from p once.view vs) (begun_polls p lawful vs later 6 (after_call v) view) in
+            ap (λ (once : EventEffect PublicState Message State Exchange). once.outputs ++ replay_from p once.view vs) (begun_polls p lawful vs later 6 (after_call v) view) in
             fresh_rest p (suc fuel) view v vs fresh e ∙
             rest_uncut (suc fuel) (suc (length vs)) begun_view v vs uncut ∙
             ap (λ (acts : List (Act Message)). flat_map (act_outputs p) acts ++ rest p (suc fuel) (suc (suc (length vs))) begun_view (after_call v ∷ vs)) (denied_begun v.moment view v) ∙
             ap (λ (more : List (Output PublicState Message)). flat_map (act_outputs p) (refused_release p (setting_of p view) view.exchange v) ++ more) (polled ∙ same) ∙
-            sym (ap (λ (first : Reported PublicState Message State Exchange). first.outputs ++ told p lawful vs later 7 (after_call v) first.view) (call_uncut view v e))
+            sym (ap (λ (first : EventEffect PublicState Message State Exchange). first.outputs ++ told p lawful vs later 7 (after_call v) first.view) (call_uncut view v e))
 
   module _ (lawful : Lawful p) where
     events_follow : (vs : List (Event Packet)) → Follows p vs

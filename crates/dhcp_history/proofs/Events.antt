@@ -4,7 +4,7 @@ use Rattle.std.specs.Prelude.{Option, Some, None, ◌&&◌, ◌||◌}
 use Rattle.dhcp_history.specs.Protocol.{Protocol, Lawful, has_come}
 use Rattle.dhcp_history.specs.Script.{Input, Nothing, Arrival, Release, CleanUp, Event, Output, Changed}
 use Rattle.dhcp_history.specs.History.{limit_moment, reading_of}
-use Rattle.dhcp_history.specs.Machine.{View, PollEffect, Reported, is_listening, is_pausing, is_stopped, begin_stay, is_wait_over, exchange_at, has_ended, end_state, stop, attempt_now, transmit, receive, transmit_and_receive, poll, polls, after_poll, handed_output, failed_output}
+use Rattle.dhcp_history.specs.Machine.{View, PollEffect, EventEffect, is_listening, is_pausing, is_stopped, begin_stay, is_wait_over, exchange_at, has_ended, end_state, stop, attempt_now, transmit, receive, transmit_and_receive, poll, polls, after_poll, handed_output, failed_output}
 use Rattle.dhcp_history.specs.Bounds.{count_of, is_change, is_send, poll_count, count_again}
 use Rattle.dhcp_history.proofs.Polls.{not_due, tried_due, tried_early}
 use Rattle.dhcp_history.proofs.Follows.{has_packet, rank, Moves, poll_on, poll_moves, poll_begun, poll_broken, poll_failed, poll_ended, poll_tried, begun_state}
@@ -54,7 +54,7 @@ module _ {PublicState Packet Message State Exchange Answer Lease : Type 0} (p : 
       go None e ih = refl
       go (Some next) e ih =
           let falls : suc (rank p lawful once.view.state once.left) ≤ rank p lawful view.state v.input = (moves v.moment v.refuse v.input view next e).falls in
-          ap (λ (rest : Reported PublicState Message State Exchange). record { outputs = handed_output v once.handed ++ (record { event = v.number; report = Changed (p.public_state next) } ∷ rest.outputs); view = rest.view })
+          ap (λ (rest : EventEffect PublicState Message State Exchange). record { outputs = handed_output v once.handed ++ (record { event = v.number; report = Changed (p.public_state next) } ∷ rest.outputs); view = rest.view })
           (ih (record v { input = once.left }) once.view (omega (arith, falls)))
 
   pub seven_are_enough : (seven all : ℕ) → seven ≡ 7 → seven ≤ all → (v : Event Packet) (view : View State Exchange) → polls p all v view ≡ polls p seven v view
@@ -140,7 +140,7 @@ module _ {PublicState Packet Message State Exchange Answer Lease : Type 0} (p : 
 
   -- what holds of each way that a poll can go holds of the poll
   module _ (now : ℕ) (refuse : Bool) (input : Input Packet) (Holds : PollEffect Packet Message State Exchange → Type 0)
-      (by_broken : (view : View State Exchange) → Holds (stop p input view)) (by_ended : (view : View State Exchange) → Holds (end_state p now input view))
+      (by_broken : (view : View State Exchange) → Holds (stop input view)) (by_ended : (view : View State Exchange) → Holds (end_state p now input view))
       (by_tried : (view : View State Exchange) → has_ended p now view ≡ false → Holds (transmit_and_receive p now refuse input view)) where
     on_holds : (view : View State Exchange) → Holds (poll_on p now refuse input view)
     on_holds view = by_phase (is_stopped view.phase) refl

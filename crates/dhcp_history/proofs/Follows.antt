@@ -36,8 +36,8 @@ module _ {PublicState Packet Message State Exchange Answer Lease : Type 0} (p : 
   -- a poll of a client that was polled before in this state
   abbrev pub poll_on : ℕ → Bool → Input Packet → View State Exchange → PollEffect Packet Message State Exchange
   poll_on now refuse input view =
-      if is_stopped view.phase then stop p input view
-      else (if has_come now (limit_moment p view.limit view.entered view.state) then stop p input view
+      if is_stopped view.phase then stop input view
+      else (if has_come now (limit_moment p view.limit view.entered view.state) then stop input view
       else (if has_ended p now view then end_state p now input view
       else transmit_and_receive p now refuse input view))
 
@@ -68,11 +68,11 @@ module _ {PublicState Packet Message State Exchange Answer Lease : Type 0} (p : 
       by_phase Stopped = refl
 
   -- what a poll is, by what has come
-  pub poll_broken : (now : ℕ) (refuse : Bool) (input : Input Packet) (view : View State Exchange) → is_stopped view.phase ≡ true → poll_on now refuse input view ≡ stop p input view
+  pub poll_broken : (now : ℕ) (refuse : Bool) (input : Input Packet) (view : View State Exchange) → is_stopped view.phase ≡ true → poll_on now refuse input view ≡ stop input view
   poll_broken now refuse input view b = rw b
 
   pub poll_failed : (now : ℕ) (refuse : Bool) (input : Input Packet) (view : View State Exchange) → is_stopped view.phase ≡ false → has_come now (limit_moment p view.limit view.entered view.state) ≡ true →
-      poll_on now refuse input view ≡ stop p input view
+      poll_on now refuse input view ≡ stop input view
   poll_failed now refuse input view b f = rw (b, f)
 
   pub poll_ended : (now : ℕ) (refuse : Bool) (input : Input Packet) (view : View State Exchange) → is_stopped view.phase ≡ false → has_come now (limit_moment p view.limit view.entered view.state) ≡ false →
@@ -116,7 +116,7 @@ module _ {PublicState Packet Message State Exchange Answer Lease : Type 0} (p : 
 
   ended_as : (now : ℕ) (input : Input Packet) (view : View State Exchange) (exchange : Exchange) → exchange_at p now view ≡ exchange →
       end_state p now input view ≡ record {
-        view = enter p (p.after_end view.state exchange) view;
+        view = enter (p.after_end view.state exchange) view;
         handed = None;
         left = input;
         change = Some (p.after_end view.state exchange).state;
@@ -291,7 +291,7 @@ module _ {PublicState Packet Message State Exchange Answer Lease : Type 0} (p : 
     fresh_view = record { state = state; exchange = exchange; limit = limit; entered = entered; phase = Unpolled; deadline = deadline; words = words }
 
     abbrev fresh_setting : Setting State
-    fresh_setting = setting_at p limit (entry_of p fresh_view) v.moment
+    fresh_setting = setting_at limit (entry_of p fresh_view) v.moment
 
     fresh_rest_in : cuts p fresh_setting v ≡ false → outputs p (stays p (suc fuel) limit (entry_of p fresh_view) (v ∷ vs)) ≡ rest p fuel (suc (length (v ∷ vs))) (begin_stay p v.moment fresh_view) (v ∷ vs)
     fresh_rest_in uncut =
@@ -304,7 +304,7 @@ module _ {PublicState Packet Message State Exchange Answer Lease : Type 0} (p : 
       view ≡ record { state = view.state; exchange = view.exchange; limit = view.limit; entered = view.entered; phase = Unpolled; deadline = view.deadline; words = view.words }
   fresh_eta view e = rw (← e)
 
-  pub fresh_rest : (fuel : ℕ) (view : View State Exchange) (v : Event Packet) (vs : List (Event Packet)) → view.phase ≡ Unpolled → cuts p (setting_at p view.limit (entry_of p view) v.moment) v ≡ false →
+  pub fresh_rest : (fuel : ℕ) (view : View State Exchange) (v : Event Packet) (vs : List (Event Packet)) → view.phase ≡ Unpolled → cuts p (setting_at view.limit (entry_of p view) v.moment) v ≡ false →
       outputs p (stays p (suc fuel) view.limit (entry_of p view) (v ∷ vs)) ≡ rest p fuel (suc (length (v ∷ vs))) (begin_stay p v.moment view) (v ∷ vs)
   fresh_rest fuel view v vs e uncut =
       subst (λ (w : View State Exchange). outputs p (stays p (suc fuel) view.limit (entry_of p view) (v ∷ vs)) ≡ rest p fuel (suc (length (v ∷ vs))) (begin_stay p v.moment w) (v ∷ vs)) (sym (fresh_eta view e))
@@ -379,7 +379,7 @@ module _ {PublicState Packet Message State Exchange Answer Lease : Type 0} (p : 
     fresh_from_begun : (polled : ℕ) → BegunFollows polled → FreshFollows polled
     fresh_from_begun zero begun_follows fuel v view calm e few enough_fuel = absurd (omega arith)
     fresh_from_begun (suc polled) begun_follows fuel v view calm e few enough_fuel =
-        rw (fresh_rest fuel view v vs e ((plain_of v calm).uncut (setting_at p view.limit (entry_of p view) v.moment)), ← begun_polls polled v view)
+        rw (fresh_rest fuel view v vs e ((plain_of v calm).uncut (setting_at view.limit (entry_of p view) v.moment)), ← begun_polls polled v view)
         (begun_follows fuel (length vs) v (begin_stay p v.moment view) calm (begun_is v.moment view e)
         (rw (begun_state v.moment view) few) (rw (begun_state v.moment view) enough_fuel) (omega arith))
 

@@ -6,7 +6,7 @@ use Rattle.dhcp_history.specs.Protocol.{Protocol, Lawful}
 use Rattle.dhcp_history.specs.Script.{Input, Nothing, Arrival, Release, CleanUp, Event, Output, Changed, Script}
 use Rattle.dhcp_history.specs.History.{history, outputs}
 use Rattle.dhcp_history.specs.Script.{after_call}
-use Rattle.dhcp_history.specs.Machine.{View, PollEffect, Reported, poll, polls, after_poll, handed_output, failed_output, call, call_by, release_of, replay_from, first_view}
+use Rattle.dhcp_history.specs.Machine.{View, PollEffect, EventEffect, poll, polls, after_poll, handed_output, failed_output, call, call_by, release_of, replay_from, first_view}
 use Rattle.dhcp_history.specs.Bounds.{Numbered, InOrder, count_of, is_send, is_send_at, allowance, allowed}
 use Rattle.dhcp_history.proofs.Events.{count_of-append, two_sends}
 use Rattle.dhcp_history.proofs.Calls.{replay_history}
@@ -80,8 +80,8 @@ module _ {PublicState Packet Message State Exchange Answer Lease : Type 0} (p : 
   replay_few : Lawful p → (n : ℕ) (view : View State Exchange) (events : List (Event Packet)) → count_of (is_send_at n) (replay_from p view events) ≤ allowed n events
   replay_few lawful n view [] = omega arith
   replay_few lawful n view (v ∷ vs) =
-      let first : Reported PublicState Message State Exchange = call p v view in
-      let then' : Reported PublicState Message State Exchange = polls p 7 (after_call v) first.view in
+      let first : EventEffect PublicState Message State Exchange = call p v view in
+      let then' : EventEffect PublicState Message State Exchange = polls p 7 (after_call v) first.view in
       sum first.outputs then'.outputs (replay_from p then'.view vs) (call_few v view) (of_polls 7 (after_call v) first.view) (two_sends p lawful 7 (after_call v) first.view) (replay_few lawful n then'.view vs)
     where
       sum : (xs ys zs : List (Output PublicState Message)) → Calls v xs → Of v.number ys → count_of is_send ys ≤ 2 → count_of (is_send_at n) zs ≤ allowed n vs →
@@ -111,8 +111,8 @@ module _ {PublicState Packet Message State Exchange Answer Lease : Type 0} (p : 
   replay_in_order : (least : ℕ) (view : View State Exchange) (events : List (Event Packet)) → Numbered least events → InOrder least (replay_from p view events)
   replay_in_order least view [] h = tt
   replay_in_order least view (v ∷ vs) h =
-      let first : Reported PublicState Message State Exchange = call p v view in
-      let then' : Reported PublicState Message State Exchange = polls p 7 (after_call v) first.view in
+      let first : EventEffect PublicState Message State Exchange = call p v view in
+      let then' : EventEffect PublicState Message State Exchange = polls p 7 (after_call v) first.view in
       then_later least v.number first.outputs (then'.outputs ++ replay_from p then'.view vs) h.0 (call_few v view).numbered
       (then_later v.number v.number then'.outputs (replay_from p then'.view vs) (omega arith) (of_polls 7 (after_call v) first.view) (replay_in_order v.number then'.view vs h.1))
 

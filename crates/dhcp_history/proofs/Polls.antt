@@ -63,7 +63,7 @@ module _ {PublicState Packet Message State Exchange Answer Lease : Type 0} (p : 
 
   -- the change to the next state, and then what the stays report from there on
   abbrev pub moved : ℕ → ℕ → Event Packet → NextState State Exchange → List ℕ → List (Event Packet) → List (Output PublicState Message)
-  moved fuel limit event next words events = changed event next.state ∷ outputs p (stays p fuel limit (entry_of_next p next words) events)
+  moved fuel limit event next words events = changed event next.state ∷ outputs p (stays p fuel limit (entry_of_next next words) events)
 
   -- with no event left nothing is reported
   pub rest_none : (fuel steps : ℕ) (view : View State Exchange) → rest fuel steps view [] ≡ []

@@ -252,14 +252,14 @@ module _ {PublicState Packet Message State Exchange Answer Lease : Type 0} (p : 
   -- the turn of the stay that is entered at the first of these events
   abbrev pub transition_of : ℕ → Entry State Exchange → Event Packet → List (Event Packet) → Transition Packet Message State Exchange
   transition_of limit entry first later =
-      let setting = setting_at p limit entry first.moment in
+      let setting = setting_at limit entry first.moment in
       let run = course p (suc (length (first ∷ later))) setting (entry_progress p setting entry first) (before (closes p setting) (first ∷ later)) in
       transition p setting run.finish (from (closes p setting) (first ∷ later))
 
   stay_turns : (limit : ℕ) (entry : Entry State Exchange) (first : Event Packet) (later : List (Event Packet)) →
-      Turning (setting_at p limit entry first.moment) (first ∷ later) (transition_of limit entry first later)
+      Turning (setting_at limit entry first.moment) (first ∷ later) (transition_of limit entry first later)
   stay_turns limit entry first later =
-      let setting : Setting State = setting_at p limit entry first.moment in
+      let setting : Setting State = setting_at limit entry first.moment in
       let progress : Progress Exchange = entry_progress p setting entry first in
       let window : List (Event Packet) = before (closes p setting) (first ∷ later) in
       turns setting (course p (suc (length (first ∷ later))) setting progress window).finish window (from (closes p setting) (first ∷ later)) (first ∷ later)
@@ -287,7 +287,7 @@ module _ {PublicState Packet Message State Exchange Answer Lease : Type 0} (p : 
     stays_hold zero limit entry (v ∷ vs) h = tt
     stays_hold (suc fuel) limit entry (v ∷ vs) h =
         let next : Transition Packet Message State Exchange = transition_of limit entry v vs in
-        (h, stays_hold fuel limit next.entry next.events (turn_holds (setting_at p limit entry v.moment) (v ∷ vs) next (stay_turns limit entry v vs)))
+        (h, stays_hold fuel limit next.entry next.events (turn_holds (setting_at limit entry v.moment) (v ∷ vs) next (stay_turns limit entry v vs)))
 
     -- what holds of the first state at each moment, and of each state as it is entered, holds of all stays
     pub history_holds : (script : Script Packet State Exchange) → ((now : ℕ) → Holds script.state now) → AllByRecursion (λ stay. Holds stay.setting.state stay.setting.entered) (history p script)
@@ -408,7 +408,7 @@ module _ {PublicState Packet Message State Exchange Answer Lease : Type 0} (p : 
     stays_close (suc fuel) limit entry (v ∷ vs) enough = go (turn_falls setting v vs next (stay_turns limit entry v vs)) (stays_close fuel limit next.entry next.events)
       where
         setting : Setting State
-        setting = setting_at p limit entry v.moment
+        setting = setting_at limit entry v.moment
 
         next : Transition Packet Message State Exchange
         next = transition_of limit entry v vs

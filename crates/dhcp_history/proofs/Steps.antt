@@ -73,7 +73,7 @@ module _ {PublicState Packet Message State Exchange Answer Lease : Type 0} (p : 
     -- at an event at or past the due moment an attempt stands
     pub attempt_stands : (last : LastAttempt) → is_at_or_past due v ≡ true → runs_out p setting (progress_with last) ≡ false →
         course p (suc fuel) setting (progress_with last) (v ∷ vs) ≡
-        with_acts p (Attempted (attempt_at p setting (progress_with last) v) ∷ []) (course p fuel setting (progress_after p setting (progress_with last) v) (v ∷ vs))
+        with_acts (Attempted (attempt_at p setting (progress_with last) v) ∷ []) (course p fuel setting (progress_after p setting (progress_with last) v) (v ∷ vs))
     attempt_stands last e more = rw (course, before_hit (is_at_or_past due) v vs e, from_hit (is_at_or_past due) v vs e, more, plain.undenied setting exchange, plain.same)
 
     -- or the stay ends, where the last attempt was the last of all
@@ -102,12 +102,12 @@ module _ {PublicState Packet Message State Exchange Answer Lease : Type 0} (p : 
 
   -- acts that were heard first are acts of the course
   next_attempt_deeds : (goes_on : Progress Exchange → List (Event Packet) → Course Packet Message Exchange Answer) (setting : Setting State) (progress : Progress Exchange) (acts : List (Act Message)) (answer : Option Answer) (last : Heard Packet Message Answer) (late : List (Event Packet)) →
-      next_attempt p goes_on setting progress answer (record last { acts = acts ++ last.acts }) late ≡ with_acts p acts (next_attempt p goes_on setting progress answer last late)
+      next_attempt p goes_on setting progress answer (record last { acts = acts ++ last.acts }) late ≡ with_acts acts (next_attempt p goes_on setting progress answer last late)
   next_attempt_deeds goes_on setting progress acts (Some answer) last late = refl
   next_attempt_deeds goes_on setting progress acts None last [] = refl
   next_attempt_deeds goes_on setting progress acts None last (v ∷ vs) = go (runs_out p setting progress)
     where
-      go : (b : Bool) → attempt_or_end p b goes_on setting progress (acts ++ last.acts) v vs ≡ with_acts p acts (attempt_or_end p b goes_on setting progress last.acts v vs)
+      go : (b : Bool) → attempt_or_end p b goes_on setting progress (acts ++ last.acts) v vs ≡ with_acts acts (attempt_or_end p b goes_on setting progress last.acts v vs)
       go true = simp append_assoc
       go false = simp append_assoc
 
@@ -131,18 +131,18 @@ module _ {PublicState Packet Message State Exchange Answer Lease : Type 0} (p : 
     no_denial : refused_release p setting progress.exchange without ≡ []
     no_denial = (called_plain release).undenied setting progress.exchange
 
-    pub denied_first : course p (suc fuel) setting progress (release ∷ vs) ≡ with_acts p (refused_release p setting progress.exchange release) (course p (suc fuel) setting progress (without ∷ vs))
+    pub denied_first : course p (suc fuel) setting progress (release ∷ vs) ≡ with_acts (refused_release p setting progress.exchange release) (course p (suc fuel) setting progress (without ∷ vs))
     denied_first = go (is_at_or_past progress.due release) refl
       where
         due : Event Packet → Bool
         due = is_at_or_past progress.due
 
         by_end : (b : Bool) → attempt_or_end p b (course p fuel setting) setting progress [] release vs ≡
-            with_acts p (refused_release p setting progress.exchange release) (attempt_or_end p b (course p fuel setting) setting progress [] without vs)
+            with_acts (refused_release p setting progress.exchange release) (attempt_or_end p b (course p fuel setting) setting progress [] without vs)
         by_end true = rw no_denial (simp append-nil)
         by_end false = rw no_denial (simp append_assoc)
 
-        go : (b : Bool) → is_at_or_past progress.due release ≡ b → course p (suc fuel) setting progress (release ∷ vs) ≡ with_acts p (refused_release p setting progress.exchange release) (course p (suc fuel) setting progress (without ∷ vs))
+        go : (b : Bool) → is_at_or_past progress.due release ≡ b → course p (suc fuel) setting progress (release ∷ vs) ≡ with_acts (refused_release p setting progress.exchange release) (course p (suc fuel) setting progress (without ∷ vs))
         go true e =
             rw (
               course,

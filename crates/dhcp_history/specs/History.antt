@@ -165,6 +165,28 @@ abbrev pub moment_of : {Packet : Type 0} → List (Event Packet) → ℕ
 moment_of [] = 0
 moment_of (event ∷ events) = event.moment
 
+-- an answer at the first of these events, or else what is heard later
+abbrev pub answer_or : {Packet Message Answer : Type 0} → Option Answer → List ℕ →
+    List (Act Message) → List (Event Packet) → Heard Packet Message Answer →
+    Heard Packet Message Answer
+answer_or None words acts events later = record later { acts = acts ++ later.acts }
+answer_or (Some answer) words acts events later =
+    record { answer = Some answer; rest = events; words = words; acts = acts }
+
+-- a course that begins with these acts
+abbrev pub with_acts : {Packet Message Exchange Answer : Type 0} → List (Act Message) →
+    Course Packet Message Exchange Answer → Course Packet Message Exchange Answer
+with_acts acts course = record course { acts = acts ++ course.acts }
+
+-- what the next stay begins with, with these words left
+abbrev pub entry_of_next : {State Exchange : Type 0} → NextState State Exchange → List ℕ →
+    Entry State Exchange
+entry_of_next next words = record { state = next.state; exchange = next.exchange; words = words }
+
+-- the setting of a stay that is entered at this moment
+abbrev pub setting_at : {State Exchange : Type 0} → ℕ → Entry State Exchange → ℕ → Setting State
+setting_at limit entry moment = record { state = entry.state; entered = moment; limit = limit }
+
 module _ {PublicState Packet Message State Exchange Answer Lease : Type 0}
     (p : Protocol PublicState Packet Message State Exchange Answer Lease) where
   -- 1. What closes a stay.
@@ -216,13 +238,6 @@ module _ {PublicState Packet Message State Exchange Answer Lease : Type 0}
   reading_if true setting exchange words input = reading_of setting.state exchange words input
   reading_if false setting exchange words input = record { value = None; words = words }
 
-  -- an answer at the first of these events, or else what is heard later
-  abbrev pub answer_or : Option Answer → List ℕ → List (Act Message) → List (Event Packet) →
-      Heard Packet Message Answer → Heard Packet Message Answer
-  answer_or None words acts events later = record later { acts = acts ++ later.acts }
-  answer_or (Some answer) words acts events later =
-      record { answer = Some answer; rest = events; words = words; acts = acts }
-
   -- what the packets of these events answer to the last attempt, which is open or not
   abbrev pub hear : Setting State → Exchange → Bool → List ℕ → List (Event Packet) →
       Heard Packet Message Answer
@@ -271,10 +286,6 @@ module _ {PublicState Packet Message State Exchange Answer Lease : Type 0}
     exchange = (new_attempt_at setting progress event.moment).value.exchange;
     words = (new_attempt_at setting progress event.moment).words;
   }
-
-  abbrev pub with_acts : List (Act Message) → Course Packet Message Exchange Answer →
-      Course Packet Message Exchange Answer
-  with_acts acts course = record course { acts = acts ++ course.acts }
 
   -- At the first event at or past the due moment the stay ends, where its last attempt was the last one
   -- that its state allows; else the next attempt is made. A release that is refused comes first.
@@ -359,9 +370,6 @@ module _ {PublicState Packet Message State Exchange Answer Lease : Type 0}
   cut_message setting exchange (Arrival packet) = None
   cut_message setting exchange CleanUp = None
 
-  abbrev pub entry_of_next : NextState State Exchange → List ℕ → Entry State Exchange
-  entry_of_next next words = record { state = next.state; exchange = next.exchange; words = words }
-
   -- a stay is cut at the first of these events, if there is one
   abbrev pub cut : Setting State → Finish Packet Exchange Answer → List (Event Packet) →
       Transition Packet Message State Exchange
@@ -429,9 +437,6 @@ module _ {PublicState Packet Message State Exchange Answer Lease : Type 0}
   transition setting finish late = transition_by finish.outcome setting finish late
 
   -- 5. The stays of a script.
-
-  abbrev pub setting_at : ℕ → Entry State Exchange → ℕ → Setting State
-  setting_at limit entry moment = record { state = entry.state; entered = moment; limit = limit }
 
   -- when the first attempt is due: never in a state without attempts
   abbrev pub first_due : State → ℕ → Option ℕ

@@ -4,3 +4,5 @@ pub mod History
 pub mod Machine
 pub mod Bounds
 pub mod Drawing
+pub mod Client
+pub mod Run

@@ -1,6 +1,6 @@
 -- The client as a machine that is polled, and the loop over events that polls it.
-pub use Rattle.dhcp_history.specs.declared.phase.Phase.{Phase}
-pub use Rattle.dhcp_history.specs.declared.phase.Phase.TheVariants.{Unpolled, Pausing, Listening, Resting, Stopped}
+pub use Rattle.dhcp_history.specs.declared.client.Phase.{Phase}
+pub use Rattle.dhcp_history.specs.declared.client.Phase.TheVariants.{Unpolled, Pausing, Listening, Resting, Stopped}
 use Rattle.std.specs.Prelude.{ℕ, suc, zero, ◌+◌, Bool, true, false, ◌&&◌, ◌||◌, List, [], ◌∷◌, ◌++◌, Option, Some, None, if◌then◌else◌}
 use Rattle.dhcp_history.specs.declared.rules.NewAttempt.{NewAttempt}
 use Rattle.dhcp_history.specs.Protocol.{Protocol, Drawn, NextState, has_come}
@@ -62,7 +62,7 @@ pub record PollEffect (Packet Message State Exchange : Type 0) : Type 0 where
   pub failed : Bool
 
 -- what the polls or the call of an event report, and the client after them
-pub record Reported (PublicState Message State Exchange : Type 0) : Type 0 where
+pub record EventEffect (PublicState Message State Exchange : Type 0) : Type 0 where
   pub outputs : List (Output PublicState Message)
   pub view : View State Exchange
 
@@ -76,6 +76,30 @@ abbrev pub failed_output : {PublicState Packet Message : Type 0} → Event Packe
     List (Output PublicState Message)
 failed_output event failed =
     if failed then record { event = event.number; report = Failed TimedOut } ∷ [] else []
+
+-- goes to the next state, which was not polled yet
+abbrev pub enter : {State Exchange : Type 0} → NextState State Exchange → View State Exchange →
+    View State Exchange
+enter next view = record {
+  state = next.state;
+  exchange = next.exchange;
+  limit = view.limit;
+  entered = 0;
+  phase = Unpolled;
+  deadline = None;
+  words = view.words;
+}
+
+-- a client whose time limit is over answers the error, and does nothing else
+abbrev pub stop : {Packet Message State Exchange : Type 0} → Input Packet → View State Exchange →
+    PollEffect Packet Message State Exchange
+stop input view = record {
+  view = record view { phase = Stopped };
+  handed = None;
+  left = input;
+  change = None;
+  failed = true;
+}
 
 module _ {PublicState Packet Message State Exchange Answer Lease : Type 0}
     (p : Protocol PublicState Packet Message State Exchange Answer Lease) where
@@ -104,28 +128,6 @@ module _ {PublicState Packet Message State Exchange Answer Lease : Type 0}
   limit_is_over now view = limit_is_over_in view.phase now view
 
   -- 2. What a poll does.
-
-  -- goes to the next state, which was not polled yet
-  abbrev pub enter : NextState State Exchange → View State Exchange → View State Exchange
-  enter next view = record {
-    state = next.state;
-    exchange = next.exchange;
-    limit = view.limit;
-    entered = 0;
-    phase = Unpolled;
-    deadline = None;
-    words = view.words;
-  }
-
-  -- a client whose time limit is over answers the error, and does nothing else
-  abbrev pub stop : Input Packet → View State Exchange → PollEffect Packet Message State Exchange
-  stop input view = record {
-    view = record view { phase = Stopped };
-    handed = None;
-    left = input;
-    change = None;
-    failed = true;
-  }
 
   -- a state at its end gives way to the next one
   abbrev pub end_state : ℕ → Input Packet → View State Exchange →
@@ -222,9 +224,9 @@ module _ {PublicState Packet Message State Exchange Answer Lease : Type 0}
 
   -- after a poll that answers a change the client is polled again
   abbrev pub after_poll :
-      (Event Packet → View State Exchange → Reported PublicState Message State Exchange) →
+      (Event Packet → View State Exchange → EventEffect PublicState Message State Exchange) →
       Event Packet → Option State → PollEffect Packet Message State Exchange →
-      Reported PublicState Message State Exchange
+      EventEffect PublicState Message State Exchange
   after_poll again event None once = record {
     outputs = handed_output event once.handed ++ failed_output event once.failed;
     view = once.view;
@@ -239,7 +241,7 @@ module _ {PublicState Packet Message State Exchange Answer Lease : Type 0}
 
   -- the polls of an event until one answers no change, at most `fuel` of them
   abbrev pub polls : ℕ → Event Packet → View State Exchange →
-      Reported PublicState Message State Exchange
+      EventEffect PublicState Message State Exchange
   polls zero event view = record { outputs = []; view = view }
   polls (suc fuel) event view =
       let once = poll event.moment event.refuse event.input view in
@@ -251,7 +253,7 @@ module _ {PublicState Packet Message State Exchange Answer Lease : Type 0}
 
   -- a release of the lease that is held, if there is one; a clean-up follows where the link took it
   abbrev pub release_of : Option Lease → Event Packet → View State Exchange →
-      Reported PublicState Message State Exchange
+      EventEffect PublicState Message State Exchange
   release_of None event view = record { outputs = []; view = view }
   release_of (Some lease) event view =
       let message = p.release_message lease view.exchange in
@@ -268,13 +270,13 @@ module _ {PublicState Packet Message State Exchange Answer Lease : Type 0}
 
   -- the call that an event asks for: a release, a clean-up, or none
   abbrev pub call_by : Input Packet → Event Packet → View State Exchange →
-      Reported PublicState Message State Exchange
+      EventEffect PublicState Message State Exchange
   call_by Nothing event view = record { outputs = []; view = view }
   call_by (Arrival packet) event view = record { outputs = []; view = view }
   call_by Release event view = release_of (p.held_lease view.state) event view
   call_by CleanUp event view = record { outputs = []; view = clean_up view }
 
-  abbrev pub call : Event Packet → View State Exchange → Reported PublicState Message State Exchange
+  abbrev pub call : Event Packet → View State Exchange → EventEffect PublicState Message State Exchange
   call event view = call_by event.input event view
 
   -- 4. A script.

@@ -1,12 +1,15 @@
-//! The history of a DHCP client: whole stays with their attempts, and the machine that is polled and reports them. It is
-//! defined and proved once, for every family of client.
+//! The history of a DHCP client: whole stays with their attempts, and the machine that is polled
+//! and reports them. Both are defined once, for every family of client.
 #![tactic(auto)]
 
-pub mod laws;
-mod phase;
+mod client;
+mod machine;
 mod rules;
 mod script;
 
-pub use phase::Phase;
+pub mod laws;
+
+pub use client::{Client, Phase, Standing};
+pub use machine::{ReleaseError, RunError};
 pub use rules::{AttemptStart, NewAttempt, Rules};
 pub use script::{Event, Failure, Input, Output, Report};

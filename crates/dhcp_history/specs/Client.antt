@@ -1,0 +1,32 @@
+-- A client, as the protocol sees it.
+use Rattle.std.specs.Prelude.{◌≡◌, ℕ, List, Option, Some, None}
+use Rattle.dhcp_history.specs.declared.client.Client.{Client}
+use Rattle.dhcp_history.specs.declared.client.Standing.{Standing}
+use Rattle.dhcp_history.specs.Protocol.{NextState}
+use Rattle.dhcp_history.specs.Machine.{View, Unpolled}
+
+-- a client that stands so in its state, with these words left
+abbrev pub view_with : {State Exchange : Type 0} → Client State Exchange → Standing Exchange → List ℕ → View State Exchange
+view_with client standing words = record {
+  state = client.state;
+  exchange = standing.exchange;
+  limit = client.limit;
+  entered = standing.entered;
+  phase = standing.phase;
+  deadline = standing.deadline;
+  words = words;
+}
+
+-- a client, with these words left
+abbrev pub view_of : {State Exchange : Type 0} → Client State Exchange → List ℕ → View State Exchange
+view_of client words = view_with client client.standing words
+
+-- how a client stands that was not polled in its state yet
+abbrev pub unpolled : {Exchange : Type 0} → Exchange → Standing Exchange
+unpolled exchange = record { exchange = exchange; entered = 0; phase = Unpolled; deadline = None }
+
+-- this state and exchange are what comes next
+pub record IsNext {State Exchange : Type 0} (next : NextState State Exchange)
+    (new_state : State) (new_exchange : Exchange) : Type 0 where
+  pub state : new_state ≡ next.state
+  pub exchange : new_exchange ≡ next.exchange

@@ -1,0 +1,190 @@
+-- What the calls of a client leave: its answer, the client, the words and the link.
+use Rattle.std.specs.Prelude.{◌≡◌, ◌⊎◌, ℕ, Bool, true, false, List, [], ◌∷◌, ◌++◌, Option, Some, None, option_map, Result, Ok, Err, IfSome, IsSomeAnd}
+use Rattle.dhcp_clock.specs.declared.link.Packet.{Packet}
+use Rattle.dhcp_clock.specs.declared.link.Handed.{Handed}
+use Rattle.dhcp_clock.specs.declared.link.Sent.{Sent}
+use Rattle.dhcp_clock.specs.declared.link.Sent.TheVariants.{Taken, Refused}
+use Rattle.dhcp_clock.specs.Link.{Shown, with_message}
+use Rattle.dhcp_history.specs.declared.machine.RunError.{RunError}
+use Rattle.dhcp_history.specs.declared.machine.RunError.TheVariants as run
+use Rattle.dhcp_history.specs.declared.machine.ReleaseError.{ReleaseError}
+use Rattle.dhcp_history.specs.declared.machine.ReleaseError.TheVariants as release
+use Rattle.dhcp_history.specs.declared.client.Client.{Client}
+use Rattle.dhcp_history.specs.Protocol.{Protocol}
+use Rattle.dhcp_history.specs.Script.{Input, Nothing, Arrival, Release, CleanUp}
+use Rattle.dhcp_history.specs.Client.{view_of}
+use Rattle.dhcp_history.specs.Machine.{View, PollEffect, Stopped, attempt_now, transmit, is_listening, clean_up}
+
+-- 1. The link.
+
+-- a packet that waits, or none, as the input of an event
+abbrev pub input_of : {Packet : Type 0} → Option Packet → Input Packet
+input_of None = Nothing
+input_of (Some packet) = Arrival packet
+
+-- and back
+abbrev pub waiting_of : {Packet : Type 0} → Input Packet → Option Packet
+waiting_of Nothing = None
+waiting_of (Arrival packet) = Some packet
+waiting_of Release = None
+waiting_of CleanUp = None
+
+-- what becomes of a message, by whether the link refuses
+abbrev pub sent_by : Bool → Sent
+sent_by true = Refused
+sent_by false = Taken
+
+-- the messages handed to a link, after this one or none
+abbrev pub handed_by : Bool → Option Handed → List (Handed × Sent) → List (Handed × Sent)
+handed_by refuse None handed = handed
+handed_by refuse (Some message) handed = handed ++ (message, sent_by refuse) ∷ []
+
+-- what a link shows after a poll
+abbrev pub shown_after : {State Exchange : Type 0} → Shown → PollEffect Packet Handed State Exchange → Shown
+shown_after before once = record {
+  refuses = before.refuses;
+  waiting = waiting_of once.left;
+  handed = handed_by before.refuses once.handed before.handed;
+}
+
+-- the link has just taken a message
+abbrev pub HasTaken : Shown → Shown → Type 0
+HasTaken before after =
+    (message : Handed) × (after.handed ≡ before.handed ++ (message, Taken) ∷ [])
+
+-- a packet was taken only for an attempt that was open before, or that the link has just taken
+abbrev pub TakesForOpen : Bool → Shown → Shown → Type 0
+TakesForOpen listens before after =
+    (after.waiting ≡ before.waiting) ⊎ ((listens ≡ true) ⊎ HasTaken before after)
+
+-- 2. A poll.
+
+-- a fact for each answer but out of memory
+abbrev pub UnlessNoMemory : {A : Type 0} → Result A RunError → Type 0 → Type 0
+UnlessNoMemory (Ok a) P = P
+UnlessNoMemory (Err run.TimedOut) P = P
+UnlessNoMemory (Err run.OutOfMemory) P = Unit {0}
+
+-- a fact for the answer out of memory
+abbrev pub OnNoMemory : {A : Type 0} → Result A RunError → Type 0 → Type 0
+OnNoMemory (Ok a) P = Unit {0}
+OnNoMemory (Err run.TimedOut) P = Unit {0}
+OnNoMemory (Err run.OutOfMemory) P = P
+
+-- a fact for the answer that the time limit is over
+abbrev pub OnTimeout : {A : Type 0} → Result A RunError → Type 0 → Type 0
+OnTimeout (Ok a) P = Unit {0}
+OnTimeout (Err run.TimedOut) P = P
+OnTimeout (Err run.OutOfMemory) P = Unit {0}
+
+module _ {PublicState State Exchange Answer Lease : Type 0}
+    (p : Protocol PublicState Packet Handed State Exchange Answer Lease) where
+  -- the answer of a poll
+  abbrev pub answer_by : Option State → Bool → Result (Option PublicState) RunError
+  answer_by (Some next) failed = Ok (Some (p.public_state next))
+  answer_by None true = Err run.TimedOut
+  answer_by None false = Ok None
+
+  abbrev pub answer_of : PollEffect Packet Handed State Exchange → Result (Option PublicState) RunError
+  answer_of once = answer_by once.change once.failed
+
+  -- what a poll leaves: its answer, the client, the words and the link
+  pub record HasPolled (once : PollEffect Packet Handed State Exchange)
+      (result : Result (Option PublicState) RunError) (view : List ℕ → View State Exchange)
+      (left : Option (List ℕ)) (before : Shown) (after : Option Shown) : Type 0 where
+    pub answer : result ≡ answer_of once
+    pub client : view once.view.words ≡ once.view
+    pub words : left ≡ Some once.view.words
+    pub link : after ≡ Some (shown_after before once)
+
+  -- what the packet leaves: the change, the client, the words and the link
+  pub record HasReceived (once : PollEffect Packet Handed State Exchange)
+      (result : Option PublicState) (view : List ℕ → View State Exchange)
+      (left : Option (List ℕ)) (before : Shown) (after : Option Shown) : Type 0 where
+    pub change : result ≡ option_map p.public_state once.change
+    pub client : view once.view.words ≡ once.view
+    pub words : left ≡ Some once.view.words
+    pub link : after ≡ Some (shown_after before once)
+
+  -- what an attempt leaves: the client, the words and the link
+  pub record HasTransmitted (now : ℕ) (first : View State Exchange)
+      (view : List ℕ → View State Exchange) (left : Option (List ℕ)) (before : Shown)
+      (after : Option Shown) : Type 0 where
+    pub client : view (transmit p now before.refuses first).words ≡ transmit p now before.refuses first
+    pub words : left ≡ Some (transmit p now before.refuses first).words
+    pub link : after ≡
+        Some (with_message (attempt_now p now first).value.message (sent_by before.refuses) before)
+
+  -- Out of memory came right after the attempt of a client that was `first`: the link took the message,
+  -- and the client listens.
+  pub record IsSent (now : ℕ) (first : List ℕ → View State Exchange) (client : Client State Exchange)
+      (drawn : Option (List ℕ)) (before after : Option Shown) : Type 0 where
+    pub listens : is_listening client.standing.phase ≡ true
+    pub moment : client.last_moment ≡ now
+    pub view : IfSome drawn (λ words. IfSome before (λ shown.
+        view_of client (transmit p now shown.refuses (first words)).words ≡
+        transmit p now shown.refuses (first words)))
+    pub link : IfSome before (λ shown. IsSomeAnd after (λ later. HasTaken shown later))
+
+-- the client is as this view, with these words left
+pub record HasDrawn {State Exchange : Type 0} (is : View State Exchange)
+    (view : List ℕ → View State Exchange) (left : Option (List ℕ)) : Type 0 where
+  pub client : view is.words ≡ is
+  pub words : left ≡ Some is.words
+
+-- Out of memory came before a message was handed to the link: the client stands as it stood.
+pub record IsUnsent {State Exchange : Type 0} (old new : Client State Exchange)
+    (before after : Option Shown) : Type 0 where
+  pub standing : new.standing ≡ old.standing
+  pub moment : new.last_moment ≡ old.last_moment
+  pub link : IfSome before (λ shown. IsSomeAnd after (λ later. later.handed ≡ shown.handed))
+
+-- The time limit was found over: the client has stopped, and words and link are as they were.
+pub record IsStopped {State Exchange : Type 0} (old new : Client State Exchange)
+    (drawn left : Option (List ℕ)) (before after : Option Shown) : Type 0 where
+  pub standing : new.standing ≡ record old.standing { phase = Stopped }
+  pub words : left ≡ drawn
+  pub link : after ≡ before
+
+-- 3. A release.
+
+-- a fact for each answer but out of memory
+abbrev pub UnlessUnreleased : {A : Type 0} → Result A ReleaseError → Type 0 → Type 0
+UnlessUnreleased (Ok a) P = P
+UnlessUnreleased (Err release.Refused) P = P
+UnlessUnreleased (Err release.OutOfMemory) P = Unit {0}
+
+-- what a release does: the client after it, the message that it hands to the link, and its answer
+pub record ReleaseEffect (State Exchange : Type 0) : Type 0 where
+  pub view : View State Exchange
+  pub handed : Option Handed
+  pub answer : Result Bool ReleaseError
+
+module _ {PublicState State Exchange Answer Lease : Type 0}
+    (p : Protocol PublicState Packet Handed State Exchange Answer Lease) where
+  -- no lease is held; the link refuses the message; or it takes it, and a clean-up follows
+  abbrev pub release_by : Option Lease → Bool → View State Exchange → ReleaseEffect State Exchange
+  release_by None refuse view = record { view = view; handed = None; answer = Ok false }
+  release_by (Some lease) true view = record {
+    view = view;
+    handed = Some (p.release_message lease view.exchange);
+    answer = Err release.Refused;
+  }
+  release_by (Some lease) false view = record {
+    view = clean_up p view;
+    handed = Some (p.release_message lease view.exchange);
+    answer = Ok true;
+  }
+
+  -- the release of the lease that is held
+  abbrev pub release_held : Bool → View State Exchange → ReleaseEffect State Exchange
+  release_held refuse view = release_by (p.held_lease view.state) refuse view
+
+-- what a release leaves: its answer, the client and the link
+pub record HasReleased {State Exchange : Type 0} (once : ReleaseEffect State Exchange)
+    (result : Result Bool ReleaseError) (new : View State Exchange) (before : Shown)
+    (after : Option Shown) : Type 0 where
+  pub answer : result ≡ once.answer
+  pub client : new ≡ once.view
+  pub link : after ≡
+      Some (record before { handed = handed_by before.refuses once.handed before.handed })

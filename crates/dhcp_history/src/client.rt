@@ -1,0 +1,45 @@
+//! A client: its state, and where it stands in it.
+
+ghost use Rattle.std.specs.Prelude.{◌≡◌, ◌<◌, ◌^◌};
+
+/// What a client is in the midst of, in the state that it is in.
+#[derive(Clone, Copy, Debug, PartialEq, Eq)]
+pub enum Phase {
+    /// It was not polled in this state yet.
+    Unpolled,
+    /// It was polled, and has sent nothing yet.
+    Pausing,
+    /// The link took its last message: the attempt is open, and a packet may answer it.
+    Listening,
+    /// The link refused its last message.
+    Resting,
+    /// Its time limit is over.
+    Stopped,
+}
+
+/// Where a client stands in its state. Moments are in milliseconds.
+#[derive(Clone, Copy)]
+pub struct Standing<X> {
+    /// The exchange with the servers.
+    pub exchange: X,
+    /// The moment of the first poll in this state.
+    pub entered: u64,
+    /// What the client is in the midst of.
+    pub phase: Phase,
+    /// The moment from which the next attempt is due.
+    pub deadline: Option<u64>,
+}
+
+/// A client of some rules.
+#[derive(Drop)]
+pub struct Client<S, X> {
+    /// What it is in, with what that rests on.
+    pub state: S,
+    /// Its time limit in seconds, 0 where there is none.
+    pub limit: u32,
+    /// Where it stands in its state.
+    pub standing: Standing<X>,
+    /// The last moment given to it, in milliseconds, 0 where there was none.
+    pub last_moment: u64,
+    ghost entered_in: { standing.entered < 2 ^ 60 },
+}

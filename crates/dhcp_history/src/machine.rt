@@ -1,0 +1,310 @@
+//! The client as a machine that is polled: the seven steps of a poll, each in a function of its own, over any rules, words and
+//! link.
+
+ghost use Rattle.std.specs.Prelude.{◌≡◌, ◌≤◌, ◌<◌, ◌+◌, ◌^◌, ◌⊎◌, ◌&&◌, ℕ, List, Bool, true, false, not, Option, Some, None, Ok, Err, OnOk, OnErr, IfOk, IfSome, IsSomeAnd};
+ghost use Rattle.dhcp_clock.specs.declared.link.Handed.{Handed};
+ghost use Rattle.dhcp_clock.specs.Link.{Shown, HandsOver, with_message, without_packet};
+ghost use Rattle.dhcp_wire.specs.Fault.{Rose};
+ghost use Rattle.dhcp_history.specs.Protocol.{has_come};
+ghost use Rattle.dhcp_history.specs.History.{limit_moment, after_wait_if};
+ghost use Rattle.dhcp_history.specs.Machine.{
+  is_unpolled,
+  is_pausing,
+  is_listening,
+  is_stopped,
+  limit_is_over,
+  has_ended,
+  exchange_at,
+  enter,
+  begin_stay,
+  receive,
+  transmit_and_receive,
+  poll,
+  clean_up,
+};
+ghost use Rattle.dhcp_history.specs.Client.{view_of, view_with, unpolled};
+ghost use Rattle.dhcp_history.specs.Run.{
+  input_of,
+  sent_by,
+  HasTaken,
+  TakesForOpen,
+  UnlessNoMemory,
+  OnNoMemory,
+  OnTimeout,
+  HasPolled,
+  HasReceived,
+  HasTransmitted,
+  HasDrawn,
+  IsUnsent,
+  IsSent,
+  IsStopped,
+  UnlessUnreleased,
+  release_held,
+  HasReleased,
+};
+
+use crate::{AttemptStart, Client, NewAttempt, Phase, Rules, Standing};
+use dhcp_clock::{DhcpLink, Handed, Sent, Words};
+use std::alloc::AllocError;
+
+/// Why a poll has no answer.
+#[derive(Clone, Copy, Debug, PartialEq, Eq)]
+pub enum RunError {
+    /// The time limit of the client is over.
+    TimedOut,
+    /// Out of memory.
+    OutOfMemory,
+}
+
+/// Why a lease was not released.
+#[derive(Clone, Copy, Debug, PartialEq, Eq)]
+pub enum ReleaseError {
+    /// The link refused the message.
+    Refused,
+    /// Out of memory.
+    OutOfMemory,
+}
+
+// Sends a message as its kind asks.
+fn send<L: DhcpLink>(link: &mut L, message: Handed) -> Sent
+    ensures hands_over { HandsOver message result (L.shown link.old) (L.shown link.new) }
+    ensures cause { result ≡ Sent.Refused → Rose (L.faults link.old) (L.faults link.new) }
+    ensures later { L.faults link.old ≤ L.faults link.new }
+{
+    match message {
+        Handed::Frame(bytes) => link.send_frame(bytes),
+        Handed::Udp4(from, to, bytes) => link.send_udp4(from, to, bytes),
+        Handed::Udp6(from, index, bytes) => link.send_udp6(from, index, bytes),
+    }
+}
+
+// Whether there is such a moment, and it has come.
+fn has_come(now: u64, moment: Option<u64>) -> bool
+    ensures { result ≡ has_come now moment }
+{
+    match moment {
+        None => false,
+        Some(moment) => moment <= now,
+    }
+}
+
+// How a client stands that was not polled in its state yet.
+fn unpolled<X: Copy>(exchange: X) -> Standing<X>
+    ensures { result ≡ unpolled exchange }
+{
+    Standing {
+        exchange,
+        entered: 0,
+        phase: Phase::Unpolled,
+        deadline: None,
+    }
+}
+
+// Whether so many seconds have passed since the stay was entered.
+fn limit_has_come<R: Rules>(
+    rules: &R,
+    client: &Client<R::State, R::Exchange>,
+    now: u64,
+) -> bool
+    ensures { result ≡ has_come now (limit_moment (R.protocol rules.now)
+        client.now.limit client.now.standing.entered client.now.state) }
+{
+    let limit = 1000 * client.limit as u64;
+    rules.has_time_limit(&client.state)
+        && limit > 0
+        && client.standing.entered <= now
+        && now - client.standing.entered >= limit
+}
+
+// Step 2: whether the time limit is over; it counts from the first poll in a state on.
+fn limit_is_over<R: Rules>(
+    rules: &R,
+    client: &Client<R::State, R::Exchange>,
+    now: u64,
+) -> bool
+    ensures { (drawn : List ℕ) →
+        result ≡ limit_is_over (R.protocol rules.now) now (view_of client.now drawn) }
+{
+    match client.standing.phase {
+        Phase::Unpolled => false,
+        Phase::Pausing => limit_has_come(rules, client, now),
+        Phase::Listening => limit_has_come(rules, client, now),
+        Phase::Resting => limit_has_come(rules, client, now),
+        Phase::Stopped => limit_has_come(rules, client, now),
+    }
+}
+
+// Whether the wait of an open attempt is over.
+fn is_wait_over<X: Copy>(standing: Standing<X>, now: u64) -> bool
+    ensures { result ≡ (is_listening standing.phase && has_come now standing.deadline) }
+{
+    standing.phase == Phase::Listening && has_come(now, standing.deadline)
+}
+
+// Step 3: whether the state ends, since its moment has come or the wait of its last attempt is over.
+fn has_ended<R: Rules>(rules: &R, client: &Client<R::State, R::Exchange>, now: u64) -> bool
+    ensures { (drawn : List ℕ) →
+        result ≡ has_ended (R.protocol rules.now) now (view_of client.now drawn) }
+{
+    has_come(now, rules.ending_moment(&client.state))
+        || (is_wait_over(client.standing, now)
+            && rules.is_last_attempt(&client.state, client.standing.exchange))
+}
+
+// The exchange of the next attempt, where one is made now.
+fn exchange_at<R: Rules>(rules: &R, standing: Standing<R::Exchange>, now: u64) -> R::Exchange
+    ensures { result ≡ after_wait_if (R.protocol rules.now)
+        (is_listening standing.phase && has_come now standing.deadline) standing.exchange }
+{
+    if is_wait_over(standing, now) {
+        rules.after_wait(standing.exchange)
+    } else {
+        standing.exchange
+    }
+}
+
+// Goes to the state after this one, and returns what is reported of it.
+fn end_state<R: Rules>(
+    rules: &R,
+    client: &mut Client<R::State, R::Exchange>,
+    now: u64,
+) -> R::PublicState
+    ensures client { (drawn : List ℕ) → view_of client.new drawn
+        ≡ enter ((R.protocol rules.now).after_end client.old.state
+        (exchange_at (R.protocol rules.now) now (view_of client.old drawn))) (view_of client.old drawn) }
+    ensures reported { result ≡ (R.protocol rules.now).public_state client.new.state }
+    ensures limit { client.new.limit ≡ client.old.limit }
+    ensures moment { client.new.last_moment ≡ now }
+{
+    let mut exchange = exchange_at(rules, client.standing, now);
+    let reported = rules.after_end(&mut client.state, &mut exchange);
+    client.standing = unpolled(exchange);
+    client.last_moment = now;
+    reported
+}
+
+// Step 4: how the client stands once it was polled in its state; the first poll draws the pause.
+fn begin_stay<R: Rules, W: Words>(
+    rules: &R,
+    client: &Client<R::State, R::Exchange>,
+    now: u64,
+    words: &mut W,
+) -> Standing<R::Exchange>
+    requires { now < 2 ^ 60 }
+    ensures drawn { IfSome (W.left words.old) (λ drawn.
+        HasDrawn (begin_stay (R.protocol rules.now) now (view_of client.now drawn))
+        (view_with client.now result) (W.left words.new)) }
+    ensures open { is_listening result.phase ≡ is_listening client.now.standing.phase }
+    ensures polled { is_unpolled client.now.standing.phase ≡ false → result ≡ client.now.standing }
+    ensures small { result.entered < 2 ^ 60 }
+{
+    if client.standing.phase != Phase::Unpolled {
+        return client.standing;
+    }
+    let pause = rules.pause(&client.state, client.standing.exchange, words);
+    let deadline = if rules.has_attempts(&client.state) {
+        Some(now + pause)
+    } else {
+        None
+    };
+    Standing {
+        exchange: client.standing.exchange,
+        entered: now,
+        phase: Phase::Pausing,
+        deadline,
+    }
+}
+
+// Step 5: an attempt of a client that stands so once it was polled. When out of memory the client is
+// unchanged.
+fn transmit<R: Rules, W: Words, L: DhcpLink>(
+    rules: &R,
+    client: &mut Client<R::State, R::Exchange>,
+    begun: Standing<R::Exchange>,
+    now: u64,
+    words: &mut W,
+    link: &mut L,
+) -> Result<(), AllocError>
+    requires moment { now < 2 ^ 60 }
+    requires small { begun.entered < 2 ^ 60 }
+    ensures transmitted { OnOk result (IfSome (W.left words.old) (λ drawn. IfSome (L.shown link.old) (λ before.
+        HasTransmitted (R.protocol rules.now) now (view_with client.old begun drawn)
+        (view_of client.new) (W.left words.new) before (L.shown link.new)))) }
+    ensures state { client.new.state ≡ client.old.state }
+    ensures limit { client.new.limit ≡ client.old.limit }
+    ensures moment { OnOk result (client.new.last_moment ≡ now) }
+    ensures unchanged { OnErr result (IsUnsent client.old client.new (L.shown link.old) (L.shown link.new)) }
+    ensures sent { OnOk result (IfSome (L.shown link.old) (λ before. (message : Handed)
+        × (L.shown link.new ≡ Some (with_message message (sent_by before.refuses) before)))) }
+    ensures listens { OnOk result (IfSome (L.shown link.old) (λ before.
+        is_listening client.new.standing.phase ≡ not before.refuses)) }
+    ensures later { L.faults link.old ≤ L.faults link.new }
+{
+    let start = AttemptStart {
+        is_first: begun.phase == Phase::Pausing,
+        entered: begun.entered,
+        now,
+    };
+    let exchange = exchange_at(rules, begun, now);
+    let NewAttempt {
+        wait,
+        message,
+        exchange,
+    } = rules.attempt(&client.state, exchange, start, words)?;
+    let phase = match send(link, message) {
+        Sent::Taken => Phase::Listening,
+        Sent::Refused => Phase::Resting,
+        Sent::NoMemory => return Err(AllocError),
+    };
+    client.standing = Standing {
+        exchange,
+        entered: begun.entered,
+        phase,
+        deadline: Some(now + wait),
+    };
+    client.last_moment = now;
+    Ok(())
+}
+
+// Steps 6 and 7: a client that listens takes the packet that waits. When out of memory the client is
+// unchanged, and the packet is lost.
+fn receive<R: Rules, W: Words, L: DhcpLink>(
+    rules: &R,
+    client: &mut Client<R::State, R::Exchange>,
+    now: u64,
+    words: &mut W,
+    link: &mut L,
+) -> Result<Option<R::PublicState>, AllocError>
+    requires { now < 2 ^ 60 }
+    ensures received { IfOk result (λ change. IfSome (W.left words.old) (λ drawn. IfSome (L.shown link.old) (λ before.
+        HasReceived (R.protocol rules.now)
+        (receive (R.protocol rules.now) now (input_of before.waiting) None (view_of client.old drawn))
+        change (view_of client.new) (W.left words.new) before (L.shown link.new)))) }
+    ensures limit { client.new.limit ≡ client.old.limit }
+    ensures moment { client.new.last_moment ≡ client.old.last_moment }
+    ensures state { OnErr result (client.new.state ≡ client.old.state) }
+    ensures standing { OnErr result (client.new.standing ≡ client.old.standing) }
+    ensures open { OnErr result (is_listening client.old.standing.phase ≡ true) }
+    ensures needed { OnErr result (IfSome (L.shown link.old) (λ before. IsSomeAnd before.waiting (λ packet.
+        R.needs_memory rules.now client.old.state client.old.standing.exchange packet ≡ true))) }
+    ensures untaken { is_listening client.old.standing.phase ≡ false → L.shown link.new ≡ L.shown link.old }
+    ensures packet { IfSome (L.shown link.old) (λ before.
+        (L.shown link.new ≡ Some before) ⊎ (L.shown link.new ≡ Some (without_packet before))) }
+    ensures later { L.faults link.old ≤ L.faults link.new }
+{
+    if client.standing.phase != Phase::Listening {
+        return Ok(None);
+    }
+    let packet = match link.receive() {
+        None => return Ok(None),
+        Some(packet) => packet,
+    };
+    let answer = match rules.reading(&client.state, client.standing.exchange, packet, words)? {
+        None => return Ok(None),
+        Some(answer) => answer,
+    };
+    let mut exchange = client.standing.exchange;
+    let reported = rules.after_answer(&mut client.state, answer, now, &mut exchange)?;
+    client.standing = unpolled(exchange);
+    Ok(Some(reported))
+}
