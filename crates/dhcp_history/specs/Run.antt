@@ -139,6 +139,13 @@ pub record IsUnsent {State Exchange : Type 0} (old new : Client State Exchange)
   pub moment : new.last_moment ≡ old.last_moment
   pub link : IfSome before (λ shown. IsSomeAnd after (λ later. later.handed ≡ shown.handed))
 
+-- The client listens, and a packet waits whose reading may need memory.
+pub record NeedsMemory {State Exchange : Type 0} (needs_memory : State → Exchange → Packet → Bool)
+    (client : Client State Exchange) (shown : Option Shown) : Type 0 where
+  pub listens : is_listening client.standing.phase ≡ true
+  pub packet : IfSome shown (λ before. IsSomeAnd before.waiting (λ packet.
+      needs_memory client.state client.standing.exchange packet ≡ true))
+
 -- The time limit was found over: the client has stopped, and words and link are as they were.
 pub record IsStopped {State Exchange : Type 0} (old new : Client State Exchange)
     (drawn left : Option (List ℕ)) (before after : Option Shown) : Type 0 where

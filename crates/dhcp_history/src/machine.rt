@@ -35,6 +35,7 @@ ghost use Rattle.dhcp_history.specs.Run.{
   HasReceived,
   HasTransmitted,
   HasDrawn,
+  NeedsMemory,
   IsUnsent,
   IsSent,
   IsStopped,
@@ -98,6 +99,13 @@ fn unpolled<X: Copy>(exchange: X) -> Standing<X>
         phase: Phase::Unpolled,
         deadline: None,
     }
+}
+
+// Step 1: whether an error is kept.
+fn is_stopped(phase: Phase) -> bool
+    ensures { result ≡ is_stopped phase }
+{
+    phase == Phase::Stopped
 }
 
 // Whether so many seconds have passed since the stay was entered.
@@ -194,7 +202,8 @@ fn begin_stay<R: Rules, W: Words>(
     ensures drawn { IfSome (W.left words.old) (λ drawn.
         HasDrawn (begin_stay (R.protocol rules.now) now (view_of client.now drawn))
         (view_with client.now result) (W.left words.new)) }
-    ensures open { is_listening result.phase ≡ is_listening client.now.standing.phase }
+    ensures listens { is_listening result.phase ≡ is_listening client.now.standing.phase }
+    ensures open { is_listening result.phase ≡ true → result ≡ client.now.standing }
     ensures polled { is_unpolled client.now.standing.phase ≡ false → result ≡ client.now.standing }
     ensures small { result.entered < 2 ^ 60 }
 {
@@ -234,6 +243,7 @@ fn transmit<R: Rules, W: Words, L: DhcpLink>(
     ensures limit { client.new.limit ≡ client.old.limit }
     ensures moment { OnOk result (client.new.last_moment ≡ now) }
     ensures unchanged { OnErr result (IsUnsent client.old client.new (L.shown link.old) (L.shown link.new)) }
+    ensures quiet { OnErr result (IfSome (L.shown link.old) (λ before. L.shown link.new ≡ Some before)) }
     ensures sent { OnOk result (IfSome (L.shown link.old) (λ before. (message : Handed)
         × (L.shown link.new ≡ Some (with_message message (sent_by before.refuses) before)))) }
     ensures listens { OnOk result (IfSome (L.shown link.old) (λ before.
@@ -284,9 +294,7 @@ fn receive<R: Rules, W: Words, L: DhcpLink>(
     ensures moment { client.new.last_moment ≡ client.old.last_moment }
     ensures state { OnErr result (client.new.state ≡ client.old.state) }
     ensures standing { OnErr result (client.new.standing ≡ client.old.standing) }
-    ensures open { OnErr result (is_listening client.old.standing.phase ≡ true) }
-    ensures needed { OnErr result (IfSome (L.shown link.old) (λ before. IsSomeAnd before.waiting (λ packet.
-        R.needs_memory rules.now client.old.state client.old.standing.exchange packet ≡ true))) }
+    ensures needed { OnErr result (NeedsMemory (R.needs_memory rules.now) client.old (L.shown link.old)) }
     ensures untaken { is_listening client.old.standing.phase ≡ false → L.shown link.new ≡ L.shown link.old }
     ensures packet { IfSome (L.shown link.old) (λ before.
         (L.shown link.new ≡ Some before) ⊎ (L.shown link.new ≡ Some (without_packet before))) }
@@ -307,4 +315,176 @@ fn receive<R: Rules, W: Words, L: DhcpLink>(
     let reported = rules.after_answer(&mut client.state, answer, now, &mut exchange)?;
     client.standing = unpolled(exchange);
     Ok(Some(reported))
+}
+
+// A poll whose attempt is not due: the packet, for a client that stands so once it was polled.
+fn receive_early<R: Rules, W: Words, L: DhcpLink>(
+    rules: &R,
+    client: &mut Client<R::State, R::Exchange>,
+    begun: Standing<R::Exchange>,
+    now: u64,
+    words: &mut W,
+    link: &mut L,
+) -> Result<Option<R::PublicState>, RunError>
+    requires moment { now < 2 ^ 60 }
+    requires small { begun.entered < 2 ^ 60 }
+    requires early { has_come now begun.deadline ≡ false }
+    requires open { is_listening begun.phase ≡ true → begun ≡ client.old.standing }
+    ensures polled { UnlessNoMemory result (IfSome (W.left words.old) (λ drawn. IfSome (L.shown link.old) (λ before.
+        HasPolled (R.protocol rules.now)
+        (transmit_and_receive (R.protocol rules.now) now before.refuses (input_of before.waiting)
+        (view_with client.old begun drawn))
+        result (view_of client.new) (W.left words.new) before (L.shown link.new)))) }
+    ensures limit { client.new.limit ≡ client.old.limit }
+    ensures moment { UnlessNoMemory result (client.new.last_moment ≡ now) }
+    ensures in_time { OnTimeout result ⊥ }
+    ensures state { OnErr result (client.new.state ≡ client.old.state) }
+    ensures needed { OnErr result (NeedsMemory (R.needs_memory rules.now) client.old (L.shown link.old)) }
+    ensures unsent { OnErr result (IsUnsent client.old client.new (L.shown link.old) (L.shown link.new)) }
+    ensures packet { IfSome (L.shown link.old) (λ before. IsSomeAnd (L.shown link.new) (λ after.
+        TakesForOpen (is_listening begun.phase) before after)) }
+    ensures later { L.faults link.old ≤ L.faults link.new }
+{
+    client.standing = begun;
+    match receive(rules, client, now, words, link) {
+        Ok(change) => {
+            client.last_moment = now;
+            Ok(change)
+        }
+        Err(_) => Err(RunError::OutOfMemory),
+    }
+}
+
+// A poll whose attempt is due: the attempt, and then the packet, for a client that stands so once it
+// was polled.
+fn transmit_due<R: Rules, W: Words, L: DhcpLink>(
+    rules: &R,
+    client: &mut Client<R::State, R::Exchange>,
+    begun: Standing<R::Exchange>,
+    now: u64,
+    words: &mut W,
+    link: &mut L,
+) -> Result<Option<R::PublicState>, RunError>
+    requires moment { now < 2 ^ 60 }
+    requires small { begun.entered < 2 ^ 60 }
+    requires due { has_come now begun.deadline ≡ true }
+    ensures polled { UnlessNoMemory result (IfSome (W.left words.old) (λ drawn. IfSome (L.shown link.old) (λ before.
+        HasPolled (R.protocol rules.now)
+        (transmit_and_receive (R.protocol rules.now) now before.refuses (input_of before.waiting)
+        (view_with client.old begun drawn))
+        result (view_of client.new) (W.left words.new) before (L.shown link.new)))) }
+    ensures limit { client.new.limit ≡ client.old.limit }
+    ensures moment { UnlessNoMemory result (client.new.last_moment ≡ now) }
+    ensures in_time { OnTimeout result ⊥ }
+    ensures state { OnErr result (client.new.state ≡ client.old.state) }
+    ensures memory { OnErr result (IsUnsent client.old client.new (L.shown link.old) (L.shown link.new)
+        ⊎ IsSent (R.protocol rules.now) now (view_with client.old begun) client.new
+        (W.left words.old) (L.shown link.old) (L.shown link.new)) }
+    ensures packet { IfSome (L.shown link.old) (λ before. IsSomeAnd (L.shown link.new) (λ after.
+        TakesForOpen false before after)) }
+    ensures later { L.faults link.old ≤ L.faults link.new }
+{
+    match transmit(rules, client, begun, now, words, link) {
+        Ok(()) => {}
+        Err(_) => return Err(RunError::OutOfMemory),
+    }
+    match receive(rules, client, now, words, link) {
+        Ok(change) => Ok(change),
+        Err(_) => Err(RunError::OutOfMemory),
+    }
+}
+
+/// One poll, in seven steps: a kept error, the time limit, the end of the state, the pause, an attempt,
+/// the wait of a refused attempt, the packet.
+pub fn run<R: Rules, W: Words, L: DhcpLink>(
+    rules: &R,
+    client: &mut Client<R::State, R::Exchange>,
+    now: u64,
+    words: &mut W,
+    link: &mut L,
+) -> Result<Option<R::PublicState>, RunError>
+    requires { now < 2 ^ 60 }
+    ensures polled { UnlessNoMemory result (IfSome (W.left words.old) (λ drawn. IfSome (L.shown link.old) (λ before.
+        HasPolled (R.protocol rules.now)
+        (poll (R.protocol rules.now) now before.refuses (input_of before.waiting) (view_of client.old drawn))
+        result (view_of client.new) (W.left words.new) before (L.shown link.new)))) }
+    ensures limit { client.new.limit ≡ client.old.limit }
+    ensures moment { UnlessNoMemory result (client.new.last_moment ≡ now) }
+    ensures state { OnErr result (client.new.state ≡ client.old.state) }
+    ensures memory { OnNoMemory result (IsUnsent client.old client.new (L.shown link.old) (L.shown link.new)
+        ⊎ IsSent (R.protocol rules.now) now
+        (λ drawn. begin_stay (R.protocol rules.now) now (view_of client.old drawn)) client.new
+        (W.left words.old) (L.shown link.old) (L.shown link.new)) }
+    ensures unended { OnNoMemory result ((drawn : List ℕ) →
+        has_ended (R.protocol rules.now) now (view_of client.old drawn) ≡ false) }
+    ensures unstopped { OnNoMemory result (is_stopped client.old.standing.phase ≡ false) }
+    ensures needed { OnNoMemory result (is_unpolled client.old.standing.phase ≡ false →
+        has_come now client.old.standing.deadline ≡ false → NeedsMemory (R.needs_memory rules.now)
+        client.old (L.shown link.old)) }
+    ensures timed_out { OnTimeout result (IsStopped client.old client.new
+        (W.left words.old) (W.left words.new) (L.shown link.old) (L.shown link.new)) }
+    ensures packet { IfSome (L.shown link.old) (λ before. IsSomeAnd (L.shown link.new) (λ after.
+        TakesForOpen (is_listening client.old.standing.phase) before after)) }
+    ensures later { L.faults link.old ≤ L.faults link.new }
+{
+    if is_stopped(client.standing.phase) {
+        client.last_moment = now;
+        return Err(RunError::TimedOut);
+    }
+    if limit_is_over(rules, client, now) {
+        client.standing.phase = Phase::Stopped;
+        client.last_moment = now;
+        return Err(RunError::TimedOut);
+    }
+    if has_ended(rules, client, now) {
+        return Ok(Some(end_state(rules, client, now)));
+    }
+    let begun = begin_stay(rules, client, now, words);
+    if has_come(now, begun.deadline) {
+        return transmit_due(rules, client, begun, now, words, link);
+    }
+    receive_early(rules, client, begun, now, words, link)
+}
+
+/// Drops lease, attempt and error.
+pub fn clean_up<R: Rules>(rules: &R, client: &mut Client<R::State, R::Exchange>)
+    ensures client { (drawn : List ℕ) →
+        view_of client.new drawn ≡ clean_up (R.protocol rules.now) (view_of client.old drawn) }
+    ensures limit { client.new.limit ≡ client.old.limit }
+    ensures moment { client.new.last_moment ≡ client.old.last_moment }
+{
+    let mut exchange = client.standing.exchange;
+    rules.after_clean_up(&mut client.state, &mut exchange);
+    client.standing = unpolled(exchange);
+}
+
+/// Releases the lease that is held, and cleans up where the link took the message; returns false where no
+/// lease is held.
+pub fn release_held<R: Rules, L: DhcpLink>(
+    rules: &R,
+    client: &mut Client<R::State, R::Exchange>,
+    link: &mut L,
+) -> Result<bool, ReleaseError>
+    ensures released { UnlessUnreleased result (IfSome (L.shown link.old) (λ before. (drawn : List ℕ) →
+        HasReleased (release_held (R.protocol rules.now) before.refuses (view_of client.old drawn))
+        result (view_of client.new drawn) before (L.shown link.new))) }
+    ensures limit { client.new.limit ≡ client.old.limit }
+    ensures moment { client.new.last_moment ≡ client.old.last_moment }
+    ensures state { OnErr result (client.new.state ≡ client.old.state) }
+    ensures standing { OnErr result (client.new.standing ≡ client.old.standing) }
+    ensures cause { result ≡ Err ReleaseError.Refused → Rose (L.faults link.old) (L.faults link.new) }
+    ensures later { L.faults link.old ≤ L.faults link.new }
+{
+    let message = match rules.release_message(&client.state, client.standing.exchange) {
+        Ok(None) => return Ok(false),
+        Ok(Some(message)) => message,
+        Err(_) => return Err(ReleaseError::OutOfMemory),
+    };
+    match send(link, message) {
+        Sent::Taken => {}
+        Sent::Refused => return Err(ReleaseError::Refused),
+        Sent::NoMemory => return Err(ReleaseError::OutOfMemory),
+    }
+    clean_up(rules, client);
+    Ok(true)
 }

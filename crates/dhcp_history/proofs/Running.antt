@@ -1,0 +1,234 @@
+-- How the steps of a poll make up the poll of the protocol.
+use Rattle.std.proofs.Common.{◌≡◌, ℕ, List, Bool, true, false, refl, ap, sym, subst, ◌∙◌, inl, inr}
+use Rattle.std.specs.Prelude.{Option, Some, None, option_map, Result, Ok, Err, OnErr, ◌⊎◌, IfSome, IsSomeAnd}
+use Rattle.dhcp_clock.specs.declared.link.Packet.{Packet}
+use Rattle.dhcp_clock.specs.declared.link.Handed.{Handed}
+use Rattle.dhcp_clock.specs.declared.link.Sent.TheVariants.{Taken}
+use Rattle.dhcp_clock.specs.Link.{Shown, HandsOver, with_message}
+use Rattle.dhcp_history.specs.declared.client.Client.{Client}
+use Rattle.dhcp_history.specs.declared.client.Standing.{Standing}
+use Rattle.dhcp_history.specs.declared.machine.RunError.{RunError}
+use Rattle.dhcp_history.specs.declared.machine.RunError.TheVariants as run
+use Rattle.dhcp_history.specs.Protocol.{Protocol, has_come}
+use Rattle.dhcp_history.specs.Script.{Input}
+use Rattle.dhcp_history.specs.History.{reading_of}
+use Rattle.dhcp_history.specs.Machine.{View, Phase, Unpolled, Pausing, Listening, Resting, Stopped, PollEffect, is_stopped, is_listening, is_unpolled, limit_is_over, has_ended, stop, begin_stay, attempt_now, transmit, clean_up, take_answer, receive, transmit_and_receive, poll, end_state, enter, exchange_at}
+use Rattle.dhcp_history.specs.Client.{view_of}
+use Rattle.dhcp_history.specs.Run.{input_of, waiting_of, UnlessNoMemory, OnTimeout, OnNoMemory, release_by, HasReleased, sent_by, handed_by, answer_by, HasPolled, HasReceived, HasDrawn, HasTransmitted, IsUnsent, IsSent}
+
+-- input holds where something is told holds of input was told
+pub at_told : {A : Type 0} (P : A → Type 0) (told : Option A) (value : A) → told ≡ Some value → IfSome told P → P value
+at_told {A} P told value e h = let family : Option A → Type 0 = λ (o : Option A). IfSome o P in subst family e h
+
+-- a fact for each answer but want of memory goes over to another
+pub on_run : {A : Type 0} {P Q : Type 0} (result : Result A RunError) → (P → Q) → UnlessNoMemory result P → UnlessNoMemory result Q
+on_run (Ok a) f h = f h
+on_run (Err run.TimedOut) f h = f h
+on_run (Err run.OutOfMemory) f h = tt
+
+-- a result that isn't a timeout
+pub no_timeout : {A : Type 0} (P : Type 0) (result : Result A RunError) → OnTimeout result ⊥ → OnTimeout result P
+no_timeout P (Ok a) h = tt
+no_timeout P (Err run.TimedOut) h = absurd h
+no_timeout P (Err run.OutOfMemory) h = tt
+
+pub on_no_memory : {A : Type 0} {P : Type 0} (result : Result A RunError) → P → OnNoMemory result P
+on_no_memory (Ok a) h = tt
+on_no_memory (Err run.TimedOut) h = tt
+on_no_memory (Err run.OutOfMemory) h = h
+
+-- out of memory with no attempt due: the client is as at entry
+pub unsent_early : {A State Exchange : Type 0} (Sent : Type 0) (result : Result A RunError) (old new : Client State Exchange) (before after : Option Shown) →
+    OnErr result (IsUnsent old new before after) → OnNoMemory result (IsUnsent old new before after ⊎ Sent)
+unsent_early Sent (Ok a) old new before after unsent = tt
+unsent_early Sent (Err run.TimedOut) old new before after unsent = tt
+unsent_early Sent (Err run.OutOfMemory) old new before after unsent = inl unsent
+
+pub waiting_same : {Packet : Type 0} (packet : Option Packet) → waiting_of (input_of packet) ≡ packet
+waiting_same None = refl
+waiting_same (Some packet) = refl
+
+module _ {PublicState State Exchange Answer Lease : Type 0} (p : Protocol PublicState Packet Handed State Exchange Answer Lease) where
+  -- the packet is taken the same way, whatever message was handed
+  pub taken_with : (now : ℕ) (input : Input Packet) (handed : Option Handed) (view : View State Exchange) →
+      receive p now input handed view ≡ record (receive p now input None view) { handed = handed }
+  taken_with now input handed view = by_phase (is_listening view.phase) refl
+    where
+      by_answer : (answer : Option Answer) (words : List ℕ) → take_answer p now handed view answer words ≡ record (take_answer p now None view answer words) { handed = handed }
+      by_answer None words = refl
+      by_answer (Some answer) words = refl
+
+      by_phase : (b : Bool) → is_listening view.phase ≡ b → receive p now input handed view ≡ record (receive p now input None view) { handed = handed }
+      by_phase true e = rw e (let read = reading_of p view.state view.exchange view.words input in by_answer read.value read.words)
+      by_phase false e = rw e
+
+  pub taken_succeeds : (now : ℕ) (input : Input Packet) (handed : Option Handed) (view : View State Exchange) → (receive p now input handed view).failed ≡ false
+  taken_succeeds now input handed view = by_phase (is_listening view.phase) refl
+    where
+      by_answer : (answer : Option Answer) (words : List ℕ) → (take_answer p now handed view answer words).failed ≡ false
+      by_answer None words = refl
+      by_answer (Some answer) words = refl
+
+      by_phase : (b : Bool) → is_listening view.phase ≡ b → (receive p now input handed view).failed ≡ false
+      by_phase true e = rw e (let read = reading_of p view.state view.exchange view.words input in by_answer read.value read.words)
+      by_phase false e = rw e
+
+  -- the answer of a poll that doesn't fail
+  pub answer_same : (change : Option State) → Ok (option_map p.public_state change) ≡ answer_by p change false
+  answer_same None = refl
+  answer_same (Some next) = refl
+
+  -- a poll of a client whose next attempt isn't due
+  pub polled_early : (now : ℕ) (refuse : Bool) (input : Input Packet) (first : View State Exchange) (change : Option PublicState) (view : List ℕ → View State Exchange) (left : Option (List ℕ)) (before : Shown) (after : Option Shown) →
+      has_come now first.deadline ≡ false → HasReceived p (receive p now input None first) change view left before after →
+      HasPolled p (transmit_and_receive p now refuse input first) (Ok change) view left before after
+  polled_early now refuse input first change view left before after early h =
+      rw early (record {
+        answer = ap (λ (c : Option PublicState). Ok c) h.change ∙ (answer_same (receive p now input None first).change ∙ ap (λ (f : Bool). answer_by p (receive p now input None first).change f) (sym (taken_succeeds now input None first)));
+        client = h.client;
+        words = h.words;
+        link = h.link;
+      })
+
+  -- and of one whose next attempt is due
+  pub polled_due : (now : ℕ) (waiting : Option Packet) (first mid : View State Exchange) (change : Option PublicState) (view : List ℕ → View State Exchange) (left : Option (List ℕ)) (before : Shown) (after : Option Shown) →
+      has_come now first.deadline ≡ true → mid ≡ transmit p now before.refuses first →
+      HasReceived p (receive p now (input_of waiting) None mid) change view left (with_message (attempt_now p now first).value.message (sent_by before.refuses) before) after →
+      HasPolled p (transmit_and_receive p now before.refuses (input_of waiting) first) (Ok change) view left before after
+  polled_due now waiting first mid change view left before after due client h =
+      let message = (attempt_now p now first).value.message in
+      let sent : Shown = with_message message (sent_by before.refuses) before in
+      let h' : HasReceived p (receive p now (input_of waiting) None (transmit p now before.refuses first)) change view left sent after =
+      subst (λ (v : View State Exchange). HasReceived p (receive p now (input_of waiting) None v) change view left sent after) client h in
+      let last : View State Exchange = transmit p now before.refuses first in
+      let quiet : PollEffect Packet Handed State Exchange = receive p now (input_of waiting) None last in
+      let same : transmit_and_receive p now before.refuses (input_of waiting) first ≡ record quiet { handed = Some message } = rw due (taken_with now (input_of waiting) (Some message) last) in
+      let none : quiet.handed ≡ None = ap (λ (o : PollEffect Packet Handed State Exchange). o.handed) (taken_with now (input_of waiting) None last) in
+      subst (λ (o : PollEffect Packet Handed State Exchange). HasPolled p o (Ok change) view left before after) (sym same) (record {
+        answer = ap (λ (c : Option PublicState). Ok c) h'.change ∙ (answer_same quiet.change ∙ ap (λ (f : Bool). answer_by p quiet.change f) (sym (taken_succeeds now (input_of waiting) None last)));
+        client = h'.client;
+        words = h'.words;
+        link = h'.link ∙ ap (λ (handed : Option Handed). Some (record { refuses = before.refuses; waiting = waiting_of quiet.left; handed = handed_by before.refuses handed sent.handed })) none;
+      })
+
+  -- the steps of a poll, where words and link may or may not tell input they have
+  module _ (now : ℕ) (drawn drawn' drawn'' : Option (List ℕ)) (shown shown' shown'' : Option Shown) (first second third : List ℕ → View State Exchange) where
+    pub work_due : (change : Option PublicState) → ((words : List ℕ) → has_come now (first words).deadline ≡ true) →
+        IfSome drawn (λ words. IfSome shown (λ before. HasTransmitted p now (first words) second drawn' before shown')) →
+        IfSome drawn' (λ words. IfSome shown' (λ before. HasReceived p (receive p now (input_of before.waiting) None (second words)) change third drawn'' before shown'')) →
+        IfSome drawn (λ words. IfSome shown (λ before. HasPolled p (transmit_and_receive p now before.refuses (input_of before.waiting) (first words)) (Ok change) third drawn'' before shown''))
+    work_due change due attempts takes = go drawn shown attempts
+      where
+        go : (drawn₀ : Option (List ℕ)) (shown₀ : Option Shown) →
+            IfSome drawn₀ (λ words. IfSome shown₀ (λ before. HasTransmitted p now (first words) second drawn' before shown')) →
+            IfSome drawn₀ (λ words. IfSome shown₀ (λ before. HasPolled p (transmit_and_receive p now before.refuses (input_of before.waiting) (first words)) (Ok change) third drawn'' before shown''))
+        go None shown₀ a = tt
+        go (Some words) None a = tt
+        go (Some words) (Some before) a =
+            let last : View State Exchange = transmit p now before.refuses (first words) in
+            let sent : Shown = with_message (attempt_now p now (first words)).value.message (sent_by before.refuses) before in
+            polled_due now before.waiting (first words) (second last.words) change third drawn'' before shown'' (due words) a.client
+            (at_told (λ (mid : Shown). HasReceived p (receive p now (input_of mid.waiting) None (second last.words)) change third drawn'' mid shown'') shown' sent a.link
+            (at_told (λ (words' : List ℕ). IfSome shown' (λ mid. HasReceived p (receive p now (input_of mid.waiting) None (second words')) change third drawn'' mid shown'')) drawn' last.words a.words takes))
+
+    pub work_early : (change : Option PublicState) → ((words : List ℕ) → has_come now (first words).deadline ≡ false) →
+        IfSome drawn (λ words. IfSome shown (λ before. HasReceived p (receive p now (input_of before.waiting) None (first words)) change third drawn'' before shown'')) →
+        IfSome drawn (λ words. IfSome shown (λ before. HasPolled p (transmit_and_receive p now before.refuses (input_of before.waiting) (first words)) (Ok change) third drawn'' before shown''))
+    work_early change early takes = go drawn shown takes
+      where
+        go : (drawn₀ : Option (List ℕ)) (shown₀ : Option Shown) →
+            IfSome drawn₀ (λ words. IfSome shown₀ (λ before. HasReceived p (receive p now (input_of before.waiting) None (first words)) change third drawn'' before shown'')) →
+            IfSome drawn₀ (λ words. IfSome shown₀ (λ before. HasPolled p (transmit_and_receive p now before.refuses (input_of before.waiting) (first words)) (Ok change) third drawn'' before shown''))
+        go None shown₀ t = tt
+        go (Some words) None t = tt
+        go (Some words) (Some before) t = polled_early now before.refuses (input_of before.waiting) (first words) change third drawn'' before shown'' (early words) t
+
+    -- the poll of a client that isn't at the end of its state, which is `first` before and `second` once it is polled
+    pub poll_works : (result : Result (Option PublicState) RunError) → ((words : List ℕ) → is_stopped (first words).phase ≡ false) → ((words : List ℕ) → limit_is_over p now (first words) ≡ false) →
+        ((words : List ℕ) → has_ended p now (first words) ≡ false) →
+        IfSome drawn (λ words. HasDrawn (begin_stay p now (first words)) second drawn') →
+        IfSome drawn' (λ words. IfSome shown (λ before. HasPolled p (transmit_and_receive p now before.refuses (input_of before.waiting) (second words)) result third drawn'' before shown'')) →
+        IfSome drawn (λ words. IfSome shown (λ before. HasPolled p (poll p now before.refuses (input_of before.waiting) (first words)) result third drawn'' before shown''))
+    poll_works result b f e draws works = go drawn shown draws works
+      where
+        go : (drawn₀ : Option (List ℕ)) (shown₀ : Option Shown) → IfSome drawn₀ (λ words. HasDrawn (begin_stay p now (first words)) second drawn') →
+            IfSome drawn' (λ words. IfSome shown₀ (λ before. HasPolled p (transmit_and_receive p now before.refuses (input_of before.waiting) (second words)) result third drawn'' before shown'')) →
+            IfSome drawn₀ (λ words. IfSome shown₀ (λ before. HasPolled p (poll p now before.refuses (input_of before.waiting) (first words)) result third drawn'' before shown''))
+        go None shown₀ d w = tt
+        go (Some words) None d w = tt
+        go (Some words) (Some before) d w =
+            let mid : View State Exchange = begin_stay p now (first words) in
+            let same : poll p now before.refuses (input_of before.waiting) (first words) ≡ transmit_and_receive p now before.refuses (input_of before.waiting) mid = rw (b words, f words, e words) in
+            let polled : HasPolled p (transmit_and_receive p now before.refuses (input_of before.waiting) (second mid.words)) result third drawn'' before shown'' =
+            at_told (λ (words' : List ℕ). HasPolled p (transmit_and_receive p now before.refuses (input_of before.waiting) (second words')) result third drawn'' before shown'') drawn' mid.words d.words w in
+            subst (λ (o : PollEffect Packet Handed State Exchange). HasPolled p o result third drawn'' before shown'') (sym same)
+            (subst (λ (v : View State Exchange). HasPolled p (transmit_and_receive p now before.refuses (input_of before.waiting) v) result third drawn'' before shown'') d.client polled)
+
+  -- out of memory with an attempt due: the client is as at entry, or as right after its send
+  pub unsent_due : {A : Type 0} (Unsent' : Type 0) (result : Result A RunError) (now : ℕ) (drawn drawn' : Option (List ℕ)) (shown after : Option Shown) (first second : List ℕ → View State Exchange) (client : Client State Exchange) →
+      IfSome drawn (λ words. HasDrawn (begin_stay p now (first words)) second drawn') →
+      OnErr result (Unsent' ⊎ IsSent p now second client drawn' shown after) →
+      OnNoMemory result (Unsent' ⊎ IsSent p now (λ words. begin_stay p now (first words)) client drawn shown after)
+  unsent_due Unsent' (Ok a) now drawn drawn' shown after first second client draws h = tt
+  unsent_due Unsent' (Err run.TimedOut) now drawn drawn' shown after first second client draws h = tt
+  unsent_due Unsent' (Err run.OutOfMemory) now drawn drawn' shown after first second client draws (inl h) = inl h
+  unsent_due Unsent' (Err run.OutOfMemory) now drawn drawn' shown after first second client draws (inr h) =
+      inr (record { listens = h.listens; moment = h.moment; view = go drawn draws; link = h.link })
+    where
+      go : (drawn₀ : Option (List ℕ)) → IfSome drawn₀ (λ words. HasDrawn (begin_stay p now (first words)) second drawn') →
+          IfSome drawn₀ (λ words. IfSome shown (λ before. view_of client (transmit p now before.refuses (begin_stay p now (first words))).words ≡ transmit p now before.refuses (begin_stay p now (first words))))
+      go None d = tt
+      go (Some words) d =
+          let family : View State Exchange → Type 0 = λ (v : View State Exchange). IfSome shown (λ before. view_of client (transmit p now before.refuses v).words ≡ transmit p now before.refuses v) in
+          subst family d.client (at_told (λ (words' : List ℕ). family (second words')) drawn' (begin_stay p now (first words)).words d.words h.view)
+
+  -- a poll that finds the client broken, or its time limit over, or its state at the end: words and link stay
+  module _ (now : ℕ) (drawn : Option (List ℕ)) (shown : Option Shown) (first last : List ℕ → View State Exchange) (kept : (words : List ℕ) → (first words).words ≡ words) where
+    pub poll_fails : ((words : List ℕ) → (before : Shown) → poll p now before.refuses (input_of before.waiting) (first words) ≡ stop (input_of before.waiting) (first words)) →
+        ((words : List ℕ) → last words ≡ record (first words) { phase = Stopped }) →
+        IfSome drawn (λ words. IfSome shown (λ before. HasPolled p (poll p now before.refuses (input_of before.waiting) (first words)) (Err run.TimedOut) last drawn before shown))
+    poll_fails fails client = go drawn shown
+      where
+        go : (drawn₀ : Option (List ℕ)) (shown₀ : Option Shown) →
+            IfSome drawn₀ (λ words. IfSome shown₀ (λ before. HasPolled p (poll p now before.refuses (input_of before.waiting) (first words)) (Err run.TimedOut) last drawn₀ before shown₀))
+        go None shown₀ = tt
+        go (Some words) None = tt
+        go (Some words) (Some before) =
+            subst (λ (o : PollEffect Packet Handed State Exchange). HasPolled p o (Err run.TimedOut) last (Some words) before (Some before)) (sym (fails words before)) (record {
+              answer = refl;
+              client = ap last (kept words) ∙ client words;
+              words = ap (λ (ws : List ℕ). Some ws) (sym (kept words));
+              link = ap (λ (waiting : Option Packet). Some (record { refuses = before.refuses; waiting = waiting; handed = before.handed })) (sym (waiting_same before.waiting));
+            })
+
+    pub poll_ends : (result : PublicState) → ((words : List ℕ) → is_stopped (first words).phase ≡ false) → ((words : List ℕ) → limit_is_over p now (first words) ≡ false) → ((words : List ℕ) → has_ended p now (first words) ≡ true) →
+        ((words : List ℕ) → last words ≡ enter (p.after_end (first words).state (exchange_at p now (first words))) (first words)) → ((words : List ℕ) → result ≡ p.public_state (last words).state) →
+        IfSome drawn (λ words. IfSome shown (λ before. HasPolled p (poll p now before.refuses (input_of before.waiting) (first words)) (Ok (Some result)) last drawn before shown))
+    poll_ends result b f e client reports = go drawn shown
+      where
+        go : (drawn₀ : Option (List ℕ)) (shown₀ : Option Shown) →
+            IfSome drawn₀ (λ words. IfSome shown₀ (λ before. HasPolled p (poll p now before.refuses (input_of before.waiting) (first words)) (Ok (Some result)) last drawn₀ before shown₀))
+        go None shown₀ = tt
+        go (Some words) None = tt
+        go (Some words) (Some before) =
+            let same : poll p now before.refuses (input_of before.waiting) (first words) ≡ end_state p now (input_of before.waiting) (first words) = rw (b words, f words, e words) in
+            subst (λ (o : PollEffect Packet Handed State Exchange). HasPolled p o (Ok (Some result)) last (Some words) before (Some before)) (sym same) (record {
+              answer = ap (λ (r : PublicState). Ok (Some r)) (reports words ∙ ap (λ (v : View State Exchange). p.public_state v.state) (client words));
+              client = ap last (kept words) ∙ client words;
+              words = ap (λ (ws : List ℕ). Some ws) (sym (kept words));
+              link = ap (λ (waiting : Option Packet). Some (record { refuses = before.refuses; waiting = waiting; handed = before.handed })) (sym (waiting_same before.waiting));
+            })
+
+  -- a release whose message the link took
+  pub release_sent : (holds : Option Lease) (view new : List ℕ → View State Exchange) (message : Handed) (memory : Exchange) (shown after : Option Shown) →
+      ((words : List ℕ) → (view words).exchange ≡ memory) → Some message ≡ option_map (λ lease. p.release_message lease memory) holds → HandsOver message Taken shown after →
+      ((words : List ℕ) → new words ≡ clean_up p (view words)) →
+      IfSome shown (λ before. (words : List ℕ) → HasReleased (release_by p holds before.refuses (view words)) (Ok true) (new words) before after)
+  release_sent holds view new message memory None after remembers e sends client = tt
+  release_sent None view new message memory (Some before) after remembers e sends client = absurd (cc e)
+  release_sent (Some lease) view new message memory (Some before) after remembers e sends client = λ words.
+      let takes : before.refuses ≡ false = sends.0 in
+      let says : Some message ≡ Some (p.release_message lease (view words).exchange) = e ∙ ap (λ (m : Exchange). Some (p.release_message lease m)) (sym (remembers words)) in
+      let link : after ≡ Some (record before { handed = handed_by false (Some (p.release_message lease (view words).exchange)) before.handed }) =
+      sends.1 ∙ ap (λ (o : Option Handed). Some (record before { handed = handed_by false o before.handed })) says in
+      rw takes (record { answer = refl; client = client words; link = rw takes at link })

@@ -1,0 +1,50 @@
+use Rattle.std.proofs.Common.{sym, ◌∙◌, refl}
+use Rattle.dhcp_history.specs.Client.{view_of, view_with}
+use Rattle.dhcp_history.proofs.Running.{poll_ends, poll_works, on_run, no_timeout, on_no_memory, unsent_due, unsent_early}
+use Rattle.dhcp_history.proofs.machine.run.Goals as goal
+
+pub returns-then-has_ended-clause-polled : goal.returns-then-has_ended-clause-polled
+returns-then-has_ended-clause-polled g c =
+    poll_ends (g.R.Rules.protocol c.args.rules.now) c.args.now (g.W.Words.left c.args.words.now) (g.L.DhcpLink.shown c.args.link.now)
+    (view_of c.args.client.now) (view_of c.end_state.new.client) (λ words. refl)
+    c.end_state.result (λ words. sym c.is_stopped.ensures ∙ c.if-is_stopped.false) (λ words. sym (c.limit_is_over.ensures words) ∙ c.if-limit_is_over.false) (λ words. sym (c.has_ended.ensures words) ∙ c.if-has_ended.true)
+    c.end_state.ensures.client (λ words. c.end_state.ensures.reported)
+
+pub returns-then-has_come-clause-polled : goal.returns-then-has_come-clause-polled
+returns-then-has_come-clause-polled g c =
+    on_run c.transmit_due.result (poll_works (g.R.Rules.protocol c.args.rules.now) c.args.now (g.W.Words.left c.args.words.now) (g.W.Words.left c.begin_stay-begun.new.words) (g.W.Words.left c.transmit_due.new.words)
+    (g.L.DhcpLink.shown c.args.link.now) (g.L.DhcpLink.shown c.args.link.now) (g.L.DhcpLink.shown c.transmit_due.new.link)
+    (view_of c.args.client.now) (view_with c.args.client.now c.begin_stay-begun.result) (view_of c.transmit_due.new.client)
+    c.transmit_due.result (λ words. sym c.is_stopped.ensures ∙ c.if-is_stopped.false) (λ words. sym (c.limit_is_over.ensures words) ∙ c.if-limit_is_over.false) (λ words. sym (c.has_ended.ensures words) ∙ c.if-has_ended.false)
+    c.begin_stay-begun.ensures.drawn) c.transmit_due.ensures.polled
+
+pub returns-clause-polled : goal.returns-clause-polled
+returns-clause-polled g c =
+    on_run c.receive_early.result (poll_works (g.R.Rules.protocol c.args.rules.now) c.args.now (g.W.Words.left c.args.words.now) (g.W.Words.left c.begin_stay-begun.new.words) (g.W.Words.left c.receive_early.new.words)
+    (g.L.DhcpLink.shown c.args.link.now) (g.L.DhcpLink.shown c.args.link.now) (g.L.DhcpLink.shown c.receive_early.new.link)
+    (view_of c.args.client.now) (view_with c.args.client.now c.begin_stay-begun.result) (view_of c.receive_early.new.client)
+    c.receive_early.result (λ words. sym c.is_stopped.ensures ∙ c.if-is_stopped.false) (λ words. sym (c.limit_is_over.ensures words) ∙ c.if-limit_is_over.false) (λ words. sym (c.has_ended.ensures words) ∙ c.if-has_ended.false)
+    c.begin_stay-begun.ensures.drawn) c.receive_early.ensures.polled
+
+pub returns-then-has_come-clause-unended : goal.returns-then-has_come-clause-unended
+returns-then-has_come-clause-unended g c = on_no_memory c.transmit_due.result (λ drawn. sym (c.has_ended.ensures drawn) ∙ c.if-has_ended.false)
+
+pub returns-clause-unended : goal.returns-clause-unended
+returns-clause-unended g c = on_no_memory c.receive_early.result (λ drawn. sym (c.has_ended.ensures drawn) ∙ c.if-has_ended.false)
+
+pub returns-then-has_come-clause-timed_out : goal.returns-then-has_come-clause-timed_out
+returns-then-has_come-clause-timed_out g c = no_timeout _ c.transmit_due.result c.transmit_due.ensures.in_time
+
+pub returns-clause-timed_out : goal.returns-clause-timed_out
+returns-clause-timed_out g c = no_timeout _ c.receive_early.result c.receive_early.ensures.in_time
+
+pub returns-then-has_come-clause-memory : goal.returns-then-has_come-clause-memory
+returns-then-has_come-clause-memory g c =
+    unsent_due (g.R.Rules.protocol c.args.rules.now) _ c.transmit_due.result c.args.now (g.W.Words.left c.args.words.now) (g.W.Words.left c.begin_stay-begun.new.words) (g.L.DhcpLink.shown c.args.link.now) (g.L.DhcpLink.shown c.transmit_due.new.link)
+    (view_of c.args.client.now) (view_with c.args.client.now c.begin_stay-begun.result) c.transmit_due.new.client
+    c.begin_stay-begun.ensures.drawn c.transmit_due.ensures.memory
+
+pub returns-clause-memory : goal.returns-clause-memory
+returns-clause-memory g c =
+    unsent_early _ c.receive_early.result c.args.client.now c.receive_early.new.client (g.L.DhcpLink.shown c.args.link.now) (g.L.DhcpLink.shown c.receive_early.new.link)
+    c.receive_early.ensures.unsent
