@@ -47,15 +47,18 @@ shown_after before once = record {
   handed = handed_by before.refuses once.handed before.handed;
 }
 
--- the link has just taken a message
-abbrev pub HasTaken : Shown → Shown → Type 0
-HasTaken before after =
-    (message : Handed) × (after.handed ≡ before.handed ++ (message, Taken) ∷ [])
+-- one message was handed to the link, which took it or refused it
+abbrev pub HasHanded : Sent → Shown → Shown → Type 0
+HasHanded mark before after =
+    (message : Handed) × (after.handed ≡ before.handed ++ (message, mark) ∷ [])
 
--- a packet was taken only for an attempt that was open before, or that the link has just taken
-abbrev pub TakesForOpen : Bool → Shown → Shown → Type 0
-TakesForOpen listens before after =
-    (after.waiting ≡ before.waiting) ⊎ ((listens ≡ true) ⊎ HasTaken before after)
+-- A poll hands the link one message at most. It takes the packet only for an attempt that was open
+-- before, or that the link has just taken.
+pub record UsesLink (listens : Bool) (before after : Shown) : Type 0 where
+  pub refuses : after.refuses ≡ before.refuses
+  pub handed : (after.handed ≡ before.handed) ⊎ HasHanded (sent_by before.refuses) before after
+  pub waiting : (after.waiting ≡ before.waiting) ⊎
+      ((after.waiting ≡ None) × ((listens ≡ true) ⊎ HasHanded Taken before after))
 
 -- 2. A poll.
 
@@ -124,7 +127,7 @@ module _ {PublicState State Exchange Answer Lease : Type 0}
     pub view : IfSome drawn (λ words. IfSome before (λ shown.
         view_of client (transmit p now shown.refuses (first words)).words ≡
         transmit p now shown.refuses (first words)))
-    pub link : IfSome before (λ shown. IsSomeAnd after (λ later. HasTaken shown later))
+    pub link : IfSome before (λ shown. IsSomeAnd after (λ later. HasHanded Taken shown later))
 
 -- the client is as this view, with these words left
 pub record HasDrawn {State Exchange : Type 0} (is : View State Exchange)

@@ -4,7 +4,7 @@
 ghost use Rattle.std.specs.Prelude.{◌≡◌, ◌≤◌, ◌<◌, ◌+◌, ◌^◌, ◌⊎◌, ◌&&◌, ℕ, List, Bool, true, false, not, Option, Some, None, Ok, Err, OnOk, OnErr, IfOk, IfSome, IsSomeAnd};
 ghost use Rattle.dhcp_clock.specs.declared.link.Handed.{Handed};
 ghost use Rattle.dhcp_clock.specs.Link.{Shown, HandsOver, with_message, without_packet};
-ghost use Rattle.dhcp_wire.specs.Fault.{Rose};
+ghost use Rattle.dhcp_wire.specs.Fault.{HasCause};
 ghost use Rattle.dhcp_history.specs.Protocol.{has_come};
 ghost use Rattle.dhcp_history.specs.History.{limit_moment, after_wait_if};
 ghost use Rattle.dhcp_history.specs.Machine.{
@@ -26,8 +26,7 @@ ghost use Rattle.dhcp_history.specs.Client.{view_of, view_with, unpolled};
 ghost use Rattle.dhcp_history.specs.Run.{
   input_of,
   sent_by,
-  HasTaken,
-  TakesForOpen,
+  UsesLink,
   UnlessNoMemory,
   OnNoMemory,
   OnTimeout,
@@ -69,8 +68,7 @@ pub enum ReleaseError {
 // Sends a message as its kind asks.
 fn send<L: DhcpLink>(link: &mut L, message: Handed) -> Sent
     ensures hands_over { HandsOver message result (L.shown link.old) (L.shown link.new) }
-    ensures cause { result ≡ Sent.Refused → Rose (L.faults link.old) (L.faults link.new) }
-    ensures later { L.faults link.old ≤ L.faults link.new }
+    ensures faults { HasCause (result ≡ Sent.Refused) (L.faults link.old) (L.faults link.new) }
 {
     match message {
         Handed::Frame(bytes) => link.send_frame(bytes),
@@ -341,8 +339,8 @@ fn receive_early<R: Rules, W: Words, L: DhcpLink>(
     ensures state { OnErr result (client.new.state ≡ client.old.state) }
     ensures needed { OnErr result (NeedsMemory (R.needs_memory rules.now) client.old (L.shown link.old)) }
     ensures unsent { OnErr result (IsUnsent client.old client.new (L.shown link.old) (L.shown link.new)) }
-    ensures packet { IfSome (L.shown link.old) (λ before. IsSomeAnd (L.shown link.new) (λ after.
-        TakesForOpen (is_listening begun.phase) before after)) }
+    ensures uses { IfSome (L.shown link.old) (λ before. IsSomeAnd (L.shown link.new) (λ after.
+        UsesLink (is_listening begun.phase) before after)) }
     ensures later { L.faults link.old ≤ L.faults link.new }
 {
     client.standing = begun;
@@ -380,8 +378,8 @@ fn transmit_due<R: Rules, W: Words, L: DhcpLink>(
     ensures memory { OnErr result (IsUnsent client.old client.new (L.shown link.old) (L.shown link.new)
         ⊎ IsSent (R.protocol rules.now) now (view_with client.old begun) client.new
         (W.left words.old) (L.shown link.old) (L.shown link.new)) }
-    ensures packet { IfSome (L.shown link.old) (λ before. IsSomeAnd (L.shown link.new) (λ after.
-        TakesForOpen false before after)) }
+    ensures uses { IfSome (L.shown link.old) (λ before. IsSomeAnd (L.shown link.new) (λ after.
+        UsesLink false before after)) }
     ensures later { L.faults link.old ≤ L.faults link.new }
 {
     match transmit(rules, client, begun, now, words, link) {
@@ -423,8 +421,8 @@ pub fn run<R: Rules, W: Words, L: DhcpLink>(
         client.old (L.shown link.old)) }
     ensures timed_out { OnTimeout result (IsStopped client.old client.new
         (W.left words.old) (W.left words.new) (L.shown link.old) (L.shown link.new)) }
-    ensures packet { IfSome (L.shown link.old) (λ before. IsSomeAnd (L.shown link.new) (λ after.
-        TakesForOpen (is_listening client.old.standing.phase) before after)) }
+    ensures uses { IfSome (L.shown link.old) (λ before. IsSomeAnd (L.shown link.new) (λ after.
+        UsesLink (is_listening client.old.standing.phase) before after)) }
     ensures later { L.faults link.old ≤ L.faults link.new }
 {
     if is_stopped(client.standing.phase) {
@@ -472,8 +470,8 @@ pub fn release_held<R: Rules, L: DhcpLink>(
     ensures moment { client.new.last_moment ≡ client.old.last_moment }
     ensures state { OnErr result (client.new.state ≡ client.old.state) }
     ensures standing { OnErr result (client.new.standing ≡ client.old.standing) }
-    ensures cause { result ≡ Err ReleaseError.Refused → Rose (L.faults link.old) (L.faults link.new) }
-    ensures later { L.faults link.old ≤ L.faults link.new }
+    ensures faults { HasCause (result ≡ Err ReleaseError.Refused)
+        (L.faults link.old) (L.faults link.new) }
 {
     let message = match rules.release_message(&client.state, client.standing.exchange) {
         Ok(None) => return Ok(false),
