@@ -54,34 +54,34 @@ module _ {PublicState Packet Message State Exchange Answer Lease : Type 0} (p : 
       go None e ih = refl
       go (Some next) e ih =
           let falls : suc (rank p lawful once.view.state once.left) ≤ rank p lawful view.state v.input = (moves v.moment v.refuse v.input view next e).falls in
-          ap (λ (rest : EventEffect PublicState Message State Exchange). record { outputs = handed_output v once.handed ++ (record { event = v.number; report = Changed (p.public_state next) } ∷ rest.outputs); view = rest.view })
+          ap (λ (rest : EventEffect PublicState Message State Exchange). record { outputs = handed_output v.number v.refuse once.handed ++ (record { event = v.number; report = Changed (p.public_state next) } ∷ rest.outputs); view = rest.view })
           (ih (record v { input = once.left }) once.view (omega (arith, falls)))
 
   pub seven_are_enough : (seven all : ℕ) → seven ≡ 7 → seven ≤ all → (v : Event Packet) (view : View State Exchange) → polls p all v view ≡ polls p seven v view
   seven_are_enough seven all e h v view = polls_enough seven all v view (omega (arith, lawful.rank_bound view.state (has_packet v.input))) h
 
   -- what is counted among the outputs of a poll
-  no_change_handed : (v : Event Packet) (handed : Option Message) → count_of is_change (handed_output {PublicState = PublicState} v handed) ≡ 0
+  no_change_handed : (v : Event Packet) (handed : Option Message) → count_of is_change (handed_output {PublicState = PublicState} v.number v.refuse handed) ≡ 0
   no_change_handed v None = refl
   no_change_handed v (Some message) = go v.refuse refl
     where
-      go : (b : Bool) → v.refuse ≡ b → count_of is_change (handed_output {PublicState = PublicState} v (Some message)) ≡ 0
+      go : (b : Bool) → v.refuse ≡ b → count_of is_change (handed_output {PublicState = PublicState} v.number v.refuse (Some message)) ≡ 0
       go true e = rw e
       go false e = rw e
 
-  no_change_failed : (v : Event Packet) (failed : Bool) → count_of is_change (failed_output {PublicState = PublicState} {Message = Message} v failed) ≡ 0
+  no_change_failed : (v : Event Packet) (failed : Bool) → count_of is_change (failed_output {PublicState = PublicState} {Message = Message} v.number failed) ≡ 0
   no_change_failed v true = refl
   no_change_failed v false = refl
 
-  no_send_failed : (v : Event Packet) (failed : Bool) → count_of is_send (failed_output {PublicState = PublicState} {Message = Message} v failed) ≡ 0
+  no_send_failed : (v : Event Packet) (failed : Bool) → count_of is_send (failed_output {PublicState = PublicState} {Message = Message} v.number failed) ≡ 0
   no_send_failed v true = refl
   no_send_failed v false = refl
 
-  one_send : (v : Event Packet) (handed : Option Message) → count_of is_send (handed_output {PublicState = PublicState} v handed) ≤ 1
+  one_send : (v : Event Packet) (handed : Option Message) → count_of is_send (handed_output {PublicState = PublicState} v.number v.refuse handed) ≤ 1
   one_send v None = omega arith
   one_send v (Some message) = go v.refuse refl
     where
-      go : (b : Bool) → v.refuse ≡ b → count_of is_send (handed_output {PublicState = PublicState} v (Some message)) ≤ 1
+      go : (b : Bool) → v.refuse ≡ b → count_of is_send (handed_output {PublicState = PublicState} v.number v.refuse (Some message)) ≤ 1
       go true e = rw e (omega arith)
       go false e = rw e (omega arith)
 
@@ -96,12 +96,12 @@ module _ {PublicState Packet Message State Exchange Answer Lease : Type 0} (p : 
       go : (change : Option State) → once.change ≡ change → ((left : Event Packet) (next : View State Exchange) → count_of is_change (polls p fuel left next).outputs ≤ rank p lawful next.state left.input) →
           count_of is_change (after_poll p (polls p fuel) v change once).outputs ≤ rank p lawful view.state v.input
       go None e ih =
-          rw (count_of-append is_change (handed_output v once.handed) (failed_output v once.failed), no_change_handed v once.handed, no_change_failed v once.failed) (omega arith)
+          rw (count_of-append is_change (handed_output v.number v.refuse once.handed) (failed_output v.number once.failed), no_change_handed v once.handed, no_change_failed v once.failed) (omega arith)
       go (Some next) e ih =
           let falls : suc (rank p lawful once.view.state once.left) ≤ rank p lawful view.state v.input = (moves v.moment v.refuse v.input view next e).falls in
           let rest : List (Output PublicState Message) = (polls p fuel (record v { input = once.left }) once.view).outputs in
           let later : count_of is_change rest ≤ rank p lawful once.view.state once.left = ih (record v { input = once.left }) once.view in
-          rw (count_of-append is_change (handed_output v once.handed) (record { event = v.number; report = Changed (p.public_state next) } ∷ rest), no_change_handed v once.handed)
+          rw (count_of-append is_change (handed_output v.number v.refuse once.handed) (record { event = v.number; report = Changed (p.public_state next) } ∷ rest), no_change_handed v once.handed)
           (omega (arith, falls, later))
 
   pub few_changes : (fuel : ℕ) (v : Event Packet) (view : View State Exchange) → count_of is_change (polls p fuel v view).outputs ≤ 6
@@ -171,7 +171,7 @@ module _ {PublicState Packet Message State Exchange Answer Lease : Type 0} (p : 
   abbrev sends : List (Output PublicState Message) → ℕ
   sends outputs = count_of is_send outputs
 
-  none_handed : (v : Event Packet) (handed : Option Message) → handed ≡ None → sends (handed_output v handed) ≡ 0
+  none_handed : (v : Event Packet) (handed : Option Message) → handed ≡ None → sends (handed_output v.number v.refuse handed) ≡ 0
   none_handed v handed e = rw e
 
   -- without a packet an event has at most one message, and with one at most two
@@ -183,13 +183,13 @@ module _ {PublicState Packet Message State Exchange Answer Lease : Type 0} (p : 
     abbrev once : PollEffect Packet Message State Exchange
     once = poll p v.moment v.refuse v.input view
 
-    last_sends : sends (handed_output v once.handed ++ failed_output v once.failed) ≤ 1
-    last_sends = rw (count_of-append is_send (handed_output v once.handed) (failed_output v once.failed), no_send_failed v once.failed) (omega (arith, one_send v once.handed))
+    last_sends : sends (handed_output v.number v.refuse once.handed ++ failed_output v.number once.failed) ≤ 1
+    last_sends = rw (count_of-append is_send (handed_output v.number v.refuse once.handed) (failed_output v.number once.failed), no_send_failed v once.failed) (omega (arith, one_send v once.handed))
 
-    more_sends : (next : State) (handed : ℕ) → sends (handed_output v once.handed) ≡ handed → (rest : List (Output PublicState Message)) (bound : ℕ) → sends rest + handed ≤ bound →
-        sends (handed_output v once.handed ++ (record { event = v.number; report = Changed (p.public_state next) } ∷ rest)) ≤ bound
+    more_sends : (next : State) (handed : ℕ) → sends (handed_output v.number v.refuse once.handed) ≡ handed → (rest : List (Output PublicState Message)) (bound : ℕ) → sends rest + handed ≤ bound →
+        sends (handed_output v.number v.refuse once.handed ++ (record { event = v.number; report = Changed (p.public_state next) } ∷ rest)) ≤ bound
     more_sends next handed h rest bound few =
-        rw (count_of-append is_send (handed_output v once.handed) (record { event = v.number; report = Changed (p.public_state next) } ∷ rest), h) (omega (arith, few))
+        rw (count_of-append is_send (handed_output v.number v.refuse once.handed) (record { event = v.number; report = Changed (p.public_state next) } ∷ rest), h) (omega (arith, few))
 
     sends_without : has_packet v.input ≡ false → FewSends fuel → (change : Option State) → once.change ≡ change → sends (after_poll p (polls p fuel) v change once).outputs ≤ 1
     sends_without h ih None e = last_sends
@@ -207,7 +207,7 @@ module _ {PublicState Packet Message State Exchange Answer Lease : Type 0} (p : 
 
         go : (once.handed ≡ None) ⊎ (has_packet once.left ≡ false) → sends (after_poll p (polls p fuel) v (Some next) once).outputs ≤ 2
         go (inl none) = more_sends next 0 (none_handed v once.handed none) (polls p fuel left once.view).outputs 2 (omega (arith, ih.all left once.view))
-        go (inr gone) = more_sends next (sends (handed_output v once.handed)) refl (polls p fuel left once.view).outputs 2 (omega (arith, ih.without left once.view gone, one_send v once.handed))
+        go (inr gone) = more_sends next (sends (handed_output v.number v.refuse once.handed)) refl (polls p fuel left once.view).outputs 2 (omega (arith, ih.without left once.view gone, one_send v once.handed))
 
   few_sends : (fuel : ℕ) → FewSends fuel
   few_sends zero = record { without = λ v view h. omega arith; all = λ v view. omega arith }

@@ -359,7 +359,7 @@ module _ {PublicState Packet Message State Exchange Answer Lease : Type 0} (p : 
 
         go : (fuel' : ℕ) → fuel ≡ fuel' → (change : Option State) → once.change ≡ change →
             all ≡ (after_poll p (polls p polled) v once.change once).outputs ++ replay_from p (after_poll p (polls p polled) v once.change once).view vs
-        go fuel' f None e = step ∙ rw e (sym (append_assoc (handed_output v once.handed) (failed_output v once.failed) (replay_from p once.view vs)))
+        go fuel' f None e = step ∙ rw e (sym (append_assoc (handed_output v.number v.refuse once.handed) (failed_output v.number once.failed) (replay_from p once.view vs)))
         go zero f (Some next) e =
             let moves : Moves lawful view.state v.input once = poll_moves lawful v.moment v.refuse v.input view next e in
             absurd (omega (arith, moves.falls, f))
@@ -368,7 +368,7 @@ module _ {PublicState Packet Message State Exchange Answer Lease : Type 0} (p : 
             let left : Event Packet = record v { input = once.left } in
             let more : outputs p (stays p fuel once.view.limit (entry_of p once.view) (left ∷ vs)) ≡ told polled left once.view =
             rw f (fresh fuel' left once.view (moves.calm calm) moves.fresh (omega (arith, moves.falls)) (omega (arith, moves.falls, f))) in
-            step ∙ rw (e, more) (sym (append_assoc (handed_output v once.handed) (changed p v next ∷ (polls p polled left once.view).outputs) (replay_from p (polls p polled left once.view).view vs)))
+            step ∙ rw (e, more) (sym (append_assoc (handed_output v.number v.refuse once.handed) (changed p v next ∷ (polls p polled left once.view).outputs) (replay_from p (polls p polled left once.view).view vs)))
 
     pub begun_polls : (polled : ℕ) (v : Event Packet) (view : View State Exchange) → polls p (suc polled) v (begin_stay p v.moment view) ≡ polls p (suc polled) v view
     begun_polls polled v view =

@@ -37,11 +37,11 @@ module _ {PublicState Message : Type 0} where
       go false e = elsewhere e outs all
 
 module _ {PublicState Packet Message State Exchange Answer Lease : Type 0} (p : Protocol PublicState Packet Message State Exchange Answer Lease) where
-  of_handed : (v : Event Packet) (handed : Option Message) → Of {PublicState = PublicState} v.number (handed_output v handed)
+  of_handed : (v : Event Packet) (handed : Option Message) → Of {PublicState = PublicState} v.number (handed_output v.number v.refuse handed)
   of_handed v None = tt
   of_handed v (Some message) = (refl, tt)
 
-  of_failed : (v : Event Packet) (failed : Bool) → Of {PublicState = PublicState} {Message = Message} v.number (failed_output v failed)
+  of_failed : (v : Event Packet) (failed : Bool) → Of {PublicState = PublicState} {Message = Message} v.number (failed_output v.number failed)
   of_failed v true = (refl, tt)
   of_failed v false = tt
 
@@ -53,10 +53,10 @@ module _ {PublicState Packet Message State Exchange Answer Lease : Type 0} (p : 
       once = poll p v.moment v.refuse v.input view
 
       go : (change : Option State) → ((left : Event Packet) (next : View State Exchange) → Of left.number (polls p fuel left next).outputs) → Of v.number (after_poll p (polls p fuel) v change once).outputs
-      go None ih = of-append v.number (handed_output v once.handed) (failed_output v once.failed) (of_handed v once.handed) (of_failed v once.failed)
+      go None ih = of-append v.number (handed_output v.number v.refuse once.handed) (failed_output v.number once.failed) (of_handed v once.handed) (of_failed v once.failed)
       go (Some next) ih =
           let left : Event Packet = record v { input = once.left } in
-          of-append v.number (handed_output v once.handed) (record { event = v.number; report = Changed (p.public_state next) } ∷ (polls p fuel left once.view).outputs) (of_handed v once.handed) (refl, ih left once.view)
+          of-append v.number (handed_output v.number v.refuse once.handed) (record { event = v.number; report = Changed (p.public_state next) } ∷ (polls p fuel left once.view).outputs) (of_handed v once.handed) (refl, ih left once.view)
 
   -- a call has at most one message, and that is of a release
   record Calls (v : Event Packet) (outs : List (Output PublicState Message)) : Type 0 where

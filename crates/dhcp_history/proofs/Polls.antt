@@ -174,13 +174,13 @@ module _ {PublicState Packet Message State Exchange Answer Lease : Type 0} (p : 
 
   -- what is to be reported after a poll: by the polls of the next events, or as the stays that are entered at this event
   abbrev pub followed : ℕ → Event Packet → List (Event Packet) → Option State → PollEffect Packet Message State Exchange → List (Output PublicState Message)
-  followed fuel v vs None once = failed_output v once.failed ++ replay_from p once.view vs
+  followed fuel v vs None once = failed_output v.number once.failed ++ replay_from p once.view vs
   followed fuel v vs (Some next) once =
       changed v next ∷ outputs p (stays p fuel once.view.limit (entry_of once.view) (record v { input = once.left } ∷ vs))
 
   -- what is to be reported is what this poll reports, and what follows
   abbrev pub Reports : ℕ → Event Packet → List (Event Packet) → List (Output PublicState Message) → PollEffect Packet Message State Exchange → Type 0
-  Reports fuel v vs all once = all ≡ handed_output v once.handed ++ followed fuel v vs once.change once
+  Reports fuel v vs all once = all ≡ handed_output v.number v.refuse once.handed ++ followed fuel v vs once.change once
 
   pub tried_due : (now : ℕ) (refuse : Bool) (input : Input Packet) (view : View State Exchange) → has_come now view.deadline ≡ true →
       transmit_and_receive p now refuse input view ≡ receive p now input (Some (attempt_now p now view).value.message) (transmit p now refuse view)

@@ -6,3 +6,4 @@ pub mod Bounds
 pub mod Drawing
 pub mod Client
 pub mod Run
+pub mod EventLoop

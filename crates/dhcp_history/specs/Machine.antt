@@ -66,16 +66,19 @@ pub record EventEffect (PublicState Message State Exchange : Type 0) : Type 0 wh
   pub outputs : List (Output PublicState Message)
   pub view : View State Exchange
 
-abbrev pub handed_output : {PublicState Packet Message : Type 0} → Event Packet → Option Message →
+-- what is reported of a message that is handed at the event with this number, to a link that refuses or
+-- does not
+abbrev pub handed_output : {PublicState Message : Type 0} → ℕ → Bool → Option Message →
     List (Output PublicState Message)
-handed_output event None = []
-handed_output event (Some message) =
-    record { event = event.number; report = if event.refuse then Refused message else Handed message } ∷ []
+handed_output number refuse None = []
+handed_output number refuse (Some message) =
+    record { event = number; report = if refuse then Refused message else Handed message } ∷ []
 
-abbrev pub failed_output : {PublicState Packet Message : Type 0} → Event Packet → Bool →
+-- and of a time limit that is over
+abbrev pub failed_output : {PublicState Message : Type 0} → ℕ → Bool →
     List (Output PublicState Message)
-failed_output event failed =
-    if failed then record { event = event.number; report = Failed TimedOut } ∷ [] else []
+failed_output number failed =
+    if failed then record { event = number; report = Failed TimedOut } ∷ [] else []
 
 -- goes to the next state, which was not polled yet
 abbrev pub enter : {State Exchange : Type 0} → NextState State Exchange → View State Exchange →
@@ -228,13 +231,14 @@ module _ {PublicState Packet Message State Exchange Answer Lease : Type 0}
       Event Packet → Option State → PollEffect Packet Message State Exchange →
       EventEffect PublicState Message State Exchange
   after_poll again event None once = record {
-    outputs = handed_output event once.handed ++ failed_output event once.failed;
+    outputs = handed_output event.number event.refuse once.handed ++
+        failed_output event.number once.failed;
     view = once.view;
   }
   after_poll again event (Some next) once =
       let more = again (record event { input = once.left }) once.view in
       record {
-        outputs = handed_output event once.handed ++
+        outputs = handed_output event.number event.refuse once.handed ++
             (record { event = event.number; report = Changed (p.public_state next) } ∷ more.outputs);
         view = more.view;
       }

@@ -3,6 +3,7 @@
 #![tactic(auto)]
 
 mod client;
+mod event_loop;
 mod machine;
 mod rules;
 mod script;

@@ -1,0 +1,19 @@
+use Rattle.std.proofs.Common.{◌≡◌, ◌-◌, []}
+use Rattle.std.specs.Prelude.{IfSome, IsSomeAnd}
+use Rattle.dhcp_history.specs.Client.{view_of}
+use Rattle.dhcp_history.specs.Run.{input_of}
+use Rattle.dhcp_history.specs.EventLoop.{event_of, polls_at, MakesUp}
+use Rattle.dhcp_history.proofs.event_loop.poll_event.Given as goal
+
+-- what was reported so far and the polls that are left make up all seven
+abbrev pub invariant-loop : goal.invariant-loop
+invariant-loop g l =
+    let p = g.R.Rules.protocol l.rules in
+    let left = g.W.Words.left in
+    record {
+      so_far : IfSome (left l.fn.words) (λ first. IsSomeAnd (left l.words) (λ drawn.
+          MakesUp (polls_at p (7 - l.counter) (event_of l.at (input_of l.link.shown.waiting)) (view_of l.client drawn))
+          (polls_at p 7 (event_of l.at (input_of l.fn.link.shown.waiting)) (view_of l.fn.client first)) l.outputs.items l.fn.outputs.items));
+      empty : l.link.shown.handed ≡ [];
+      refuses : l.link.shown.refuses ≡ l.at.refuse;
+    }

@@ -1,0 +1,189 @@
+//! The loop over the events of a script: at each event the call that it asks for, and then its polls, over a link in memory.
+
+ghost use Rattle.std.specs.Prelude.{◌≡◌, ◌<◌, ◌^◌, All, List, [], ◌∷◌, ◌++◌, Err, true, OnOk, IfOk, IfSome, slice_get, option_map};
+ghost use Rattle.dhcp_clock.specs.MemLink.{without_oldest};
+ghost use Rattle.dhcp_history.specs.Protocol.{Lawful};
+ghost use Rattle.dhcp_history.specs.Script.{Script, after_call};
+ghost use Rattle.dhcp_history.specs.History.{history, outputs};
+ghost use Rattle.dhcp_history.specs.Machine.{poll, handed_output, first_view};
+ghost use Rattle.dhcp_history.specs.Client.{view_of};
+ghost use Rattle.dhcp_history.specs.Run.{input_of};
+ghost use Rattle.dhcp_history.specs.EventLoop.{
+  release_outputs,
+  poll_outputs,
+  is_again,
+  has_memory,
+  event_of,
+  HasPolledOnce,
+  polls_at,
+  call_at,
+  event_at,
+  events_at,
+  HasReported,
+  HasCalled,
+};
+
+use crate::{Client, Event, Failure, Input, Output, ReleaseError, Report, Rules, RunError, machine};
+use dhcp_clock::{Handed, MemLink, Packet, Words};
+use std::alloc::{AllocError, Global};
+
+// An event without its input.
+#[derive(Clone, Copy)]
+struct EventHead {
+    number: u32,
+    moment: u64,
+    refuse: bool,
+}
+
+// The oldest message that the link lists, which is then taken out.
+fn take_message(link: &mut MemLink) -> Option<Handed>
+    ensures message { result ≡ option_map (λ handed. handed.0) (slice_get link.old.shown.handed 0) }
+    ensures rest { link.new ≡ without_oldest link.old }
+{
+    match link.take_handed() {
+        None => None,
+        Some((message, _)) => Some(message),
+    }
+}
+
+// Adds a report of an event.
+fn report<S: Drop>(
+    number: u32,
+    report: Report<S, Handed>,
+    outputs: &mut Vec<Output<S, Handed>>,
+) -> Result<(), AllocError>
+    ensures { OnOk result (outputs.new.items
+        ≡ outputs.old.items ++ record { event = number; report = report } ∷ []) }
+{
+    outputs.push(Output {
+        event: number,
+        report,
+    })?;
+    Ok(())
+}
+
+// Reports the message that was handed to a link, if there is one.
+fn report_handed<S: Drop>(
+    number: u32,
+    refuse: bool,
+    handed: Option<Handed>,
+    outputs: &mut Vec<Output<S, Handed>>,
+) -> Result<(), AllocError>
+    ensures { OnOk result (outputs.new.items
+        ≡ outputs.old.items ++ handed_output number refuse handed) }
+{
+    match handed {
+        None => Ok(()),
+        Some(message) => {
+            if refuse {
+                report(number, Report::Refused(message), outputs)
+            } else {
+                report(number, Report::Handed(message), outputs)
+            }
+        }
+    }
+}
+
+// Reports a release, after the message that was handed for it.
+fn report_release<S: Drop>(
+    number: u32,
+    refuse: bool,
+    released: Result<bool, ReleaseError>,
+    handed: Option<Handed>,
+    outputs: &mut Vec<Output<S, Handed>>,
+) -> Result<(), AllocError>
+    ensures memory { OnOk result (released ≡ Err ReleaseError.OutOfMemory → ⊥) }
+    ensures outputs { OnOk result (outputs.new.items
+        ≡ outputs.old.items ++ release_outputs number refuse handed released) }
+{
+    match released {
+        Err(ReleaseError::OutOfMemory) => Err(AllocError),
+        Err(ReleaseError::Refused) => {
+            report_handed(number, refuse, handed, outputs)?;
+            report(number, Report::Failed(Failure::SendRefused), outputs)
+        }
+        Ok(_) => report_handed(number, refuse, handed, outputs),
+    }
+}
+
+// Reports a poll, after the message that was handed in it; returns whether the client is polled again.
+fn report_poll<S: Drop>(
+    number: u32,
+    refuse: bool,
+    polled: Result<Option<S>, RunError>,
+    handed: Option<Handed>,
+    outputs: &mut Vec<Output<S, Handed>>,
+) -> Result<bool, AllocError>
+    ensures memory { OnOk result (has_memory polled ≡ true) }
+    ensures again { IfOk result (λ again. again ≡ is_again polled) }
+    ensures outputs { OnOk result (outputs.new.items
+        ≡ outputs.old.items ++ poll_outputs number refuse handed polled) }
+{
+    match polled {
+        Err(RunError::OutOfMemory) => Err(AllocError),
+        Err(RunError::TimedOut) => {
+            report_handed(number, refuse, handed, outputs)?;
+            report(number, Report::Failed(Failure::TimedOut), outputs)?;
+            Ok(false)
+        }
+        Ok(None) => {
+            report_handed(number, refuse, handed, outputs)?;
+            Ok(false)
+        }
+        Ok(Some(next)) => {
+            report_handed(number, refuse, handed, outputs)?;
+            report(number, Report::Changed(next), outputs)?;
+            Ok(true)
+        }
+    }
+}
+
+// One poll, which is reported; returns whether the client is polled again.
+fn poll_once<R: Rules, W: Words>(
+    rules: &R,
+    client: &mut Client<R::State, R::Exchange>,
+    words: &mut W,
+    link: &mut MemLink,
+    at: EventHead,
+    outputs: &mut Vec<Output<R::PublicState, Handed>>,
+) -> Result<bool, AllocError>
+    requires moment { at.moment < 2 ^ 60 }
+    requires empty { link.old.shown.handed ≡ [] }
+    ensures polled { IfOk result (λ again. IfSome (W.left words.old) (λ drawn.
+        HasPolledOnce (R.protocol rules.now) at.number at.refuse
+        (poll (R.protocol rules.now) at.moment link.old.shown.refuses
+        (input_of link.old.shown.waiting) (view_of client.old drawn))
+        again outputs.old.items outputs.new.items (view_of client.new) (W.left words.new)
+        link.new.shown.waiting)) }
+    ensures refuses { link.new.shown.refuses ≡ link.old.shown.refuses }
+    ensures empty { link.new.shown.handed ≡ [] }
+{
+    let polled = machine::run(rules, client, at.moment, words, link);
+    let handed = take_message(link);
+    report_poll(at.number, at.refuse, polled, handed, outputs)
+}
+
+// The polls of an event, until one answers no change.
+fn poll_event<R: Rules, W: Words>(
+    rules: &R,
+    client: &mut Client<R::State, R::Exchange>,
+    words: &mut W,
+    link: &mut MemLink,
+    at: EventHead,
+    outputs: &mut Vec<Output<R::PublicState, Handed>>,
+) -> Result<(), AllocError>
+    requires moment { at.moment < 2 ^ 60 }
+    requires empty { link.old.shown.handed ≡ [] }
+    requires refuses { link.old.shown.refuses ≡ at.refuse }
+    ensures { OnOk result (IfSome (W.left words.old) (λ drawn.
+        HasReported (polls_at (R.protocol rules.now) 7
+        (event_of at (input_of link.old.shown.waiting)) (view_of client.old drawn))
+        outputs.old.items outputs.new.items (view_of client.new) (W.left words.new))) }
+{
+    for _ in 0..7u32 {
+        if !poll_once(rules, client, words, link, at, outputs)? {
+            return Ok(());
+        }
+    }
+    Ok(())
+}
