@@ -284,8 +284,8 @@ module _ {PublicState Packet Message State Exchange Answer Lease : Type 0} (p : 
         first : Entry State Exchange
         first = record { state = script.state; exchange = script.exchange; words = script.words }
 
-        go : (events : List (Event Packet)) (fuel : ℕ) → 8 * (length events + 1) ≡ fuel → replay_from p (first_view p script) events ≡ outputs p (stays p fuel script.limit first events)
+        go : (events : List (Event Packet)) (fuel : ℕ) → 8 * (length events + 1) ≡ fuel → replay_from p (first_view script) events ≡ outputs p (stays p fuel script.limit first events)
         go [] fuel e = refl
         go (v ∷ vs) zero e = absurd (omega arith)
         go (v ∷ vs) (suc zero) e = absurd (omega arith)
-        go (v ∷ vs) (suc (suc fuel)) e = sym (fresh_event lawful v vs (events_follow vs) fuel (first_view p script) refl (omega arith))
+        go (v ∷ vs) (suc (suc fuel)) e = sym (fresh_event lawful v vs (events_follow vs) fuel (first_view script) refl (omega arith))

@@ -1,6 +1,6 @@
 -- How the loop over events goes on by one poll and by one event, and that it reports what the history reports.
 use Rattle.std.proofs.Common.{◌≡◌, ℕ, suc, zero, ◌-◌, ◌<◌, List, [], ◌∷◌, ◌++◌, Bool, true, false, refl, ap, sym, subst, arith, ◌∙◌, append_assoc, append-nil}
-use Rattle.std.specs.Prelude.{Option, Some, None, is_some, option_map, slice_get, Result, Ok, Err, OnOk, IfOk, IfSome, IsSomeAnd}
+use Rattle.std.specs.Prelude.{Option, Some, None, is_some, option_map, drop, slice_get, Result, Ok, Err, OnOk, IfOk, IfSome, IsSomeAnd}
 use Rattle.std.specs.declared.alloc.AllocError.{AllocError}
 use Rattle.dhcp_clock.specs.declared.link.Packet.{Packet}
 use Rattle.dhcp_clock.specs.declared.link.Handed.{Handed}
@@ -243,3 +243,141 @@ module _ {PublicState State Exchange Answer Lease : Type 0} (p : Protocol Public
         client = rw ends (ap view (kept drawn));
         words = rw ends (ap (λ (left' : List ℕ). Some left') (sym (kept drawn)));
       }
+
+  -- what is reported of a release
+  release_reports : (number moment : ℕ) (refuse : Bool) (held : Option Lease) (view : View State Exchange) →
+      release_of p held (record { number = number; moment = moment; refuse = refuse; input = Release }) view ≡
+      record { outputs = release_outputs number refuse (release_by p held refuse view).handed (release_by p held refuse view).answer; view = (release_by p held refuse view).view }
+  release_reports number moment refuse None view = refl
+  release_reports number moment true (Some lease) view = refl
+  release_reports number moment false (Some lease) view = refl
+
+  call_released : (event : Event Packet) (view : View State Exchange) → event.input ≡ Release → call_at p event view ≡ release_of p (p.held_lease view.state) event view
+  unfolding call_at
+  call_released event view e = rw e
+
+  pub call_cleaned : (event : Event Packet) (view : View State Exchange) → event.input ≡ CleanUp → call_at p event view ≡ record { outputs = []; view = clean_up p view }
+  unfolding call_at
+  call_cleaned event view e = rw e
+
+  pub call_nothing : (event : Event Packet) (view : View State Exchange) → event.input ≡ Nothing → call_at p event view ≡ record { outputs = []; view = view }
+  unfolding call_at
+  call_nothing event view e = rw e
+
+  pub call_arrival : (event : Event Packet) (view : View State Exchange) (packet : Packet) → event.input ≡ Arrival packet → call_at p event view ≡ record { outputs = []; view = view }
+  unfolding call_at
+  call_arrival event view packet e = rw e
+
+  -- a release over a link that lists no message before, as it was reported
+  pub release_called : (number moment : ℕ) (refuse : Bool) (shown after : Shown) (old new : View State Exchange) (result : Result Bool ReleaseError) (handed : Option Handed) (outs outs' : List (Output PublicState Handed)) →
+      shown.handed ≡ [] → shown.refuses ≡ refuse → HasReleased (release_held p shown.refuses old) result new shown (Some after) →
+      handed ≡ option_map (λ (listed : Handed × Sent). listed.0) (slice_get after.handed 0) → outs' ≡ outs ++ release_outputs number refuse handed result →
+      HasCalled (call_at p (record { number = number; moment = moment; refuse = refuse; input = Release }) old) outs outs' new
+  release_called number moment refuse shown after old new result handed outs outs' empty same has takes adds =
+      let once : ReleaseEffect State Exchange = release_held p refuse old in
+      let really : HasReleased once result new shown (Some after) = subst (λ (b : Bool). HasReleased (release_held p b old) result new shown (Some after)) same has in
+      let is : after ≡ record shown { handed = handed_by shown.refuses once.handed shown.handed } = cc really.link in
+      let none : handed_by shown.refuses once.handed shown.handed ≡ handed_by shown.refuses once.handed [] = ap (λ (listed : List (Handed × Sent)). handed_by shown.refuses once.handed listed) empty in
+      let one : handed ≡ once.handed = takes ∙ ap (λ (s : Shown). option_map (λ (listed : Handed × Sent). listed.0) (slice_get s.handed 0)) is ∙
+          (ap (λ (listed : List (Handed × Sent)). option_map (λ (l : Handed × Sent). l.0) (slice_get listed 0)) none ∙ handed_same shown.refuses once.handed) in
+      let event : Event Packet = record { number = number; moment = moment; refuse = refuse; input = Release } in
+      let called : call_at p event old ≡ record { outputs = release_outputs number refuse once.handed once.answer; view = once.view } =
+      call_released event old refl ∙ release_reports number moment refuse (p.held_lease old.state) old in
+      rw called (record { outputs = adds ∙ rw (one, really.answer); client = really.client })
+
+  -- and the link is as before, once the message was taken out
+  pub release_link : (shown after last : Shown) (old new : View State Exchange) (result : Result Bool ReleaseError) →
+      shown.handed ≡ [] → HasReleased (release_held p shown.refuses old) result new shown (Some after) → last ≡ record after { handed = drop 1 after.handed } → last ≡ shown
+  release_link shown after last old new result empty has e =
+      let once : ReleaseEffect State Exchange = release_held p shown.refuses old in
+      let is : after ≡ record shown { handed = handed_by shown.refuses once.handed shown.handed } = cc has.link in
+      let none : (handed : Option Handed) → drop 1 (handed_by shown.refuses handed shown.handed) ≡ shown.handed = λ handed. rw empty (go handed) in
+      e ∙ (ap (λ (s : Shown). record s { handed = drop 1 s.handed }) is ∙ ap (λ (listed : List (Handed × Sent)). record shown { handed = listed }) (none once.handed))
+    where
+      go : (handed : Option Handed) → drop 1 (handed_by shown.refuses handed []) ≡ []
+      go None = refl
+      go (Some message) = refl
+
+  -- an event: its call, and then its polls
+  pub event_reported : {T E : Type 0} (result : Result T E) (event : Event Packet) (input : Input Packet) (drawn left : Option (List ℕ)) (first mid view : List ℕ → View State Exchange) (before told after : List (Output PublicState Handed)) →
+      ((words : List ℕ) → HasCalled (call_at p event (first words)) before told (mid words)) → input ≡ (after_call event).input →
+      OnOk result (IfSome drawn (λ words. HasReported (polls_at p 7 (record event { input = input }) (mid words)) told after view left)) →
+      OnOk result (IfSome drawn (λ words. HasReported (event_at p event (first words)) before after view left))
+  event_reported (Err error) event input drawn left first mid view before told after called e polled = tt
+  event_reported (Ok value) event input None left first mid view before told after called e polled = tt
+  event_reported (Ok value) event input (Some words) left first mid view before told after called e polled =
+      let call' : EventEffect PublicState Handed State Exchange = call_at p event (first words) in
+      let once : EventEffect PublicState Handed State Exchange = polls_at p 7 (after_call event) call'.view in
+      let is : HasReported once told after view left =
+      subst (λ (v : View State Exchange). HasReported (polls_at p 7 (after_call event) v) told after view left) (called words).client
+      (subst (λ (i : Input Packet). HasReported (polls_at p 7 (record event { input = i }) (mid words)) told after view left) e polled) in
+      record {
+        outputs = is.outputs ∙ (ap (λ (outs : List (Output PublicState Handed)). outs ++ once.outputs) (called words).outputs ∙ append_assoc before call'.outputs once.outputs);
+        client = is.client;
+        words = is.words;
+      }
+
+  -- an event in the loop over events
+  module _ (first now next : Option (List ℕ)) (first_view view later : List ℕ → View State Exchange) (event : Event Packet) (rest events : List (Event Packet)) (before so_far after : List (Output PublicState Handed)) where
+    abbrev whole : List ℕ → EventEffect PublicState Handed State Exchange
+    whole words = events_at p (first_view words) events
+
+    next_event : (words drawn : List ℕ) → MakesUp (events_at p (view drawn) (event ∷ rest)) (whole words) so_far before → HasReported (event_at p event (view drawn)) so_far after later next →
+        IsSomeAnd next (λ drawn'. MakesUp (events_at p (later drawn') rest) (whole words) after before)
+    next_event words drawn going reported =
+        let once : EventEffect PublicState Handed State Exchange = event_at p event (view drawn) in
+        rw (reported.words, reported.client, reported.outputs) (record {
+          outputs = append_assoc so_far once.outputs (events_at p once.view rest).outputs ∙ going.outputs;
+          view = going.view;
+        })
+
+    pub events_go_on : IfSome first (λ words. IsSomeAnd now (λ drawn. MakesUp (events_at p (view drawn) (event ∷ rest)) (whole words) so_far before)) →
+        IfSome now (λ drawn. HasReported (event_at p event (view drawn)) so_far after later next) →
+        IfSome first (λ words. IsSomeAnd next (λ drawn. MakesUp (events_at p (later drawn) rest) (whole words) after before))
+    events_go_on going reported = go first now going reported
+      where
+        go : (first' now' : Option (List ℕ)) → IfSome first' (λ words. IsSomeAnd now' (λ drawn. MakesUp (events_at p (view drawn) (event ∷ rest)) (whole words) so_far before)) →
+            IfSome now' (λ drawn. HasReported (event_at p event (view drawn)) so_far after later next) →
+            IfSome first' (λ words. IsSomeAnd next (λ drawn. MakesUp (events_at p (later drawn) rest) (whole words) after before))
+        go None now' h r = tt
+        go (Some words) None h r = absurd h
+        go (Some words) (Some drawn) h r = next_event words drawn h r
+
+  pub events_begin : (first : Option (List ℕ)) (view : List ℕ → View State Exchange) (events : List (Event Packet)) (so_far : List (Output PublicState Handed)) →
+      IfSome first (λ words. IsSomeAnd first (λ drawn. MakesUp (events_at p (view drawn) events) (events_at p (view words) events) so_far so_far))
+  events_begin None view events so_far = tt
+  events_begin (Some words) view events so_far = record { outputs = refl; view = refl }
+
+  pub events_end : (first now : Option (List ℕ)) (first_view view : List ℕ → View State Exchange) (rest events : List (Event Packet)) (before so_far : List (Output PublicState Handed)) → rest ≡ [] →
+      ((drawn : List ℕ) → (view drawn).words ≡ drawn) →
+      IfSome first (λ words. IsSomeAnd now (λ drawn. MakesUp (events_at p (view drawn) rest) (events_at p (first_view words) events) so_far before)) →
+      IfSome first (λ words. HasReported (events_at p (first_view words) events) before so_far view now)
+  events_end None now first_view view rest events before so_far e kept h = tt
+  events_end (Some words) None first_view view rest events before so_far e kept h = absurd h
+  events_end (Some words) (Some drawn) first_view view rest events before so_far e kept h =
+      let none : events_at p (view drawn) rest ≡ record { outputs = []; view = view drawn } = rw e in
+      let ends : (events_at p (first_view words) events).view ≡ view drawn = sym (ap (λ (once : EventEffect PublicState Handed State Exchange). once.view) (sym none) ∙ h.view) in
+      record {
+        outputs = sym (append-nil so_far) ∙ (ap (λ (once : EventEffect PublicState Handed State Exchange). so_far ++ once.outputs) (sym none) ∙ h.outputs);
+        client = rw ends (ap view (kept drawn));
+        words = rw ends (ap (λ (left' : List ℕ). Some left') (sym (kept drawn)));
+      }
+
+  -- the loop over events reports what the replay reports
+  events_replay : (view : View State Exchange) (events : List (Event Packet)) → (events_at p view events).outputs ≡ replay_from p view events
+  unfolding polls_at call_at
+  events_replay view [] = refl
+  events_replay view (event ∷ events) =
+      let first : EventEffect PublicState Handed State Exchange = call_at p event view in
+      let then' : EventEffect PublicState Handed State Exchange = polls_at p 7 (after_call event) first.view in
+      append_assoc first.outputs then'.outputs (events_at p then'.view events).outputs ∙
+      ap (λ (more : List (Output PublicState Handed)). first.outputs ++ (then'.outputs ++ more)) (events_replay then'.view events)
+
+  -- what the loop reports is what the history of a script reports, where the client begins as the script says
+  pub loop_history : (first now : Option (List ℕ)) (first_view' view : List ℕ → View State Exchange) (events : List (Event Packet)) (reported : List (Output PublicState Handed)) →
+      IfSome first (λ drawn. HasReported (events_at p (first_view' drawn) events) [] reported view now) → (Lawful p → (script : Script Packet State Exchange) → replay p script ≡ outputs p (history p script)) →
+      IfSome first (λ drawn. Lawful p → (script : Script Packet State Exchange) → first_view' drawn ≡ first_view script → script.events ≡ events → reported ≡ outputs p (history p script))
+  loop_history None now first_view' view events reported h law = tt
+  loop_history (Some drawn) now first_view' view events reported h law = λ lawful script begins same.
+      h.outputs ∙ (events_replay (first_view' drawn) events ∙
+      (ap (λ (v : View State Exchange). replay_from p v events) begins ∙ (ap (λ (vs : List (Event Packet)). replay_from p (first_view script) vs) (sym same) ∙ law lawful script)))

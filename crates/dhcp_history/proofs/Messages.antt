@@ -96,7 +96,7 @@ module _ {PublicState Packet Message State Exchange Answer Lease : Type 0} (p : 
 
   pub history_sends : Lawful p → (script : Script Packet State Exchange) (n : ℕ) → count_of (is_send_at n) (outputs p (history p script)) ≤ allowed n script.events
   history_sends lawful script n =
-      subst (λ (outs : List (Output PublicState Message)). count_of (is_send_at n) outs ≤ allowed n script.events) (replay_history p lawful script) (replay_few lawful n (first_view p script) script.events)
+      subst (λ (outs : List (Output PublicState Message)). count_of (is_send_at n) outs ≤ allowed n script.events) (replay_history p lawful script) (replay_few lawful n (first_view script) script.events)
 
   -- what is reported of one event comes before what is reported of later ones
   earlier : (least more : ℕ) (outs : List (Output PublicState Message)) → least ≤ more → InOrder more outs → InOrder least outs
@@ -119,4 +119,4 @@ module _ {PublicState Packet Message State Exchange Answer Lease : Type 0} (p : 
   -- what a history reports stay by stay stands in the order of events
   pub history_in_order : Lawful p → (script : Script Packet State Exchange) (least : ℕ) → Numbered least script.events → InOrder least (outputs p (history p script))
   history_in_order lawful script least h =
-      subst (λ (outs : List (Output PublicState Message)). InOrder least outs) (replay_history p lawful script) (replay_in_order least (first_view p script) script.events h)
+      subst (λ (outs : List (Output PublicState Message)). InOrder least outs) (replay_history p lawful script) (replay_in_order least (first_view script) script.events h)

@@ -52,6 +52,19 @@ pub record View (State Exchange : Type 0) : Type 0 where
   pub deadline : Option ℕ
   pub words : List ℕ
 
+-- the client with which a script begins, which was not polled yet
+abbrev pub first_view : {Packet State Exchange : Type 0} → Script Packet State Exchange →
+    View State Exchange
+first_view script = record {
+  state = script.state;
+  exchange = script.exchange;
+  limit = script.limit;
+  entered = 0;
+  phase = Unpolled;
+  deadline = None;
+  words = script.words;
+}
+
 -- what one poll does: the client after it, the message that it hands to the link, what is left of the
 -- event's input, and its answer: a change of state, an error, or neither
 pub record PollEffect (Packet Message State Exchange : Type 0) : Type 0 where
@@ -294,17 +307,6 @@ module _ {PublicState Packet Message State Exchange Answer Lease : Type 0}
       let called = call event view in
       let polled = polls 7 (after_call event) called.view in
       called.outputs ++ (polled.outputs ++ replay_from polled.view events)
-
-  abbrev pub first_view : Script Packet State Exchange → View State Exchange
-  first_view script = record {
-    state = script.state;
-    exchange = script.exchange;
-    limit = script.limit;
-    entered = 0;
-    phase = Unpolled;
-    deadline = None;
-    words = script.words;
-  }
 
   abbrev pub replay : Script Packet State Exchange → List (Output PublicState Message)
   replay script = replay_from (first_view script) script.events

@@ -1,9 +1,9 @@
 //! The loop over the events of a script: at each event the call that it asks for, and then its polls, over a link in memory.
 
-ghost use Rattle.std.specs.Prelude.{◌≡◌, ◌<◌, ◌^◌, All, List, [], ◌∷◌, ◌++◌, Err, true, OnOk, IfOk, IfSome, slice_get, option_map};
+ghost use Rattle.std.specs.Prelude.{◌≡◌, ◌<◌, ◌^◌, ℕ, All, List, None, [], ◌∷◌, ◌++◌, Err, true, OnOk, IfOk, IfSome, slice_get, option_map};
 ghost use Rattle.dhcp_clock.specs.MemLink.{without_oldest};
 ghost use Rattle.dhcp_history.specs.Protocol.{Lawful};
-ghost use Rattle.dhcp_history.specs.Script.{Script, after_call};
+ghost use Rattle.dhcp_history.specs.Script.{Script, Release, input_after_call};
 ghost use Rattle.dhcp_history.specs.History.{history, outputs};
 ghost use Rattle.dhcp_history.specs.Machine.{poll, handed_output, first_view};
 ghost use Rattle.dhcp_history.specs.Client.{view_of};
@@ -186,4 +186,103 @@ fn poll_event<R: Rules, W: Words>(
         }
     }
     Ok(())
+}
+
+// A release of the lease that is held, as an event asks for it.
+fn release_event<R: Rules>(
+    rules: &R,
+    client: &mut Client<R::State, R::Exchange>,
+    link: &mut MemLink,
+    at: EventHead,
+    outputs: &mut Vec<Output<R::PublicState, Handed>>,
+) -> Result<(), AllocError>
+    requires empty { link.old.shown.handed ≡ [] }
+    requires refuses { link.old.shown.refuses ≡ at.refuse }
+    ensures called { OnOk result ((drawn : List ℕ) →
+        HasCalled (call_at (R.protocol rules.now) (event_of at Release) (view_of client.old drawn))
+        outputs.old.items outputs.new.items (view_of client.new drawn)) }
+    ensures link { OnOk result (link.new.shown ≡ link.old.shown) }
+{
+    let released = machine::release_held(rules, client, link);
+    let handed = take_message(link);
+    report_release(at.number, at.refuse, released, handed, outputs)
+}
+
+// The call that an event asks for; its packet waits at the link then.
+fn call_event<R: Rules>(
+    rules: &R,
+    client: &mut Client<R::State, R::Exchange>,
+    link: &mut MemLink,
+    at: EventHead,
+    input: Input<Packet>,
+    outputs: &mut Vec<Output<R::PublicState, Handed>>,
+) -> Result<(), AllocError>
+    requires empty { link.old.shown.handed ≡ [] }
+    requires refuses { link.old.shown.refuses ≡ at.refuse }
+    requires no_packet { link.old.shown.waiting ≡ None }
+    ensures called { OnOk result ((drawn : List ℕ) →
+        HasCalled (call_at (R.protocol rules.now) (event_of at input) (view_of client.old drawn))
+        outputs.old.items outputs.new.items (view_of client.new drawn)) }
+    ensures empty { OnOk result (link.new.shown.handed ≡ []) }
+    ensures refuses { OnOk result (link.new.shown.refuses ≡ at.refuse) }
+    ensures packet { OnOk result (input_of link.new.shown.waiting ≡ input_after_call input) }
+{
+    match input {
+        Input::Nothing => Ok(()),
+        Input::Arrival(packet) => {
+            link.load(Some(packet));
+            Ok(())
+        }
+        Input::Release => release_event(rules, client, link, at, outputs),
+        Input::CleanUp => {
+            machine::clean_up(rules, client);
+            Ok(())
+        }
+    }
+}
+
+/// One event: the call that it asks for, and then its polls. When out of memory, what was reported of
+/// the event so far may be among the outputs.
+pub fn run_event<R: Rules, W: Words>(
+    alloc: Global,
+    rules: &R,
+    client: &mut Client<R::State, R::Exchange>,
+    words: &mut W,
+    event: Event<Packet>,
+    outputs: &mut Vec<Output<R::PublicState, Handed>>,
+) -> Result<(), AllocError>
+    requires { event.moment < 2 ^ 60 }
+    ensures { OnOk result (IfSome (W.left words.old) (λ drawn.
+        HasReported (event_at (R.protocol rules.now) event (view_of client.old drawn))
+        outputs.old.items outputs.new.items (view_of client.new) (W.left words.new))) }
+{
+    let at = EventHead {
+        number: event.number,
+        moment: event.moment,
+        refuse: event.refuse,
+    };
+    let mut link = MemLink::new(alloc);
+    link.set_refuse(at.refuse);
+    call_event(rules, client, &mut link, at, event.input, outputs)?;
+    poll_event(rules, client, words, &mut link, at, outputs)
+}
+
+/// What the events report, and the client after them.
+pub fn replay<R: Rules, W: Words>(
+    alloc: Global,
+    rules: &R,
+    client: &mut Client<R::State, R::Exchange>,
+    words: &mut W,
+    events: Vec<Event<Packet>>,
+) -> Result<Vec<Output<R::PublicState, Handed>>, AllocError>
+    requires { All (λ event. event.moment < 2 ^ 60) events.items }
+    ensures reported { IfOk result (λ outputs. IfSome (W.left words.old) (λ drawn.
+        HasReported (events_at (R.protocol rules.now) (view_of client.old drawn) events.items)
+        [] outputs.items (view_of client.new) (W.left words.new))) }
+{
+    let mut outputs = Vec::new(alloc);
+    for event in events {
+        run_event(alloc, rules, client, words, event, &mut outputs)?;
+    }
+    Ok(outputs)
 }
