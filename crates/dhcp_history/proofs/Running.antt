@@ -1,6 +1,6 @@
 -- How the steps of a poll make up the poll of the protocol.
 use Rattle.std.proofs.Common.{◌≡◌, ℕ, List, Bool, true, false, refl, ap, sym, subst, ◌∙◌, inl, inr}
-use Rattle.std.specs.Prelude.{Option, Some, None, option_map, Result, Ok, Err, OnErr, ◌⊎◌, IfSome, IsSomeAnd}
+use Rattle.std.specs.Prelude.{Option, Some, None, is_some, option_map, Result, Ok, Err, OnErr, ◌⊎◌, IfSome, IsSomeAnd}
 use Rattle.dhcp_clock.specs.declared.link.Packet.{Packet}
 use Rattle.dhcp_clock.specs.declared.link.Handed.{Handed}
 use Rattle.dhcp_clock.specs.declared.link.Sent.TheVariants.{Taken}
@@ -12,8 +12,9 @@ use Rattle.dhcp_history.specs.declared.machine.RunError.TheVariants as run
 use Rattle.dhcp_history.specs.Protocol.{Protocol, has_come}
 use Rattle.dhcp_history.specs.Script.{Input}
 use Rattle.dhcp_history.specs.History.{reading_of}
-use Rattle.dhcp_history.specs.Machine.{View, Phase, Unpolled, Pausing, Listening, Resting, Stopped, PollEffect, is_stopped, is_listening, is_unpolled, limit_is_over, has_ended, stop, begin_stay, attempt_now, transmit, clean_up, take_answer, receive, transmit_and_receive, poll, end_state, enter, exchange_at}
+use Rattle.dhcp_history.specs.Machine.{View, Phase, Unpolled, Pausing, Listening, Resting, Stopped, PollEffect, is_stopped, is_listening, is_unpolled, limit_is_over, limit_is_over_in, has_ended, stop, begin_stay, attempt_now, transmit, clean_up, take_answer, receive, transmit_and_receive, poll, end_state, enter, exchange_at}
 use Rattle.dhcp_history.specs.Client.{view_of}
+use Rattle.dhcp_history.specs.NextPoll.{HasNextAttempt}
 use Rattle.dhcp_history.specs.Run.{input_of, waiting_of, UnlessNoMemory, OnTimeout, OnNoMemory, release_by, HasReleased, sent_by, handed_by, answer_by, HasPolled, HasReceived, HasDrawn, HasTransmitted, IsUnsent, IsSent}
 
 -- input holds where something is told holds of input was told
@@ -44,11 +45,31 @@ unsent_early Sent (Ok a) old new before after unsent = tt
 unsent_early Sent (Err run.TimedOut) old new before after unsent = tt
 unsent_early Sent (Err run.OutOfMemory) old new before after unsent = inl unsent
 
+-- a client has a next attempt where it was not polled in its state, or stands as one that has one
+pub unpolled_armed : {State Exchange : Type 0} (has : State → Bool) (client : Client State Exchange) → is_unpolled client.standing.phase ≡ true → HasNextAttempt has client
+unpolled_armed has client e = λ polled sends. absurd (cc (e, polled))
+
+pub stays_armed : {State Exchange : Type 0} (has : State → Bool) (old new : Client State Exchange) → ((new.standing ≡ old.standing) × (new.state ≡ old.state)) ⊎ (is_unpolled new.standing.phase ≡ true) →
+    (has old.state ≡ true → is_some old.standing.deadline ≡ true) → HasNextAttempt has new
+stays_armed has old new (inl same) armed = λ polled sends. rw same.0 (armed (rw (← same.1) sends))
+stays_armed has old new (inr e) armed = unpolled_armed has new e
+
 pub waiting_same : {Packet : Type 0} (packet : Option Packet) → waiting_of (input_of packet) ≡ packet
 waiting_same None = refl
 waiting_same (Some packet) = refl
 
 module _ {PublicState State Exchange Answer Lease : Type 0} (p : Protocol PublicState Packet Handed State Exchange Answer Lease) where
+  -- a limit that is over counts from a first poll on
+  pub over_polled : (now : ℕ) (view : View State Exchange) → limit_is_over p now view ≡ true → is_unpolled view.phase ≡ false
+  over_polled now view = go view.phase
+    where
+      go : (phase : Phase) → limit_is_over_in p phase now view ≡ true → is_unpolled phase ≡ false
+      go Unpolled e = absurd (cc e)
+      go Pausing e = refl
+      go Listening e = refl
+      go Resting e = refl
+      go Stopped e = refl
+
   -- the packet is taken the same way, whatever message was handed
   pub taken_with : (now : ℕ) (input : Input Packet) (handed : Option Handed) (view : View State Exchange) →
       receive p now input handed view ≡ record (receive p now input None view) { handed = handed }

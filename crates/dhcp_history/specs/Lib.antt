@@ -7,3 +7,4 @@ pub mod Drawing
 pub mod Client
 pub mod Run
 pub mod EventLoop
+pub mod NextPoll

@@ -65,6 +65,9 @@ pub record Lawful {PublicState Packet Message State Exchange Answer Lease : Type
   -- a state whose ending moment has come draws no pause
   pub ended_draws_none : (state : State) (exchange : Exchange) (words : List ℕ) (now : ℕ) →
       has_come now (p.ending_moment state) ≡ true → (p.pause state exchange words).words ≡ words
+  -- a state in which the client does not send draws no pause
+  pub silent_draws_none : (state : State) (exchange : Exchange) (words : List ℕ) →
+      p.has_attempts state ≡ false → (p.pause state exchange words).words ≡ words
   -- the changes of one event come to an end
   pub rank : State → Bool → ℕ
   pub rank_bound : (state : State) (has_packet : Bool) → rank state has_packet ≤ 6

@@ -1,11 +1,11 @@
 //! The client as a machine that is polled: the seven steps of a poll, each in a function of its own, over any rules, words and
 //! link.
 
-ghost use Rattle.std.specs.Prelude.{◌≡◌, ◌≤◌, ◌<◌, ◌+◌, ◌^◌, ◌⊎◌, ◌&&◌, ℕ, List, Bool, true, false, not, Option, Some, None, Ok, Err, OnOk, OnErr, IfOk, IfSome, IsSomeAnd};
+ghost use Rattle.std.specs.Prelude.{◌≡◌, ◌≤◌, ◌<◌, ◌+◌, ◌^◌, ◌⊎◌, ◌&&◌, ℕ, List, Bool, true, false, not, Option, Some, None, is_some, Ok, Err, OnOk, OnErr, IfOk, IfSome, IsSomeAnd};
 ghost use Rattle.dhcp_clock.specs.declared.link.Handed.{Handed};
 ghost use Rattle.dhcp_clock.specs.Link.{Shown, HandsOver, with_message, without_packet};
 ghost use Rattle.dhcp_wire.specs.Fault.{HasCause};
-ghost use Rattle.dhcp_history.specs.Protocol.{has_come};
+ghost use Rattle.dhcp_history.specs.Protocol.{Lawful, has_come};
 ghost use Rattle.dhcp_history.specs.History.{limit_moment, after_wait_if};
 ghost use Rattle.dhcp_history.specs.Machine.{
   is_unpolled,
@@ -22,6 +22,15 @@ ghost use Rattle.dhcp_history.specs.Machine.{
   poll,
   clean_up,
 };
+ghost use Rattle.dhcp_history.specs.NextPoll.{
+  earlier,
+  next_moment,
+  next_poll,
+  HasNextAttempt,
+  IsIdle,
+  IsActive,
+};
+ghost use Rattle.dhcp_history.specs.Script.{Nothing};
 ghost use Rattle.dhcp_history.specs.Client.{view_of, view_with, unpolled};
 ghost use Rattle.dhcp_history.specs.Run.{
   input_of,
@@ -179,6 +188,7 @@ fn end_state<R: Rules>(
         ≡ enter ((R.protocol rules.now).after_end client.old.state
         (exchange_at (R.protocol rules.now) now (view_of client.old drawn))) (view_of client.old drawn) }
     ensures reported { result ≡ (R.protocol rules.now).public_state client.new.state }
+    ensures unpolled { is_unpolled client.new.standing.phase ≡ true }
     ensures limit { client.new.limit ≡ client.old.limit }
     ensures moment { client.new.last_moment ≡ now }
 {
@@ -203,6 +213,9 @@ fn begin_stay<R: Rules, W: Words>(
     ensures listens { is_listening result.phase ≡ is_listening client.now.standing.phase }
     ensures open { is_listening result.phase ≡ true → result ≡ client.now.standing }
     ensures polled { is_unpolled client.now.standing.phase ≡ false → result ≡ client.now.standing }
+    ensures armed { HasNextAttempt (R.protocol rules.now).has_attempts client.now →
+        (R.protocol rules.now).has_attempts client.now.state ≡ true →
+        is_some result.deadline ≡ true }
     ensures small { result.entered < 2 ^ 60 }
 {
     if client.standing.phase != Phase::Unpolled {
@@ -244,6 +257,7 @@ fn transmit<R: Rules, W: Words, L: DhcpLink>(
     ensures quiet { OnErr result (IfSome (L.shown link.old) (λ before. L.shown link.new ≡ Some before)) }
     ensures sent { OnOk result (IfSome (L.shown link.old) (λ before. (message : Handed)
         × (L.shown link.new ≡ Some (with_message message (sent_by before.refuses) before)))) }
+    ensures armed { OnOk result (is_some client.new.standing.deadline ≡ true) }
     ensures listens { OnOk result (IfSome (L.shown link.old) (λ before.
         is_listening client.new.standing.phase ≡ not before.refuses)) }
     ensures later { L.faults link.old ≤ L.faults link.new }
@@ -293,6 +307,8 @@ fn receive<R: Rules, W: Words, L: DhcpLink>(
     ensures state { OnErr result (client.new.state ≡ client.old.state) }
     ensures standing { OnErr result (client.new.standing ≡ client.old.standing) }
     ensures needed { OnErr result (NeedsMemory (R.needs_memory rules.now) client.old (L.shown link.old)) }
+    ensures stays { ((client.new.standing ≡ client.old.standing) × (client.new.state ≡ client.old.state))
+        ⊎ (is_unpolled client.new.standing.phase ≡ true) }
     ensures untaken { is_listening client.old.standing.phase ≡ false → L.shown link.new ≡ L.shown link.old }
     ensures packet { IfSome (L.shown link.old) (λ before.
         (L.shown link.new ≡ Some before) ⊎ (L.shown link.new ≡ Some (without_packet before))) }
@@ -338,6 +354,9 @@ fn receive_early<R: Rules, W: Words, L: DhcpLink>(
     ensures in_time { OnTimeout result ⊥ }
     ensures state { OnErr result (client.new.state ≡ client.old.state) }
     ensures needed { OnErr result (NeedsMemory (R.needs_memory rules.now) client.old (L.shown link.old)) }
+    ensures armed {
+        ((R.protocol rules.now).has_attempts client.old.state ≡ true → is_some begun.deadline ≡ true) →
+        HasNextAttempt (R.protocol rules.now).has_attempts client.new }
     ensures unsent { OnErr result (IsUnsent client.old client.new (L.shown link.old) (L.shown link.new)) }
     ensures uses { IfSome (L.shown link.old) (λ before. IsSomeAnd (L.shown link.new) (λ after.
         UsesLink (is_listening begun.phase) before after)) }
@@ -378,6 +397,8 @@ fn transmit_due<R: Rules, W: Words, L: DhcpLink>(
     ensures memory { OnErr result (IsUnsent client.old client.new (L.shown link.old) (L.shown link.new)
         ⊎ IsSent (R.protocol rules.now) now (view_with client.old begun) client.new
         (W.left words.old) (L.shown link.old) (L.shown link.new)) }
+    ensures armed { HasNextAttempt (R.protocol rules.now).has_attempts client.old →
+        HasNextAttempt (R.protocol rules.now).has_attempts client.new }
     ensures uses { IfSome (L.shown link.old) (λ before. IsSomeAnd (L.shown link.new) (λ after.
         UsesLink false before after)) }
     ensures later { L.faults link.old ≤ L.faults link.new }
@@ -419,6 +440,8 @@ pub fn run<R: Rules, W: Words, L: DhcpLink>(
     ensures needed { OnNoMemory result (is_unpolled client.old.standing.phase ≡ false →
         has_come now client.old.standing.deadline ≡ false → NeedsMemory (R.needs_memory rules.now)
         client.old (L.shown link.old)) }
+    ensures armed { HasNextAttempt (R.protocol rules.now).has_attempts client.old →
+        HasNextAttempt (R.protocol rules.now).has_attempts client.new }
     ensures timed_out { OnTimeout result (IsStopped client.old client.new
         (W.left words.old) (W.left words.new) (L.shown link.old) (L.shown link.new)) }
     ensures uses { IfSome (L.shown link.old) (λ before. IsSomeAnd (L.shown link.new) (λ after.
@@ -442,6 +465,68 @@ pub fn run<R: Rules, W: Words, L: DhcpLink>(
         return transmit_due(rules, client, begun, now, words, link);
     }
     receive_early(rules, client, begun, now, words, link)
+}
+
+// The earlier of two moments, where there are any.
+fn earlier(first: Option<u64>, second: Option<u64>) -> Option<u64>
+    ensures { result ≡ earlier first second }
+{
+    match (first, second) {
+        (None, second) => second,
+        (first, None) => first,
+        (Some(first), Some(second)) => Some(first.min(second)),
+    }
+}
+
+// The moment at which the time limit of the state is over.
+fn limit_moment<R: Rules>(rules: &R, client: &Client<R::State, R::Exchange>) -> Option<u64>
+    ensures { result ≡ limit_moment (R.protocol rules.now)
+        client.now.limit client.now.standing.entered client.now.state }
+{
+    if client.limit == 0 || !rules.has_time_limit(&client.state) {
+        return None;
+    }
+    Some(client.standing.entered + 1000 * client.limit as u64)
+}
+
+// The next attempt, the end of the state or that of the time limit, whichever comes first.
+fn next_moment<R: Rules>(rules: &R, client: &Client<R::State, R::Exchange>) -> Option<u64>
+    ensures { result ≡ next_moment (R.protocol rules.now) client.now }
+{
+    let end = earlier(
+        rules.ending_moment(&client.state),
+        limit_moment(rules, client),
+    );
+    earlier(client.standing.deadline, end)
+}
+
+/// The moment at which a poll next does something without a packet, in milliseconds. Before it a poll
+/// without a packet does nothing; at or after it a poll answers a change or the error, sends, or begins a
+/// pause. It is none where the client has stopped, or nothing lies ahead in its state.
+pub fn next_poll<R: Rules>(rules: &R, client: &Client<R::State, R::Exchange>) -> Option<u64>
+    ensures moment { result ≡ next_poll (R.protocol rules.now) client.now }
+    ensures before { Lawful (R.protocol rules.now) → (now : ℕ) (refuse : Bool) (drawn : List ℕ) →
+        is_stopped client.now.standing.phase ≡ false → client.now.last_moment ≤ now →
+        has_come now result ≡ false →
+        IsIdle (R.protocol rules.now) now (view_of client.now drawn)
+        (poll (R.protocol rules.now) now refuse Nothing (view_of client.now drawn)) }
+    ensures after { (now : ℕ) (refuse : Bool) (drawn : List ℕ) → has_come now result ≡ true →
+        IsActive (view_of client.now drawn)
+        (poll (R.protocol rules.now) now refuse Nothing (view_of client.now drawn)) }
+{
+    match client.standing.phase {
+        Phase::Stopped => None,
+        Phase::Unpolled => {
+            if rules.has_attempts(&client.state) {
+                Some(client.last_moment)
+            } else {
+                rules.ending_moment(&client.state)
+            }
+        }
+        Phase::Pausing => next_moment(rules, client),
+        Phase::Listening => next_moment(rules, client),
+        Phase::Resting => next_moment(rules, client),
+    }
 }
 
 /// Drops lease, attempt and error.

@@ -1,6 +1,6 @@
-use Rattle.std.proofs.Common.{sym, ◌∙◌, refl}
+use Rattle.std.proofs.Common.{sym, ◌∙◌, refl, []}
 use Rattle.dhcp_history.specs.Client.{view_of, view_with}
-use Rattle.dhcp_history.proofs.Running.{poll_ends, poll_works, on_run, no_timeout, on_no_memory, unsent_due, unsent_early}
+use Rattle.dhcp_history.proofs.Running.{poll_ends, poll_works, on_run, no_timeout, on_no_memory, unsent_due, unsent_early, unpolled_armed, over_polled}
 use Rattle.dhcp_history.proofs.machine.run.Goals as goal
 
 pub returns-then-has_ended-clause-polled : goal.returns-then-has_ended-clause-polled
@@ -48,3 +48,16 @@ pub returns-clause-memory : goal.returns-clause-memory
 returns-clause-memory g c =
     unsent_early _ c.receive_early.result c.args.client.now c.receive_early.new.client (g.L.DhcpLink.shown c.args.link.now) (g.L.DhcpLink.shown c.receive_early.new.link)
     c.receive_early.ensures.unsent
+
+pub returns-then-limit_is_over-clause-armed : goal.returns-then-limit_is_over-clause-armed
+returns-then-limit_is_over-clause-armed g c = λ armed polled sends.
+    armed (over_polled (g.R.Rules.protocol c.args.rules.now) c.args.now (view_of c.args.client.now []) (sym (c.limit_is_over.ensures []) ∙ c.if-limit_is_over.true)) sends
+
+pub returns-then-has_ended-clause-armed : goal.returns-then-has_ended-clause-armed
+returns-then-has_ended-clause-armed g c = λ armed. unpolled_armed (g.R.Rules.protocol c.args.rules.now).has_attempts c.end_state.new.client c.end_state.ensures.unpolled
+
+pub returns-then-has_come-clause-armed : goal.returns-then-has_come-clause-armed
+returns-then-has_come-clause-armed g c = c.transmit_due.ensures.armed
+
+pub returns-clause-armed : goal.returns-clause-armed
+returns-clause-armed g c = λ armed. c.receive_early.ensures.armed (c.begin_stay-begun.ensures.armed armed)
