@@ -1,7 +1,8 @@
 -- How the loop over events goes on by one poll and by one event, and that it reports what the history reports.
 use Rattle.std.proofs.Common.{◌≡◌, ℕ, suc, zero, ◌-◌, ◌<◌, List, [], ◌∷◌, ◌++◌, Bool, true, false, refl, ap, sym, subst, arith, ◌∙◌, append_assoc, append-nil}
-use Rattle.std.specs.Prelude.{Option, Some, None, is_some, option_map, drop, slice_get, Result, Ok, Err, OnOk, IfOk, IfSome, IsSomeAnd}
+use Rattle.std.specs.Prelude.{Option, Some, None, is_some, option_map, drop, slice_get, Vec, Result, Ok, Err, OnOk, IfOk, IfSome, IsSomeAnd}
 use Rattle.std.specs.declared.alloc.AllocError.{AllocError}
+use Rattle.std.proofs.Common.{Global}
 use Rattle.dhcp_clock.specs.declared.link.Packet.{Packet}
 use Rattle.dhcp_clock.specs.declared.link.Handed.{Handed}
 use Rattle.dhcp_clock.specs.declared.link.Sent.{Sent}
@@ -15,6 +16,7 @@ use Rattle.dhcp_history.specs.Script.{Input, Nothing, Arrival, Release, CleanUp,
 use Rattle.dhcp_history.specs.History.{history, outputs, reading_of}
 use Rattle.dhcp_history.specs.Machine.{View, PollEffect, EventEffect, is_listening, is_stopped, limit_is_over, has_ended, begin_stay, attempt_now, transmit, take_answer, receive, transmit_and_receive, poll, after_poll, clean_up, release_of, replay, replay_from, first_view, handed_output}
 use Rattle.dhcp_history.specs.Run.{input_of, waiting_of, sent_by, handed_by, shown_after, UnlessNoMemory, UnlessUnreleased, answer_by, answer_of, HasPolled, ReleaseEffect, release_by, release_held, HasReleased}
+use Rattle.dhcp_history.proofs.Calls.{replay_history}
 use Rattle.dhcp_history.specs.EventLoop.{release_outputs, poll_outputs, is_again, has_memory, once_outputs, HasPolledOnce, polls_at, call_at, event_at, events_at, HasReported, HasCalled, MakesUp}
 
 pub on_ok_both : {T E A B C : Type 0} (result : Result T E) → OnOk result A → OnOk result B → (A → B → C) → OnOk result C
@@ -381,3 +383,9 @@ module _ {PublicState State Exchange Answer Lease : Type 0} (p : Protocol Public
   loop_history (Some drawn) now first_view' view events reported h law = λ lawful script begins same.
       h.outputs ∙ (events_replay (first_view' drawn) events ∙
       (ap (λ (v : View State Exchange). replay_from p v events) begins ∙ (ap (λ (vs : List (Event Packet)). replay_from p (first_view script) vs) (sym same) ∙ law lawful script)))
+
+  pub replay_history_of : {E : Type 0} (result : Result (Vec (Output PublicState Handed) Global) E) (first now : Option (List ℕ)) (first_view' view : List ℕ → View State Exchange) (events : List (Event Packet)) →
+      IfOk result (λ reported. IfSome first (λ drawn. HasReported (events_at p (first_view' drawn) events) [] reported.items view now)) →
+      IfOk result (λ reported. IfSome first (λ drawn. Lawful p → (script : Script Packet State Exchange) → first_view' drawn ≡ first_view script → script.events ≡ events → reported.items ≡ outputs p (history p script)))
+  replay_history_of (Err error) first now first_view' view events h = tt
+  replay_history_of (Ok reported) first now first_view' view events h = loop_history first now first_view' view events reported.items h (replay_history p)

@@ -267,7 +267,28 @@ pub fn run_event<R: Rules, W: Words>(
     poll_event(rules, client, words, &mut link, at, outputs)
 }
 
-/// What the events report, and the client after them.
+// The outputs of the events, and the client after them.
+fn run_events<R: Rules, W: Words>(
+    alloc: Global,
+    rules: &R,
+    client: &mut Client<R::State, R::Exchange>,
+    words: &mut W,
+    events: Vec<Event<Packet>>,
+) -> Result<Vec<Output<R::PublicState, Handed>>, AllocError>
+    requires { All (λ event. event.moment < 2 ^ 60) events.items }
+    ensures { IfOk result (λ reported. IfSome (W.left words.old) (λ drawn.
+        HasReported (events_at (R.protocol rules.now) (view_of client.old drawn) events.items)
+        [] reported.items (view_of client.new) (W.left words.new))) }
+{
+    let mut outputs = Vec::new(alloc);
+    for event in events {
+        run_event(alloc, rules, client, words, event, &mut outputs)?;
+    }
+    Ok(outputs)
+}
+
+/// What the events report: the outputs of the history of their script, where the client begins as the
+/// script says.
 pub fn replay<R: Rules, W: Words>(
     alloc: Global,
     rules: &R,
@@ -276,13 +297,13 @@ pub fn replay<R: Rules, W: Words>(
     events: Vec<Event<Packet>>,
 ) -> Result<Vec<Output<R::PublicState, Handed>>, AllocError>
     requires { All (λ event. event.moment < 2 ^ 60) events.items }
-    ensures reported { IfOk result (λ outputs. IfSome (W.left words.old) (λ drawn.
+    ensures reported { IfOk result (λ reported. IfSome (W.left words.old) (λ drawn.
         HasReported (events_at (R.protocol rules.now) (view_of client.old drawn) events.items)
-        [] outputs.items (view_of client.new) (W.left words.new))) }
+        [] reported.items (view_of client.new) (W.left words.new))) }
+    ensures history { IfOk result (λ reported. IfSome (W.left words.old) (λ drawn.
+        Lawful (R.protocol rules.now) → (script : Script Packet R.State R.Exchange) →
+        view_of client.old drawn ≡ first_view script → script.events ≡ events.items →
+        reported.items ≡ outputs (R.protocol rules.now) (history (R.protocol rules.now) script))) }
 {
-    let mut outputs = Vec::new(alloc);
-    for event in events {
-        run_event(alloc, rules, client, words, event, &mut outputs)?;
-    }
-    Ok(outputs)
+    run_events(alloc, rules, client, words, events)
 }

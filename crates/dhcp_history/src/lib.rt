@@ -4,13 +4,14 @@
 
 mod client;
 mod event_loop;
-mod machine;
 mod rules;
 mod script;
 
 pub mod laws;
+pub mod machine;
 
 pub use client::{Client, Phase, Standing};
+pub use event_loop::{replay, run_event};
 pub use machine::{ReleaseError, RunError};
 pub use rules::{AttemptStart, NewAttempt, Rules};
 pub use script::{Event, Failure, Input, Output, Report};

@@ -1,27 +1,9 @@
-use Rattle.std.proofs.Common.{◌≡◌, ◌<◌, ◌^◌, ap, subst, List, []}
-use Rattle.std.specs.Prelude.{All, IfSome, IsSomeAnd}
-use Rattle.std.proofs.lemmas.List.Elements.{All-tail}
-use Rattle.std.specs.Vec.Iter.{into_iter_items}
-use Rattle.dhcp_clock.specs.declared.link.Packet.{Packet}
-use Rattle.dhcp_history.specs.Script.{Event}
+
 use Rattle.dhcp_history.specs.Client.{view_of}
-use Rattle.dhcp_history.specs.EventLoop.{events_at, MakesUp}
-use Rattle.dhcp_history.proofs.Looping.{events_go_on}
+use Rattle.dhcp_history.proofs.Looping.{replay_history_of}
 use Rattle.dhcp_history.proofs.event_loop.replay.Goals as goal
 
-pub loop-event-preserved : goal.loop-event-preserved
-loop-event-preserved g c =
-    let p = g.R.Rules.protocol c.args.rules.now in
-    let left = g.W.Words.left in
-    let rest = into_iter_items c.next.new.self in
-    let whole = c.args.events.items in
-    record {
-      so_far = events_go_on p (left c.args.words.now) (left c.loop-event.words) (left c.run_event.new.words) (view_of c.args.client.now) (view_of c.loop-event.client) (view_of c.run_event.new.client)
-          c.in-Some.event rest whole [] c.loop-event.outputs.items c.run_event.new.outputs.items
-          (subst (λ (events : List (Event Packet)). IfSome (left c.args.words.now) (λ words. IsSomeAnd (left c.loop-event.words) (λ drawn.
-          MakesUp (events_at p (view_of c.loop-event.client drawn) events) (events_at p (view_of c.args.client.now words) whole) c.loop-event.outputs.items [])))
-          c.in-Some.ensures.steps.0 c.loop-event.invariant.so_far)
-          c.in_ok-run_event.ensures;
-      moments = All-tail (λ (event : Event Packet). event.moment < 2 ^ 60) c.in-Some.event rest
-          (subst (λ (events : List (Event Packet)). All (λ (event : Event Packet). event.moment < 2 ^ 60) events) c.in-Some.ensures.steps.0 c.loop-event.invariant.moments);
-    }
+pub returns-clause-history : goal.returns-clause-history
+returns-clause-history g c =
+    replay_history_of (g.R.Rules.protocol c.args.rules.now) c.run_events.result (g.W.Words.left c.args.words.now) (g.W.Words.left c.run_events.new.words) (view_of c.args.client.now) (view_of c.run_events.new.client)
+    c.args.events.items c.run_events.ensures

@@ -3,7 +3,7 @@ use Rattle.std.specs.Prelude.{All, IfSome, IsSomeAnd}
 use Rattle.std.specs.Vec.Iter.{into_iter_items}
 use Rattle.dhcp_history.specs.Client.{view_of}
 use Rattle.dhcp_history.specs.EventLoop.{events_at, MakesUp}
-use Rattle.dhcp_history.proofs.event_loop.replay.Given as goal
+use Rattle.dhcp_history.proofs.event_loop.run_events.Given as goal
 
 -- what was reported so far and the events that are left make up all of them
 abbrev pub invariant-loop-event : goal.invariant-loop-event
