@@ -1,6 +1,6 @@
 -- How the steps of a poll make up the poll of the protocol.
 use Rattle.std.proofs.Common.{◌≡◌, ℕ, List, Bool, true, false, refl, ap, sym, subst, ◌∙◌, inl, inr}
-use Rattle.std.specs.Prelude.{Option, Some, None, is_some, option_map, Result, Ok, Err, OnErr, ◌⊎◌, IfSome, IsSomeAnd}
+use Rattle.std.specs.Prelude.{Option, Some, None, not, ◌||◌, is_some, option_map, Result, Ok, Err, OnErr, ◌⊎◌, IfSome, IsSomeAnd}
 use Rattle.dhcp_clock.specs.declared.link.Packet.{Packet}
 use Rattle.dhcp_clock.specs.declared.link.Handed.{Handed}
 use Rattle.dhcp_clock.specs.declared.link.Sent.TheVariants.{Taken}
@@ -10,14 +10,21 @@ use Rattle.dhcp_history.specs.declared.client.Standing.{Standing}
 use Rattle.dhcp_history.specs.declared.machine.RunError.{RunError}
 use Rattle.dhcp_history.specs.declared.machine.RunError.TheVariants as run
 use Rattle.dhcp_history.specs.Protocol.{Protocol, has_come}
-use Rattle.dhcp_history.specs.Script.{Input}
+use Rattle.dhcp_history.specs.Script.{Input, Nothing}
 use Rattle.dhcp_history.specs.History.{reading_of}
 use Rattle.dhcp_history.specs.Machine.{View, Phase, Unpolled, Pausing, Listening, Resting, Stopped, PollEffect, is_stopped, is_listening, is_unpolled, limit_is_over, limit_is_over_in, has_ended, stop, begin_stay, attempt_now, transmit, clean_up, take_answer, receive, transmit_and_receive, poll, end_state, enter, exchange_at}
 use Rattle.dhcp_history.specs.Client.{view_of}
 use Rattle.dhcp_history.specs.NextPoll.{HasNextAttempt}
-use Rattle.dhcp_history.specs.Run.{input_of, waiting_of, UnlessNoMemory, OnTimeout, OnNoMemory, release_by, HasReleased, sent_by, handed_by, answer_by, HasPolled, HasReceived, HasDrawn, HasTransmitted, IsUnsent, IsSent}
+use Rattle.dhcp_history.specs.Run.{input_of, waiting_of, UnlessNoMemory, OnTimeout, OnNoMemory, release_by, HasReleased, sent_by, handed_by, answer_by, HasPolled, HasReceived, HasDrawn, HasTransmitted, IsUnsent, IsSent, is_waiting, quiet_poll, HasPolledQuietly, IsShut}
 
--- input holds where something is told holds of input was told
+pub stopped_phase : (phase : Phase) → is_stopped phase ≡ true → phase ≡ Stopped
+stopped_phase Unpolled h = absurd (cc h)
+stopped_phase Pausing h = absurd (cc h)
+stopped_phase Listening h = absurd (cc h)
+stopped_phase Resting h = absurd (cc h)
+stopped_phase Stopped h = refl
+
+-- what holds where something is known holds of what is known
 pub at_told : {A : Type 0} (P : A → Type 0) (told : Option A) (value : A) → told ≡ Some value → IfSome told P → P value
 at_told {A} P told value e h = let family : Option A → Type 0 = λ (o : Option A). IfSome o P in subst family e h
 
@@ -69,6 +76,71 @@ module _ {PublicState State Exchange Answer Lease : Type 0} (p : Protocol Public
       go Listening e = refl
       go Resting e = refl
       go Stopped e = refl
+
+  -- what a poll does that uses neither words nor link, by what has come
+  module _ (now : ℕ) (view : View State Exchange) where
+    pub quiet_stopped : is_stopped view.phase ≡ true → quiet_poll p now view ≡ Some (stop Nothing view)
+    quiet_stopped b = rw b
+
+    pub quiet_over : is_stopped view.phase ≡ false → limit_is_over p now view ≡ true → quiet_poll p now view ≡ Some (stop Nothing view)
+    quiet_over b f = rw (b, f)
+
+    pub quiet_ended : is_stopped view.phase ≡ false → limit_is_over p now view ≡ false → has_ended p now view ≡ true → quiet_poll p now view ≡ Some (end_state p now Nothing view)
+    quiet_ended b f e = rw (b, f, e)
+
+    pub quiet_busy : is_stopped view.phase ≡ false → limit_is_over p now view ≡ false → has_ended p now view ≡ false → is_waiting p now view ≡ false → quiet_poll p now view ≡ None
+    quiet_busy b f e w = rw (b, f, e, w)
+
+    pub quiet_waits : is_stopped view.phase ≡ false → limit_is_over p now view ≡ false → has_ended p now view ≡ false → is_waiting p now view ≡ true →
+        quiet_poll p now view ≡ Some (record { view = view; handed = None; left = Nothing; change = None; failed = false })
+    quiet_waits b f e w = rw (b, f, e, w)
+
+    -- a client that waits was polled, and does not listen
+    pub waits_shut : is_waiting p now view ≡ true → (is_unpolled view.phase ≡ false) × (is_listening view.phase ≡ false)
+    waits_shut w = go view.phase w
+      where
+        go : (phase : Phase) → not (is_unpolled phase || (is_listening phase || has_come now view.deadline)) ≡ true → (is_unpolled phase ≡ false) × (is_listening phase ≡ false)
+        go Unpolled h = absurd (cc h)
+        go Pausing h = (refl, refl)
+        go Listening h = absurd (cc h)
+        go Resting h = (refl, refl)
+        go Stopped h = (refl, refl)
+
+  -- a client whose attempt is due does not wait
+  pub due_busy : (now : ℕ) (client : Client State Exchange) (begun : Standing Exchange) (drawn : List ℕ) → (is_unpolled client.standing.phase ≡ false → begun ≡ client.standing) → has_come now begun.deadline ≡ true →
+      is_waiting p now (view_of client drawn) ≡ false
+  due_busy now client begun drawn same due = go (is_unpolled client.standing.phase) refl
+    where
+      late : (a : Bool) → not (a || true) ≡ false
+      late true = refl
+      late false = refl
+
+      go : (b : Bool) → is_unpolled client.standing.phase ≡ b → is_waiting p now (view_of client drawn) ≡ false
+      go true e = rw e
+      go false e =
+          let come : has_come now client.standing.deadline ≡ true = subst (λ (s : Standing Exchange). has_come now s.deadline ≡ true) (same e) due in
+          rw (e, come) (late (is_listening client.standing.phase))
+
+  -- a poll whose attempt is not due: the client waits, or the poll is not quiet
+  pub early_quiet : (now : ℕ) (client new : Client State Exchange) (begun : Standing Exchange) (result : Result (Option PublicState) RunError) (drawn mid left : Option (List ℕ)) (before after : Option Shown) (failed failed' : ℕ) (words : List ℕ) →
+      is_stopped client.standing.phase ≡ false → limit_is_over p now (view_of client words) ≡ false → has_ended p now (view_of client words) ≡ false →
+      (is_unpolled client.standing.phase ≡ false → begun ≡ client.standing) → (is_unpolled client.standing.phase ≡ false → mid ≡ drawn) → new.limit ≡ client.limit →
+      (is_listening begun.phase ≡ false → IsShut result new client.state begun mid left before after failed failed') →
+      IfSome (quiet_poll p now (view_of client words)) (λ once. HasPolledQuietly p once result (view_of new words) drawn left before after failed failed')
+  early_quiet now client new begun result drawn mid left before after failed failed' words b f e same undrawn limit shut = go (is_waiting p now (view_of client words)) refl
+    where
+      go : (w : Bool) → is_waiting p now (view_of client words) ≡ w → IfSome (quiet_poll p now (view_of client words)) (λ once. HasPolledQuietly p once result (view_of new words) drawn left before after failed failed')
+      go false w = rw (quiet_busy now (view_of client words) b f e w) tt
+      go true w =
+          let waits : (is_unpolled client.standing.phase ≡ false) × (is_listening client.standing.phase ≡ false) = waits_shut now (view_of client words) w in
+          let is : IsShut result new client.state begun mid left before after failed failed' = shut (rw (same waits.0) (waits.1)) in
+          rw (quiet_waits now (view_of client words) b f e w) (record {
+            answer = is.answer;
+            client = rw (is.state, is.standing, same waits.0, limit);
+            words = is.words ∙ undrawn waits.0;
+            link = is.link;
+            faults = is.faults;
+          })
 
   -- the packet is taken the same way, whatever message was handed
   pub taken_with : (now : ℕ) (input : Input Packet) (handed : Option Handed) (view : View State Exchange) →

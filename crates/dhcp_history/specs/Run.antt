@@ -1,5 +1,5 @@
 -- What the calls of a client leave: its answer, the client, the words and the link.
-use Rattle.std.specs.Prelude.{◌≡◌, ◌⊎◌, ℕ, Bool, true, false, List, [], ◌∷◌, ◌++◌, Option, Some, None, option_map, Result, Ok, Err, IfSome, IsSomeAnd}
+use Rattle.std.specs.Prelude.{◌≡◌, ◌⊎◌, ℕ, Bool, true, false, not, ◌||◌, List, [], ◌∷◌, ◌++◌, Option, Some, None, if◌then◌else◌, option_map, Result, Ok, Err, IfSome, IsSomeAnd}
 use Rattle.dhcp_clock.specs.declared.link.Packet.{Packet}
 use Rattle.dhcp_clock.specs.declared.link.Handed.{Handed}
 use Rattle.dhcp_clock.specs.declared.link.Sent.{Sent}
@@ -10,10 +10,11 @@ use Rattle.dhcp_history.specs.declared.machine.RunError.TheVariants as run
 use Rattle.dhcp_history.specs.declared.machine.ReleaseError.{ReleaseError}
 use Rattle.dhcp_history.specs.declared.machine.ReleaseError.TheVariants as release
 use Rattle.dhcp_history.specs.declared.client.Client.{Client}
-use Rattle.dhcp_history.specs.Protocol.{Protocol}
+use Rattle.dhcp_history.specs.declared.client.Standing.{Standing}
+use Rattle.dhcp_history.specs.Protocol.{Protocol, has_come}
 use Rattle.dhcp_history.specs.Script.{Input, Nothing, Arrival, Release, CleanUp}
 use Rattle.dhcp_history.specs.Client.{view_of}
-use Rattle.dhcp_history.specs.Machine.{View, PollEffect, Stopped, attempt_now, transmit, is_listening, clean_up}
+use Rattle.dhcp_history.specs.Machine.{View, PollEffect, Stopped, stop, end_state, attempt_now, transmit, is_unpolled, is_listening, is_stopped, limit_is_over, has_ended, clean_up}
 
 -- 1. The link.
 
@@ -91,6 +92,36 @@ module _ {PublicState State Exchange Answer Lease : Type 0}
   abbrev pub answer_of : PollEffect Packet Handed State Exchange → Result (Option PublicState) RunError
   answer_of once = answer_by once.change once.failed
 
+  -- a client that neither sends nor listens: its pause, or the wait of a refused attempt, is not over
+  abbrev pub is_waiting : ℕ → View State Exchange → Bool
+  is_waiting now view =
+      not (is_unpolled view.phase || (is_listening view.phase || has_come now view.deadline))
+
+  -- what a poll does that uses neither words nor link: the client has stopped or stops now, its state
+  -- ends, or it waits
+  abbrev pub quiet_poll : ℕ → View State Exchange → Option (PollEffect Packet Handed State Exchange)
+  quiet_poll now view =
+      if is_stopped view.phase || limit_is_over p now view then Some (stop Nothing view)
+      else (if has_ended p now view then Some (end_state p now Nothing view)
+      else (if is_waiting now view then Some (record {
+        view = view;
+        handed = None;
+        left = Nothing;
+        change = None;
+        failed = false;
+      })
+      else None))
+
+  -- what such a poll leaves: its answer and the client; words and link are as they were
+  pub record HasPolledQuietly (once : PollEffect Packet Handed State Exchange)
+      (result : Result (Option PublicState) RunError) (view : View State Exchange)
+      (drawn left : Option (List ℕ)) (before after : Option Shown) (failed failed' : ℕ) : Type 0 where
+    pub answer : result ≡ answer_of once
+    pub client : view ≡ once.view
+    pub words : left ≡ drawn
+    pub link : after ≡ before
+    pub faults : failed' ≡ failed
+
   -- what a poll leaves: its answer, the client, the words and the link
   pub record HasPolled (once : PollEffect Packet Handed State Exchange)
       (result : Result (Option PublicState) RunError) (view : List ℕ → View State Exchange)
@@ -134,6 +165,17 @@ pub record HasDrawn {State Exchange : Type 0} (is : View State Exchange)
     (view : List ℕ → View State Exchange) (left : Option (List ℕ)) : Type 0 where
   pub client : view is.words ≡ is
   pub words : left ≡ Some is.words
+
+-- A client that does not listen takes no packet: it stands so, and words and link are as they were.
+pub record IsShut {A E State Exchange : Type 0} (result : Result (Option A) E)
+    (client : Client State Exchange) (old_state : State) (begun : Standing Exchange)
+    (drawn left : Option (List ℕ)) (before after : Option Shown) (failed failed' : ℕ) : Type 0 where
+  pub answer : result ≡ Ok None
+  pub state : client.state ≡ old_state
+  pub standing : client.standing ≡ begun
+  pub words : left ≡ drawn
+  pub link : after ≡ before
+  pub faults : failed' ≡ failed
 
 -- Out of memory came before a message was handed to the link: the client stands as it stood.
 pub record IsUnsent {State Exchange : Type 0} (old new : Client State Exchange)

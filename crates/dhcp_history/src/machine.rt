@@ -1,7 +1,7 @@
 //! The client as a machine that is polled: the seven steps of a poll, each in a function of its own, over any rules, words and
 //! link.
 
-ghost use Rattle.std.specs.Prelude.{◌≡◌, ◌≤◌, ◌<◌, ◌+◌, ◌^◌, ◌⊎◌, ◌&&◌, ℕ, List, Bool, true, false, not, Option, Some, None, is_some, Ok, Err, OnOk, OnErr, IfOk, IfSome, IsSomeAnd};
+ghost use Rattle.std.specs.Prelude.{◌≡◌, ◌≤◌, ◌<◌, ◌+◌, ◌^◌, ◌⊎◌, ◌&&◌, ◌||◌, ℕ, List, Bool, true, false, not, Option, Some, None, is_some, Ok, Err, OnOk, OnErr, IfOk, IfSome, IsSomeAnd};
 ghost use Rattle.dhcp_clock.specs.declared.link.Handed.{Handed};
 ghost use Rattle.dhcp_clock.specs.Link.{Shown, HandsOver, with_message, without_packet};
 ghost use Rattle.dhcp_wire.specs.Fault.{HasCause};
@@ -43,6 +43,9 @@ ghost use Rattle.dhcp_history.specs.Run.{
   HasReceived,
   HasTransmitted,
   HasDrawn,
+  quiet_poll,
+  HasPolledQuietly,
+  IsShut,
   NeedsMemory,
   IsUnsent,
   IsSent,
@@ -213,6 +216,8 @@ fn begin_stay<R: Rules, W: Words>(
     ensures listens { is_listening result.phase ≡ is_listening client.now.standing.phase }
     ensures open { is_listening result.phase ≡ true → result ≡ client.now.standing }
     ensures polled { is_unpolled client.now.standing.phase ≡ false → result ≡ client.now.standing }
+    ensures undrawn { is_unpolled client.now.standing.phase ≡ false →
+        W.left words.new ≡ W.left words.old }
     ensures armed { HasNextAttempt (R.protocol rules.now).has_attempts client.now →
         (R.protocol rules.now).has_attempts client.now.state ≡ true →
         is_some result.deadline ≡ true }
@@ -309,7 +314,9 @@ fn receive<R: Rules, W: Words, L: DhcpLink>(
     ensures needed { OnErr result (NeedsMemory (R.needs_memory rules.now) client.old (L.shown link.old)) }
     ensures stays { ((client.new.standing ≡ client.old.standing) × (client.new.state ≡ client.old.state))
         ⊎ (is_unpolled client.new.standing.phase ≡ true) }
-    ensures untaken { is_listening client.old.standing.phase ≡ false → L.shown link.new ≡ L.shown link.old }
+    ensures shut { is_listening client.old.standing.phase ≡ false → IsShut result client.new
+        client.old.state client.old.standing (W.left words.old) (W.left words.new)
+        (L.shown link.old) (L.shown link.new) (L.faults link.old) (L.faults link.new) }
     ensures packet { IfSome (L.shown link.old) (λ before.
         (L.shown link.new ≡ Some before) ⊎ (L.shown link.new ≡ Some (without_packet before))) }
     ensures later { L.faults link.old ≤ L.faults link.new }
@@ -349,6 +356,9 @@ fn receive_early<R: Rules, W: Words, L: DhcpLink>(
         (transmit_and_receive (R.protocol rules.now) now before.refuses (input_of before.waiting)
         (view_with client.old begun drawn))
         result (view_of client.new) (W.left words.new) before (L.shown link.new)))) }
+    ensures shut { is_listening begun.phase ≡ false → IsShut result client.new client.old.state begun
+        (W.left words.old) (W.left words.new) (L.shown link.old) (L.shown link.new)
+        (L.faults link.old) (L.faults link.new) }
     ensures limit { client.new.limit ≡ client.old.limit }
     ensures moment { UnlessNoMemory result (client.new.last_moment ≡ now) }
     ensures in_time { OnTimeout result ⊥ }
@@ -427,6 +437,14 @@ pub fn run<R: Rules, W: Words, L: DhcpLink>(
         HasPolled (R.protocol rules.now)
         (poll (R.protocol rules.now) now before.refuses (input_of before.waiting) (view_of client.old drawn))
         result (view_of client.new) (W.left words.new) before (L.shown link.new)))) }
+    ensures quiet { (drawn : List ℕ) →
+        IfSome (quiet_poll (R.protocol rules.now) now (view_of client.old drawn)) (λ once.
+        HasPolledQuietly (R.protocol rules.now) once result (view_of client.new drawn)
+        (W.left words.old) (W.left words.new) (L.shown link.old) (L.shown link.new)
+        (L.faults link.old) (L.faults link.new)) }
+    ensures cause { OnTimeout result ((drawn : List ℕ) →
+        (is_stopped client.old.standing.phase ||
+        limit_is_over (R.protocol rules.now) now (view_of client.old drawn)) ≡ true) }
     ensures limit { client.new.limit ≡ client.old.limit }
     ensures moment { UnlessNoMemory result (client.new.last_moment ≡ now) }
     ensures state { OnErr result (client.new.state ≡ client.old.state) }
