@@ -15,7 +15,7 @@ use Rattle.dhcp_history.specs.Protocol.{Protocol, Lawful, has_come}
 use Rattle.dhcp_history.specs.Script.{Input, Nothing, Arrival, Release, CleanUp, Event, Output, Changed, Script, after_call}
 use Rattle.dhcp_history.specs.History.{history, outputs, reading_of}
 use Rattle.dhcp_history.specs.Machine.{View, PollEffect, EventEffect, is_listening, is_stopped, limit_is_over, has_ended, begin_stay, attempt_now, transmit, take_answer, receive, transmit_and_receive, poll, after_poll, clean_up, release_of, replay, replay_from, first_view, handed_output}
-use Rattle.dhcp_history.specs.Run.{input_of, waiting_of, sent_by, handed_by, shown_after, UnlessNoMemory, UnlessUnreleased, answer_by, answer_of, HasPolled, ReleaseEffect, release_by, release_held, HasReleased}
+use Rattle.dhcp_history.specs.Run.{input_of, waiting_of, handed_by, shown_after, UnlessNoMemory, UnlessUnreleased, answer_by, answer_of, HasPolled, ReleaseEffect, release_by, release_held, HasReleased}
 use Rattle.dhcp_history.proofs.Calls.{replay_history}
 use Rattle.dhcp_history.specs.EventLoop.{release_outputs, poll_outputs, is_again, has_memory, once_outputs, HasPolledOnce, polls_at, call_at, event_at, events_at, HasReported, HasCalled, MakesUp}
 
@@ -61,7 +61,7 @@ module _ {PublicState State Exchange Answer Lease : Type 0} (p : Protocol Public
       let is : after ≡ shown_after shown once = cc polled.link in
       let none : handed_by shown.refuses once.handed shown.handed ≡ handed_by shown.refuses once.handed [] = ap (λ (listed : List (Handed × Sent)). handed_by shown.refuses once.handed listed) empty in
       let same : handed ≡ once.handed = takes ∙ ap (λ (s : Shown). option_map (λ (listed : Handed × Sent). listed.0) (slice_get s.handed 0)) is ∙
-          (ap (λ (listed : List (Handed × Sent)). option_map (λ (l : Handed × Sent). l.0) (slice_get listed 0)) none ∙ handed_same shown.refuses once.handed) in
+      (ap (λ (listed : List (Handed × Sent)). option_map (λ (l : Handed × Sent). l.0) (slice_get listed 0)) none ∙ handed_same shown.refuses once.handed) in
       record {
         again = says ∙ (ap (λ (r : Result (Option PublicState) RunError). is_again r) polled.answer ∙ again_same once.change once.failed);
         outputs = adds ∙ ap (λ (more : List (Output PublicState Handed)). outs ++ more)
@@ -281,7 +281,7 @@ module _ {PublicState State Exchange Answer Lease : Type 0} (p : Protocol Public
       let is : after ≡ record shown { handed = handed_by shown.refuses once.handed shown.handed } = cc really.link in
       let none : handed_by shown.refuses once.handed shown.handed ≡ handed_by shown.refuses once.handed [] = ap (λ (listed : List (Handed × Sent)). handed_by shown.refuses once.handed listed) empty in
       let one : handed ≡ once.handed = takes ∙ ap (λ (s : Shown). option_map (λ (listed : Handed × Sent). listed.0) (slice_get s.handed 0)) is ∙
-          (ap (λ (listed : List (Handed × Sent)). option_map (λ (l : Handed × Sent). l.0) (slice_get listed 0)) none ∙ handed_same shown.refuses once.handed) in
+      (ap (λ (listed : List (Handed × Sent)). option_map (λ (l : Handed × Sent). l.0) (slice_get listed 0)) none ∙ handed_same shown.refuses once.handed) in
       let event : Event Packet = record { number = number; moment = moment; refuse = refuse; input = Release } in
       let called : call_at p event old ≡ record { outputs = release_outputs number refuse once.handed once.answer; view = once.view } =
       call_released event old refl ∙ release_reports number moment refuse (p.held_lease old.state) old in

@@ -1,6 +1,6 @@
 -- How the steps of a poll make up the poll of the protocol.
 use Rattle.std.proofs.Common.{◌≡◌, ℕ, List, Bool, true, false, refl, ap, sym, subst, ◌∙◌, inl, inr}
-use Rattle.std.specs.Prelude.{Option, Some, None, not, ◌||◌, is_some, option_map, Result, Ok, Err, OnErr, ◌⊎◌, IfSome, IsSomeAnd}
+use Rattle.std.specs.Prelude.{Option, Some, None, not, ◌||◌, is_some, option_map, Result, Ok, Err, OnErr, ◌⊎◌, IfSome}
 use Rattle.dhcp_clock.specs.declared.link.Packet.{Packet}
 use Rattle.dhcp_clock.specs.declared.link.Handed.{Handed}
 use Rattle.dhcp_clock.specs.declared.link.Sent.TheVariants.{Taken}
@@ -15,7 +15,7 @@ use Rattle.dhcp_history.specs.History.{reading_of}
 use Rattle.dhcp_history.specs.Machine.{View, Phase, Unpolled, Pausing, Listening, Resting, Stopped, PollEffect, is_stopped, is_listening, is_unpolled, limit_is_over, limit_is_over_in, has_ended, stop, begin_stay, attempt_now, transmit, clean_up, take_answer, receive, transmit_and_receive, poll, end_state, enter, exchange_at}
 use Rattle.dhcp_history.specs.Client.{view_of}
 use Rattle.dhcp_history.specs.NextPoll.{HasNextAttempt}
-use Rattle.dhcp_history.specs.Run.{input_of, waiting_of, UnlessNoMemory, OnTimeout, OnNoMemory, release_by, HasReleased, sent_by, handed_by, answer_by, HasPolled, HasReceived, HasDrawn, HasTransmitted, IsUnsent, IsSent, is_waiting, quiet_poll, HasPolledQuietly, IsShut}
+use Rattle.dhcp_history.specs.Run.{input_of, waiting_of, UnlessNoMemory, OnNoMemory, release_by, HasReleased, sent_by, handed_by, answer_by, HasPolled, HasReceived, HasDrawn, HasTransmitted, IsUnsent, IsSent, is_waiting, quiet_poll, HasPolledQuietly, IsShut}
 
 pub stopped_phase : (phase : Phase) → is_stopped phase ≡ true → phase ≡ Stopped
 stopped_phase Unpolled h = absurd (cc h)
@@ -33,17 +33,6 @@ pub on_run : {A : Type 0} {P Q : Type 0} (result : Result A RunError) → (P →
 on_run (Ok a) f h = f h
 on_run (Err run.TimedOut) f h = f h
 on_run (Err run.OutOfMemory) f h = tt
-
--- a result that isn't a timeout
-pub no_timeout : {A : Type 0} (P : Type 0) (result : Result A RunError) → OnTimeout result ⊥ → OnTimeout result P
-no_timeout P (Ok a) h = tt
-no_timeout P (Err run.TimedOut) h = absurd h
-no_timeout P (Err run.OutOfMemory) h = tt
-
-pub on_no_memory : {A : Type 0} {P : Type 0} (result : Result A RunError) → P → OnNoMemory result P
-on_no_memory (Ok a) h = tt
-on_no_memory (Err run.TimedOut) h = tt
-on_no_memory (Err run.OutOfMemory) h = h
 
 -- out of memory with no attempt due: the client is as at entry
 pub unsent_early : {A State Exchange : Type 0} (Sent : Type 0) (result : Result A RunError) (old new : Client State Exchange) (before after : Option Shown) →
@@ -275,25 +264,8 @@ module _ {PublicState State Exchange Answer Lease : Type 0} (p : Protocol Public
           let family : View State Exchange → Type 0 = λ (v : View State Exchange). IfSome shown (λ before. view_of client (transmit p now before.refuses v).words ≡ transmit p now before.refuses v) in
           subst family d.client (at_told (λ (words' : List ℕ). family (second words')) drawn' (begin_stay p now (first words)).words d.words h.view)
 
-  -- a poll that finds the client broken, or its time limit over, or its state at the end: words and link stay
+  -- a poll that finds the state at its end: words and link are as they were
   module _ (now : ℕ) (drawn : Option (List ℕ)) (shown : Option Shown) (first last : List ℕ → View State Exchange) (kept : (words : List ℕ) → (first words).words ≡ words) where
-    pub poll_fails : ((words : List ℕ) → (before : Shown) → poll p now before.refuses (input_of before.waiting) (first words) ≡ stop (input_of before.waiting) (first words)) →
-        ((words : List ℕ) → last words ≡ record (first words) { phase = Stopped }) →
-        IfSome drawn (λ words. IfSome shown (λ before. HasPolled p (poll p now before.refuses (input_of before.waiting) (first words)) (Err run.TimedOut) last drawn before shown))
-    poll_fails fails client = go drawn shown
-      where
-        go : (drawn₀ : Option (List ℕ)) (shown₀ : Option Shown) →
-            IfSome drawn₀ (λ words. IfSome shown₀ (λ before. HasPolled p (poll p now before.refuses (input_of before.waiting) (first words)) (Err run.TimedOut) last drawn₀ before shown₀))
-        go None shown₀ = tt
-        go (Some words) None = tt
-        go (Some words) (Some before) =
-            subst (λ (o : PollEffect Packet Handed State Exchange). HasPolled p o (Err run.TimedOut) last (Some words) before (Some before)) (sym (fails words before)) (record {
-              answer = refl;
-              client = ap last (kept words) ∙ client words;
-              words = ap (λ (ws : List ℕ). Some ws) (sym (kept words));
-              link = ap (λ (waiting : Option Packet). Some (record { refuses = before.refuses; waiting = waiting; handed = before.handed })) (sym (waiting_same before.waiting));
-            })
-
     pub poll_ends : (result : PublicState) → ((words : List ℕ) → is_stopped (first words).phase ≡ false) → ((words : List ℕ) → limit_is_over p now (first words) ≡ false) → ((words : List ℕ) → has_ended p now (first words) ≡ true) →
         ((words : List ℕ) → last words ≡ enter (p.after_end (first words).state (exchange_at p now (first words))) (first words)) → ((words : List ℕ) → result ≡ p.public_state (last words).state) →
         IfSome drawn (λ words. IfSome shown (λ before. HasPolled p (poll p now before.refuses (input_of before.waiting) (first words)) (Ok (Some result)) last drawn before shown))

@@ -1,8 +1,8 @@
 -- A small client, by which the rules of histories are worked out on scripts. It looks for a server, asks for the lease that it
 -- was offered, holds the lease until its renewal time, and renews it until it expires.
-use Rattle.std.proofs.Common.{◌≡◌, ℕ, suc, ◌+◌, ◌-◌, ◌*◌, ◌/◌, ◌%◌, ◌≤◌, ◌<◌, min, max, Bool, true, false, List, refl, arith}
-use Rattle.std.specs.Prelude.{Option, Some, None, drop, nat_le, ◌||◌, ◌&&◌}
-use Rattle.std.proofs.lemmas.Bool.{leb-false, leb-true}
+use Rattle.std.proofs.Common.{◌≡◌, ℕ, suc, ◌+◌, ◌-◌, ◌%◌, ◌≤◌, ◌<◌, Bool, true, false, List, refl, arith}
+use Rattle.std.specs.Prelude.{Option, Some, None, drop, nat_le, ◌||◌}
+use Rattle.std.proofs.lemmas.Bool.{leb-false}
 use Rattle.dhcp_clock.specs.Wait.{half_wait}
 use Rattle.dhcp_clock.specs.Words.{next_of}
 use Rattle.dhcp_history.specs.declared.rules.AttemptStart.{AttemptStart}

@@ -1,9 +1,9 @@
 -- Scripts that are worked out by computation, one at least for each rule of histories that a reader could doubt. A wrong rule
 -- is refused here.
-use Rattle.std.proofs.Common.{◌≡◌, ℕ, Bool, true, false, List, [], ◌∷◌, refl}
-use Rattle.std.specs.Prelude.{None, Some}
+use Rattle.std.proofs.Common.{◌≡◌, ℕ, true, false, List, [], ◌∷◌, refl}
+use Rattle.std.specs.Prelude.{None}
 use Rattle.dhcp_history.specs.Script.{Input, Nothing, Arrival, Release, CleanUp, Event, Script, Output, Handed, Refused, Changed, Failed, TimedOut, SendRefused}
-use Rattle.dhcp_history.specs.History.{history, outputs, Stay, Attempted, Lasts, Cut, Answered, Ended}
+use Rattle.dhcp_history.specs.History.{history, outputs, Attempted, Lasts, Cut, Answered}
 use Rattle.dhcp_history.specs.Machine.{replay}
 use Rattle.dhcp_history.proofs.WorkedClient.{Lease, State, Selecting, Requesting, Bound, Renewing, Message, Discover, Request, Renew, Return, Packet, Lends, Refuses, client}
 

@@ -6,7 +6,6 @@ use Rattle.dhcp_history.specs.declared.event_loop.EventHead.{EventHead}
 use Rattle.dhcp_history.specs.declared.machine.RunError.{RunError}
 use Rattle.dhcp_history.specs.declared.machine.RunError.TheVariants as run
 use Rattle.dhcp_history.specs.declared.machine.ReleaseError.{ReleaseError}
-use Rattle.dhcp_history.specs.declared.machine.ReleaseError.TheVariants as release
 use Rattle.dhcp_history.specs.Protocol.{Protocol}
 use Rattle.dhcp_history.specs.Script.{Input, Event, Output, Changed, Failed, TimedOut, SendRefused, after_call}
 use Rattle.dhcp_history.specs.Machine.{View, PollEffect, EventEffect, polls, call, handed_output, failed_output}

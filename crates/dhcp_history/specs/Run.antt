@@ -14,7 +14,7 @@ use Rattle.dhcp_history.specs.declared.client.Standing.{Standing}
 use Rattle.dhcp_history.specs.Protocol.{Protocol, has_come}
 use Rattle.dhcp_history.specs.Script.{Input, Nothing, Arrival, Release, CleanUp}
 use Rattle.dhcp_history.specs.Client.{view_of}
-use Rattle.dhcp_history.specs.Machine.{View, PollEffect, Stopped, stop, end_state, attempt_now, transmit, is_unpolled, is_listening, is_stopped, limit_is_over, has_ended, clean_up}
+use Rattle.dhcp_history.specs.Machine.{View, PollEffect, stop, end_state, attempt_now, transmit, is_unpolled, is_listening, is_stopped, limit_is_over, has_ended, clean_up}
 
 -- 1. The link.
 
@@ -190,13 +190,6 @@ pub record NeedsMemory {State Exchange : Type 0} (needs_memory : State → Excha
   pub listens : is_listening client.standing.phase ≡ true
   pub packet : IfSome shown (λ before. IsSomeAnd before.waiting (λ packet.
       needs_memory client.state client.standing.exchange packet ≡ true))
-
--- The time limit was found over: the client has stopped, and words and link are as they were.
-pub record IsStopped {State Exchange : Type 0} (old new : Client State Exchange)
-    (drawn left : Option (List ℕ)) (before after : Option Shown) : Type 0 where
-  pub standing : new.standing ≡ record old.standing { phase = Stopped }
-  pub words : left ≡ drawn
-  pub link : after ≡ before
 
 -- 3. A release.
 

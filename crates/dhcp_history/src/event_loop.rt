@@ -23,7 +23,9 @@ ghost use Rattle.dhcp_history.specs.EventLoop.{
   HasCalled,
 };
 
-use crate::{Client, Event, Failure, Input, Output, ReleaseError, Report, Rules, RunError, machine};
+use crate::{
+    Client, Event, Failure, Input, Output, ReleaseError, Report, Rules, RunError, machine,
+};
 use dhcp_clock::{Handed, MemLink, Packet, Words};
 use std::alloc::{AllocError, Global};
 

@@ -4,11 +4,10 @@
 
 mod client;
 mod event_loop;
-mod rules;
-mod script;
-
 pub mod laws;
 pub mod machine;
+mod rules;
+mod script;
 
 pub use client::{Client, Phase, Standing};
 pub use event_loop::{replay, run_event};

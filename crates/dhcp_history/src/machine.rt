@@ -49,7 +49,6 @@ ghost use Rattle.dhcp_history.specs.Run.{
   NeedsMemory,
   IsUnsent,
   IsSent,
-  IsStopped,
   UnlessUnreleased,
   release_held,
   HasReleased,
@@ -119,11 +118,7 @@ fn is_stopped(phase: Phase) -> bool
 }
 
 // Whether so many seconds have passed since the stay was entered.
-fn limit_has_come<R: Rules>(
-    rules: &R,
-    client: &Client<R::State, R::Exchange>,
-    now: u64,
-) -> bool
+fn limit_has_come<R: Rules>(rules: &R, client: &Client<R::State, R::Exchange>, now: u64) -> bool
     ensures { result ≡ has_come now (limit_moment (R.protocol rules.now)
         client.now.limit client.now.standing.entered client.now.state) }
 {
@@ -135,11 +130,7 @@ fn limit_has_come<R: Rules>(
 }
 
 // Step 2: whether the time limit is over; it counts from the first poll in a state on.
-fn limit_is_over<R: Rules>(
-    rules: &R,
-    client: &Client<R::State, R::Exchange>,
-    now: u64,
-) -> bool
+fn limit_is_over<R: Rules>(rules: &R, client: &Client<R::State, R::Exchange>, now: u64) -> bool
     ensures { (drawn : List ℕ) →
         result ≡ limit_is_over (R.protocol rules.now) now (view_of client.now drawn) }
 {
@@ -364,8 +355,7 @@ fn receive_early<R: Rules, W: Words, L: DhcpLink>(
     ensures in_time { OnTimeout result ⊥ }
     ensures state { OnErr result (client.new.state ≡ client.old.state) }
     ensures needed { OnErr result (NeedsMemory (R.needs_memory rules.now) client.old (L.shown link.old)) }
-    ensures armed {
-        ((R.protocol rules.now).has_attempts client.old.state ≡ true → is_some begun.deadline ≡ true) →
+    ensures armed { ((R.protocol rules.now).has_attempts client.old.state ≡ true → is_some begun.deadline ≡ true) →
         HasNextAttempt (R.protocol rules.now).has_attempts client.new }
     ensures unsent { OnErr result (IsUnsent client.old client.new (L.shown link.old) (L.shown link.new)) }
     ensures uses { IfSome (L.shown link.old) (λ before. IsSomeAnd (L.shown link.new) (λ after.
@@ -452,16 +442,11 @@ pub fn run<R: Rules, W: Words, L: DhcpLink>(
         ⊎ IsSent (R.protocol rules.now) now
         (λ drawn. begin_stay (R.protocol rules.now) now (view_of client.old drawn)) client.new
         (W.left words.old) (L.shown link.old) (L.shown link.new)) }
-    ensures unended { OnNoMemory result ((drawn : List ℕ) →
-        has_ended (R.protocol rules.now) now (view_of client.old drawn) ≡ false) }
-    ensures unstopped { OnNoMemory result (is_stopped client.old.standing.phase ≡ false) }
     ensures needed { OnNoMemory result (is_unpolled client.old.standing.phase ≡ false →
         has_come now client.old.standing.deadline ≡ false → NeedsMemory (R.needs_memory rules.now)
         client.old (L.shown link.old)) }
     ensures armed { HasNextAttempt (R.protocol rules.now).has_attempts client.old →
         HasNextAttempt (R.protocol rules.now).has_attempts client.new }
-    ensures timed_out { OnTimeout result (IsStopped client.old client.new
-        (W.left words.old) (W.left words.new) (L.shown link.old) (L.shown link.new)) }
     ensures uses { IfSome (L.shown link.old) (λ before. IsSomeAnd (L.shown link.new) (λ after.
         UsesLink (is_listening client.old.standing.phase) before after)) }
     ensures later { L.faults link.old ≤ L.faults link.new }

@@ -76,12 +76,7 @@ pub trait Rules {
         ensures { result ≡ (protocol self.now).after_wait exchange };
 
     /// How long the client waits in a state before it sends for the first time.
-    fn pause<W: Words>(
-        &self,
-        state: &Self::State,
-        exchange: Self::Exchange,
-        words: &mut W,
-    ) -> u64
+    fn pause<W: Words>(&self, state: &Self::State, exchange: Self::Exchange, words: &mut W) -> u64
         ensures drawn { Draws ((protocol self.now).pause state.now exchange)
             (W.left words.old) result (W.left words.new) }
         ensures below { result < 2 ^ 62 };
@@ -130,11 +125,7 @@ pub trait Rules {
         ensures unchanged { OnErr result (state.new ≡ state.old) };
 
     /// Goes to the state after the end of a state, and returns what is reported of it.
-    fn after_end(
-        &self,
-        state: &mut Self::State,
-        exchange: &mut Self::Exchange,
-    ) -> Self::PublicState
+    fn after_end(&self, state: &mut Self::State, exchange: &mut Self::Exchange) -> Self::PublicState
         ensures next { IsNext ((protocol self.now).after_end state.old exchange.old)
             state.new exchange.new }
         ensures reported { result ≡ (protocol self.now).public_state state.new };

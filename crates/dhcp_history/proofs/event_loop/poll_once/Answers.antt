@@ -1,8 +1,6 @@
-use Rattle.std.proofs.Common.{◌∙◌, sym, ap}
+use Rattle.std.proofs.Common.{ap}
 use Rattle.dhcp_clock.specs.Link.{MemoryParts}
-use Rattle.dhcp_history.specs.Machine.{poll}
 use Rattle.dhcp_history.specs.Client.{view_of}
-use Rattle.dhcp_history.specs.Run.{input_of}
 use Rattle.dhcp_history.proofs.Looping.{one_poll}
 use Rattle.dhcp_history.proofs.event_loop.poll_once.Goals as goal
 

@@ -1,4 +1,3 @@
-
 use Rattle.dhcp_history.specs.Client.{view_of}
 use Rattle.dhcp_history.proofs.Looping.{replay_history_of}
 use Rattle.dhcp_history.proofs.event_loop.replay.Goals as goal

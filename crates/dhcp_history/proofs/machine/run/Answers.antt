@@ -2,7 +2,7 @@ use Rattle.std.proofs.Common.{sym, ◌∙◌, refl, [], ap}
 use Rattle.std.specs.Prelude.{Ok, Some}
 use Rattle.dhcp_history.specs.Machine.{View}
 use Rattle.dhcp_history.specs.Client.{view_of, view_with}
-use Rattle.dhcp_history.proofs.Running.{poll_ends, poll_works, on_run, no_timeout, on_no_memory, unsent_due, unsent_early, unpolled_armed, over_polled, stopped_phase, quiet_stopped, quiet_over, quiet_ended, quiet_busy, quiet_waits, waits_shut, due_busy, early_quiet}
+use Rattle.dhcp_history.proofs.Running.{poll_ends, poll_works, on_run, unsent_due, unsent_early, unpolled_armed, over_polled, stopped_phase, quiet_stopped, quiet_over, quiet_ended, quiet_busy, due_busy, early_quiet}
 use Rattle.dhcp_history.proofs.machine.run.Goals as goal
 
 pub returns-then-has_ended-clause-polled : goal.returns-then-has_ended-clause-polled
@@ -27,18 +27,6 @@ returns-clause-polled g c =
     (view_of c.args.client.now) (view_with c.args.client.now c.begin_stay-begun.result) (view_of c.receive_early.new.client)
     c.receive_early.result (λ words. sym c.is_stopped.ensures ∙ c.if-is_stopped.false) (λ words. sym (c.limit_is_over.ensures words) ∙ c.if-limit_is_over.false) (λ words. sym (c.has_ended.ensures words) ∙ c.if-has_ended.false)
     c.begin_stay-begun.ensures.drawn) c.receive_early.ensures.polled
-
-pub returns-then-has_come-clause-unended : goal.returns-then-has_come-clause-unended
-returns-then-has_come-clause-unended g c = on_no_memory c.transmit_due.result (λ drawn. sym (c.has_ended.ensures drawn) ∙ c.if-has_ended.false)
-
-pub returns-clause-unended : goal.returns-clause-unended
-returns-clause-unended g c = on_no_memory c.receive_early.result (λ drawn. sym (c.has_ended.ensures drawn) ∙ c.if-has_ended.false)
-
-pub returns-then-has_come-clause-timed_out : goal.returns-then-has_come-clause-timed_out
-returns-then-has_come-clause-timed_out g c = no_timeout _ c.transmit_due.result c.transmit_due.ensures.in_time
-
-pub returns-clause-timed_out : goal.returns-clause-timed_out
-returns-clause-timed_out g c = no_timeout _ c.receive_early.result c.receive_early.ensures.in_time
 
 pub returns-then-has_come-clause-memory : goal.returns-then-has_come-clause-memory
 returns-then-has_come-clause-memory g c =
