@@ -9,13 +9,14 @@ use Rattle.dhcp_clock.specs.declared.link.Sent.{Sent}
 use Rattle.dhcp_clock.specs.Link.{Shown}
 use Rattle.dhcp_history.specs.declared.machine.RunError.{RunError}
 use Rattle.dhcp_history.specs.declared.machine.RunError.TheVariants as run
-use Rattle.dhcp_history.specs.declared.machine.ReleaseError.{ReleaseError}
-use Rattle.dhcp_history.specs.declared.machine.ReleaseError.TheVariants as release
+use Rattle.dhcp_history.specs.declared.release.ReleaseError.{ReleaseError}
+use Rattle.dhcp_history.specs.declared.release.ReleaseError.TheVariants as release
 use Rattle.dhcp_history.specs.Protocol.{Protocol, Lawful, has_come}
 use Rattle.dhcp_history.specs.Script.{Input, Nothing, Arrival, Release, CleanUp, Event, Output, Changed, Script, after_call}
 use Rattle.dhcp_history.specs.History.{history, outputs, reading_of}
 use Rattle.dhcp_history.specs.Machine.{View, PollEffect, EventEffect, is_listening, is_stopped, limit_is_over, has_ended, begin_stay, attempt_now, transmit, take_answer, receive, transmit_and_receive, poll, after_poll, clean_up, release_of, replay, replay_from, first_view, handed_output}
-use Rattle.dhcp_history.specs.Run.{input_of, waiting_of, handed_by, shown_after, UnlessNoMemory, UnlessUnreleased, answer_by, answer_of, HasPolled, ReleaseEffect, release_by, release_held, HasReleased}
+use Rattle.dhcp_history.specs.Run.{input_of, waiting_of, handed_by, shown_after, UnlessNoMemory, answer_by, answer_of, HasPolled}
+use Rattle.dhcp_history.specs.Release.{UnlessUnreleased, ReleaseEffect, release_by, release_held, HasReleased}
 use Rattle.dhcp_history.proofs.Calls.{replay_history}
 use Rattle.dhcp_history.specs.EventLoop.{release_outputs, poll_outputs, is_again, has_memory, once_outputs, HasPolledOnce, polls_at, call_at, event_at, events_at, HasReported, HasCalled, MakesUp}
 

@@ -14,8 +14,9 @@ use Rattle.dhcp_history.specs.Script.{Input, Nothing}
 use Rattle.dhcp_history.specs.History.{reading_of}
 use Rattle.dhcp_history.specs.Machine.{View, Phase, Unpolled, Pausing, Listening, Resting, Stopped, PollEffect, is_stopped, is_listening, is_unpolled, limit_is_over, limit_is_over_in, has_ended, stop, begin_stay, attempt_now, transmit, clean_up, take_answer, receive, transmit_and_receive, poll, end_state, enter, exchange_at}
 use Rattle.dhcp_history.specs.Client.{view_of}
-use Rattle.dhcp_history.specs.NextPoll.{HasNextAttempt}
-use Rattle.dhcp_history.specs.Run.{input_of, waiting_of, UnlessNoMemory, OnNoMemory, release_by, HasReleased, sent_by, handed_by, answer_by, HasPolled, HasReceived, HasDrawn, HasTransmitted, IsUnsent, IsSent, is_waiting, quiet_poll, HasPolledQuietly, IsShut}
+use Rattle.dhcp_history.specs.Schedule.{HasNextAttempt}
+use Rattle.dhcp_history.specs.Run.{input_of, waiting_of, UnlessNoMemory, OnNoMemory, sent_by, handed_by, answer_by, HasPolled, HasReceived, HasDrawn, HasTransmitted, IsUnsent, IsSent, is_waiting, quiet_poll, HasPolledQuietly, IsShut}
+use Rattle.dhcp_history.specs.Release.{release_by, HasReleased}
 
 pub stopped_phase : (phase : Phase) → is_stopped phase ≡ true → phase ≡ Stopped
 stopped_phase Unpolled h = absurd (cc h)

@@ -112,8 +112,8 @@ taken_of (attempt ∷ attempts) = with_taken attempt.refused attempt (taken_of a
 abbrev pub taken_count : {Message : Type 0} → List (Attempt Message) → ℕ
 taken_count attempts = count_of (λ attempt. not attempt.refused) attempts
 
--- the first attempt is at or past this moment, and each further one when the wait of the one before is
--- over, or later
+-- the first attempt is at or past this moment, and each further one when the wait of the one before
+-- is over, or later
 abbrev pub Apart : {Message : Type 0} → ℕ → List (Attempt Message) → Type 0
 Apart due [] = Unit {0}
 Apart due (attempt ∷ attempts) = (due ≤ attempt.moment) × Apart (attempt.moment + attempt.wait) attempts
@@ -127,14 +127,15 @@ FarApart distance due [] = Unit {0}
 FarApart distance due (attempt ∷ attempts) =
     (due ≤ attempt.moment) × FarApart distance (attempt.moment + distance) attempts
 
--- so many messages in so many milliseconds: from the second on, each further one asks for twice the time
+-- so many messages in so many milliseconds: from the second on, each further one asks for twice the
+-- time
 abbrev pub Halves : ℕ → ℕ → Type 0
 Halves count time = 2 ≤ count → 60000 * 2 ^ (count - 2) < time
 
 module _ {PublicState Packet Message State Exchange Answer Lease : Type 0}
     (p : Protocol PublicState Packet Message State Exchange Answer Lease) where
-  -- the state ends when the wait of its n-th taken attempt is over, by a count in the exchange that each
-  -- of them raises
+  -- the state ends when the wait of its n-th taken attempt is over, by a count in the exchange that
+  -- each of them raises
   pub record EndsAfter (state : State) (n : ℕ) : Type 0 where
     pub some : 1 ≤ n
     pub count : Exchange → ℕ
@@ -162,8 +163,8 @@ module _ {PublicState Packet Message State Exchange Answer Lease : Type 0}
       (end : ℕ) → Halved stay.setting.state end →
       Halves (taken_count (attempts_of stay.acts)) (end - stay.setting.entered)
 
-  -- a test of exchanges that each exchange passes with which a stay begins, and that a wait which is
-  -- over preserves
+  -- a test of exchanges that each exchange passes with which a stay begins, and that a wait which
+  -- is over preserves
   pub record IsKept (good : Exchange → Bool) : Type 0 where
     pub after_wait : (exchange : Exchange) → good exchange ≡ true →
         good (p.after_wait exchange) ≡ true
@@ -173,7 +174,8 @@ module _ {PublicState Packet Message State Exchange Answer Lease : Type 0}
     pub ended : (state : State) (exchange : Exchange) →
         good (p.after_end state exchange).exchange ≡ true
 
-  -- with such an exchange a wait of the state is so long at least, or it lasts to the end of the state
+  -- with such an exchange a wait of the state is so long at least, or it lasts to the end of the
+  -- state
   pub record Distant (good : Exchange → Bool) (state : State) (distance : ℕ) : Type 0 where
     pub far : (exchange : Exchange) (start : AttemptStart) (words : List ℕ) →
         good exchange ≡ true → has_come start.now (p.ending_moment state) ≡ false →

@@ -2,7 +2,6 @@
 use Rattle.std.specs.Prelude.{◌≡◌, ℕ, List, None}
 use Rattle.dhcp_history.specs.declared.client.Client.{Client}
 use Rattle.dhcp_history.specs.declared.client.Standing.{Standing}
-use Rattle.dhcp_history.specs.Protocol.{NextState}
 use Rattle.dhcp_history.specs.Machine.{View, Unpolled}
 
 -- a client that stands so in its state, with these words left
@@ -24,9 +23,3 @@ view_of client words = view_with client client.standing words
 -- how a client stands that was not polled in its state yet
 abbrev pub unpolled : {Exchange : Type 0} → Exchange → Standing Exchange
 unpolled exchange = record { exchange = exchange; entered = 0; phase = Unpolled; deadline = None }
-
--- this state and exchange are what comes next
-pub record IsNext {State Exchange : Type 0} (next : NextState State Exchange)
-    (new_state : State) (new_exchange : Exchange) : Type 0 where
-  pub state : new_state ≡ next.state
-  pub exchange : new_exchange ≡ next.exchange

@@ -5,7 +5,7 @@ use Rattle.dhcp_clock.specs.declared.link.Handed.{Handed}
 use Rattle.dhcp_history.specs.declared.event_loop.EventHead.{EventHead}
 use Rattle.dhcp_history.specs.declared.machine.RunError.{RunError}
 use Rattle.dhcp_history.specs.declared.machine.RunError.TheVariants as run
-use Rattle.dhcp_history.specs.declared.machine.ReleaseError.{ReleaseError}
+use Rattle.dhcp_history.specs.declared.release.ReleaseError.{ReleaseError}
 use Rattle.dhcp_history.specs.Protocol.{Protocol}
 use Rattle.dhcp_history.specs.Script.{Input, Event, Output, Changed, Failed, TimedOut, SendRefused, after_call}
 use Rattle.dhcp_history.specs.Machine.{View, PollEffect, EventEffect, polls, call, handed_output, failed_output}
@@ -59,8 +59,8 @@ module _ {PublicState State Exchange Answer Lease : Type 0}
       handed_output number refuse once.handed ++
       record { event = number; report = Changed (p.public_state next) } ∷ []
 
-  -- what one poll of the loop leaves: whether another follows, what is reported, the client, the words
-  -- and the packet that waits
+  -- what one poll of the loop leaves: whether another follows, what is reported, the client, the
+  -- words and the packet that waits
   pub record HasPolledOnce (number : ℕ) (refuse : Bool) (once : PollEffect Packet Handed State Exchange)
       (result : Bool) (before after : List (Output PublicState Handed))
       (view : List ℕ → View State Exchange) (left : Option (List ℕ)) (packet : Option Packet) :

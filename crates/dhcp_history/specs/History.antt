@@ -1,5 +1,5 @@
--- The history of a script: the list of whole stays, each with all its attempts. A stay is the time that a client spends in
--- one state.
+-- The history of a script: the list of whole stays, each with all its attempts. A stay is the time
+-- that a client spends in one state.
 use Rattle.std.specs.Prelude.{ℕ, suc, zero, ◌+◌, ◌*◌, Bool, true, false, not, ◌&&◌, ◌||◌, List, [], ◌∷◌, ◌++◌, length, flat_map, Option, Some, None, is_some, option_map, if◌then◌else◌}
 use Rattle.dhcp_history.specs.declared.rules.NewAttempt.{NewAttempt}
 use Rattle.dhcp_history.specs.Protocol.{Protocol, Drawn, NextState, has_come}
@@ -19,8 +19,8 @@ abbrev pub from : {Packet : Type 0} → (Event Packet → Bool) → List (Event 
 from test [] = []
 from test (event ∷ events) = if test event then event ∷ events else from test events
 
--- a message that was sent: at which event, at which moment, how long an answer is awaited, and whether
--- the link refused it
+-- a message that was sent: at which event, at which moment, how long an answer is awaited, and
+-- whether the link refused it
 pub record Attempt (Message : Type 0) : Type 0 where
   pub event : ℕ
   pub moment : ℕ
@@ -35,23 +35,23 @@ pub data Act (Message : Type 0) : Type 0 where
   ReleaseRefused : ℕ → Message → Act Message
   LimitOver : ℕ → Act Message
 
--- How a stay closes, and at which event: it is cut by a clean-up or by a release, whose message this
--- is; it is answered, or it ends, and this is the state that comes next. The last stay lasts.
+-- How a stay closes, and at which event: it is cut by a clean-up or by a release, whose message
+-- this is; it is answered, or it ends, and this is the state that comes next. The last stay lasts.
 pub data Closing (State Message : Type 0) : Type 0 where
   Lasts : Closing State Message
   Cut : ℕ → Option Message → Closing State Message
   Answered : ℕ → State → Closing State Message
   Ended : ℕ → State → Closing State Message
 
--- what stays the same in a stay: its state, the moment at which it was entered, and the client's time
--- limit in seconds, 0 where there is none
+-- what stays the same in a stay: its state, the moment at which it was entered, and the client's
+-- time limit in seconds, 0 where there is none
 pub record Setting (State : Type 0) : Type 0 where
   pub state : State
   pub entered : ℕ
   pub limit : ℕ
 
--- a stay: its setting, the event at which it was entered, its pause, what the client does in it, and
--- how it closes
+-- a stay: its setting, the event at which it was entered, its pause, what the client does in it,
+-- and how it closes
 pub record Stay (State Message : Type 0) : Type 0 where
   pub setting : Setting State
   pub entry : ℕ
@@ -80,31 +80,31 @@ abbrev pub last_by : Bool → LastAttempt
 last_by true = Unsent
 last_by false = Open
 
--- where a stay stands: its last attempt, the moment from which the next one is due, the exchange as the
--- last one left it, and the random words that are left
+-- where a stay stands: its last attempt, the moment from which the next one is due, the exchange as
+-- the last one left it, and the random words that are left
 pub record Progress (Exchange : Type 0) : Type 0 where
   pub last : LastAttempt
   pub due : Option ℕ
   pub exchange : Exchange
   pub words : List ℕ
 
--- how the attempts of a stay come to an end: within the stay's window there is no answer, this answer
--- came to the last of them, or the last of them was the last one that its state allows
+-- how the attempts of a stay come to an end: within the stay's window there is no answer, this
+-- answer came to the last of them, or the last of them was the last one that its state allows
 pub data Outcome (Answer : Type 0) : Type 0 where
   Unanswered : Outcome Answer
   AnsweredBy : Answer → Outcome Answer
   RanOut : Outcome Answer
 
--- what the packets of some events answer, read one after another; the events from the answering one on;
--- the words left; what the client does meanwhile
+-- what the packets of some events answer, read one after another; the events from the answering one
+-- on; the words left; what the client does meanwhile
 pub record Heard (Packet Message Answer : Type 0) : Type 0 where
   pub answer : Option Answer
   pub rest : List (Event Packet)
   pub words : List ℕ
   pub acts : List (Act Message)
 
--- how the attempts of a stay end; the events from the answering or ending one on; the exchange as the
--- last attempt left it, and as it is once its wait is over; the words left
+-- how the attempts of a stay end; the events from the answering or ending one on; the exchange as
+-- the last attempt left it, and as it is once its wait is over; the words left
 pub record Finish (Packet Exchange Answer : Type 0) : Type 0 where
   pub outcome : Outcome Answer
   pub rest : List (Event Packet)
@@ -137,8 +137,8 @@ is_release (Arrival packet) = false
 is_release Release = true
 is_release CleanUp = false
 
--- whether an event with this input cuts a stay: a clean-up does, and so does a release that the link
--- takes while a lease is held
+-- whether an event with this input cuts a stay: a clean-up does, and so does a release that the
+-- link takes while a lease is held
 abbrev pub cuts_by : {Packet : Type 0} → Input Packet → Bool → Bool → Bool
 cuts_by Nothing refuse holding = false
 cuts_by (Arrival packet) refuse holding = false
@@ -151,7 +151,8 @@ limit_after false limit entered = None
 limit_after true zero entered = None
 limit_after true (suc limit) entered = Some (entered + 1000 * suc limit)
 
--- what is left of the first of these events once its packet has answered: an answer uses up the event
+-- what is left of the first of these events once its packet has answered: an answer uses up the
+-- event
 abbrev pub after_packet : {Packet : Type 0} → List (Event Packet) → List (Event Packet)
 after_packet [] = []
 after_packet (event ∷ events) = record event { input = Nothing } ∷ events
@@ -287,8 +288,9 @@ module _ {PublicState Packet Message State Exchange Answer Lease : Type 0}
     words = (new_attempt_at setting progress event.moment).words;
   }
 
-  -- At the first event at or past the due moment the stay ends, where its last attempt was the last one
-  -- that its state allows; else the next attempt is made. A release that is refused comes first.
+  -- At the first event at or past the due moment the stay ends, where its last attempt was the last
+  -- one that its state allows; else the next attempt is made. A release that is refused comes
+  -- first.
   abbrev pub attempt_or_end : Bool →
       (Progress Exchange → List (Event Packet) → Course Packet Message Exchange Answer) →
       Setting State → Progress Exchange → List (Act Message) → Event Packet → List (Event Packet) →
@@ -309,8 +311,8 @@ module _ {PublicState Packet Message State Exchange Answer Lease : Type 0}
       Attempted (attempt_at setting progress event) ∷ []))
       (goes_on (progress_after setting progress event) (after_call event ∷ later))
 
-  -- What follows where so much was heard before the due moment, and these are the events from then on:
-  -- an answer closes the stay; with no event left there is no attempt any more.
+  -- What follows where so much was heard before the due moment, and these are the events from then
+  -- on: an answer closes the stay; with no event left there is no attempt any more.
   abbrev pub next_attempt :
       (Progress Exchange → List (Event Packet) → Course Packet Message Exchange Answer) →
       Setting State → Progress Exchange → Option Answer → Heard Packet Message Answer →
@@ -338,9 +340,9 @@ module _ {PublicState Packet Message State Exchange Answer Lease : Type 0}
   next_attempt goes_on setting progress None heard (event ∷ later) =
       attempt_or_end (runs_out setting progress) goes_on setting progress heard.acts event later
 
-  -- The course of a stay over the events of its window, from where it stands: the packets before the due
-  -- moment are heard, and at the first event from then on the next attempt is made. `fuel` is above the
-  -- number of events, of which each has one attempt at most.
+  -- The course of a stay over the events of its window, from where it stands: the packets before
+  -- the due moment are heard, and at the first event from then on the next attempt is made. `fuel`
+  -- is above the number of events, of which each has one attempt at most.
   abbrev pub course : ℕ → Setting State → Progress Exchange → List (Event Packet) →
       Course Packet Message Exchange Answer
   course zero setting progress events = record {
@@ -404,8 +406,8 @@ module _ {PublicState Packet Message State Exchange Answer Lease : Type 0}
   limit_acts setting exchange event =
       refused_release setting exchange event ++ LimitOver event.number ∷ []
 
-  -- A stay closes at this event: it is cut; or its time limit is over, and only a later cut closes it;
-  -- or it ends.
+  -- A stay closes at this event: it is cut; or its time limit is over, and only a later cut closes
+  -- it; or it ends.
   abbrev pub close : Bool → Bool → Setting State → Finish Packet Exchange Answer → Event Packet →
       List (Event Packet) → Transition Packet Message State Exchange
   close true over setting finish event later = cut setting finish (event ∷ later)
@@ -415,7 +417,8 @@ module _ {PublicState Packet Message State Exchange Answer Lease : Type 0}
       }
   close false false setting finish event later = end_at setting finish (event ∷ later)
 
-  -- how a stay gives way whose attempts end so, where these are the events from the end of its window on
+  -- how a stay gives way whose attempts end so, where these are the events from the end of its
+  -- window on
   abbrev pub transition_by : Outcome Answer → Setting State → Finish Packet Exchange Answer →
       List (Event Packet) → Transition Packet Message State Exchange
   transition_by (AnsweredBy answer) setting finish late =
@@ -464,8 +467,8 @@ module _ {PublicState Packet Message State Exchange Answer Lease : Type 0}
   entry_pause setting entry event =
       if cuts setting event then 0 else (p.pause entry.state entry.exchange entry.words).value
 
-  -- the stays from an entry on, the first of them entered at the first of these events; `fuel` is above
-  -- the number of stays
+  -- the stays from an entry on, the first of them entered at the first of these events; `fuel` is
+  -- above the number of stays
   abbrev pub stays : ℕ → ℕ → Entry State Exchange → List (Event Packet) → List (Stay State Message)
   stays fuel limit entry [] = []
   stays zero limit entry (first ∷ later) = []
@@ -484,7 +487,8 @@ module _ {PublicState Packet Message State Exchange Answer Lease : Type 0}
       }
       ∷ stays fuel limit next.entry next.events
 
-  -- The history of a script. At one event seven stays are entered at most, and one more after a cut.
+  -- The history of a script. At one event seven stays are entered at most, and one more after a
+  -- cut.
   abbrev pub history : Script Packet State Exchange → List (Stay State Message)
   history script =
       stays (8 * (length script.events + 1)) script.limit

@@ -3,8 +3,9 @@ pub mod Script
 pub mod History
 pub mod Machine
 pub mod Bounds
-pub mod Drawing
+pub mod Rules
 pub mod Client
 pub mod Run
 pub mod EventLoop
-pub mod NextPoll
+pub mod Release
+pub mod Schedule

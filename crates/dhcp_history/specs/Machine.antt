@@ -41,8 +41,8 @@ phase_by true = Resting
 phase_by false = Listening
 
 -- What a client is: its state and exchange, its time limit in seconds (0 where there is none), the
--- moment of its first poll in this state, its phase, the moment from which the next attempt is due, and
--- the random words that are left.
+-- moment of its first poll in this state, its phase, the moment from which the next attempt is due,
+-- and the random words that are left.
 pub record View (State Exchange : Type 0) : Type 0 where
   pub state : State
   pub exchange : Exchange
@@ -65,8 +65,8 @@ first_view script = record {
   words = script.words;
 }
 
--- what one poll does: the client after it, the message that it hands to the link, what is left of the
--- event's input, and its answer: a change of state, an error, or neither
+-- what one poll does: the client after it, the message that it hands to the link, what is left of
+-- the event's input, and its answer: a change of state, an error, or neither
 pub record PollEffect (Packet Message State Exchange : Type 0) : Type 0 where
   pub view : View State Exchange
   pub handed : Option Message
@@ -79,8 +79,8 @@ pub record EventEffect (PublicState Message State Exchange : Type 0) : Type 0 wh
   pub outputs : List (Output PublicState Message)
   pub view : View State Exchange
 
--- what is reported of a message that is handed at the event with this number, to a link that refuses or
--- does not
+-- what is reported of a message that is handed at the event with this number, to a link that
+-- refuses or does not
 abbrev pub handed_output : {PublicState Message : Type 0} → ℕ → Bool → Option Message →
     List (Output PublicState Message)
 handed_output number refuse None = []
@@ -298,8 +298,8 @@ module _ {PublicState Packet Message State Exchange Answer Lease : Type 0}
 
   -- 4. A script.
 
-  -- what is reported from a client on: at each event its call is made, and then it is polled at most
-  -- seven times
+  -- what is reported from a client on: at each event its call is made, and then it is polled at
+  -- most seven times
   abbrev pub replay_from : View State Exchange → List (Event Packet) →
       List (Output PublicState Message)
   replay_from view [] = []

@@ -1,5 +1,5 @@
--- A DHCP protocol as a table of states (RFC 2131 section 4.4, RFC 8415 section 18.2): what a client sends in each state and
--- when, which packets answer it, and which state follows.
+-- A DHCP protocol as a table of states (RFC 2131 section 4.4, RFC 8415 section 18.2): what a client
+-- sends in each state and when, which packets answer it, and which state follows.
 use Rattle.std.specs.Prelude.{ℕ, suc, ◌+◌, ◌≤◌, ◌<◌, ◌≡◌, Bool, true, false, ◌||◌, nat_le, List, Option, Some, None}
 use Rattle.dhcp_history.specs.declared.rules.AttemptStart.{AttemptStart}
 use Rattle.dhcp_history.specs.declared.rules.NewAttempt.{NewAttempt}
@@ -15,8 +15,8 @@ pub record NextState (State Exchange : Type 0) : Type 0 where
   pub exchange : Exchange
 
 -- A protocol. A state has with it what it rests on: an offer, or a lease and the moment at which it
--- was taken. An exchange is what a client keeps from one attempt to the next: the transaction id, how
--- often it has sent, its previous wait. Moments and waits are in milliseconds.
+-- was taken. An exchange is what a client keeps from one attempt to the next: the transaction id,
+-- how often it has sent, its previous wait. Moments and waits are in milliseconds.
 pub record Protocol (PublicState Packet Message State Exchange Answer Lease : Type 0) : Type 0 where
   -- what the client reports of a state
   pub public_state : State → PublicState
@@ -49,8 +49,8 @@ abbrev pub has_come : ℕ → Option ℕ → Bool
 has_come now None = false
 has_come now (Some moment) = nat_le moment now
 
--- What the theory asks of a protocol. `rank` is how many changes of state one event can bring at most
--- from a state on, where its packet is left or not.
+-- What the theory asks of a protocol. `rank` is how many changes of state one event can bring at
+-- most from a state on, where its packet is left or not.
 pub record Lawful {PublicState Packet Message State Exchange Answer Lease : Type 0}
     (p : Protocol PublicState Packet Message State Exchange Answer Lease) : Type 0 where
   -- every wait is at least a millisecond

@@ -7,14 +7,12 @@ use Rattle.dhcp_clock.specs.declared.link.Sent.TheVariants.{Taken, Refused}
 use Rattle.dhcp_clock.specs.Link.{Shown, with_message}
 use Rattle.dhcp_history.specs.declared.machine.RunError.{RunError}
 use Rattle.dhcp_history.specs.declared.machine.RunError.TheVariants as run
-use Rattle.dhcp_history.specs.declared.machine.ReleaseError.{ReleaseError}
-use Rattle.dhcp_history.specs.declared.machine.ReleaseError.TheVariants as release
 use Rattle.dhcp_history.specs.declared.client.Client.{Client}
 use Rattle.dhcp_history.specs.declared.client.Standing.{Standing}
 use Rattle.dhcp_history.specs.Protocol.{Protocol, has_come}
 use Rattle.dhcp_history.specs.Script.{Input, Nothing, Arrival, Release, CleanUp}
 use Rattle.dhcp_history.specs.Client.{view_of}
-use Rattle.dhcp_history.specs.Machine.{View, PollEffect, stop, end_state, attempt_now, transmit, is_unpolled, is_listening, is_stopped, limit_is_over, has_ended, clean_up}
+use Rattle.dhcp_history.specs.Machine.{View, PollEffect, stop, end_state, attempt_now, transmit, is_unpolled, is_listening, is_stopped, limit_is_over, has_ended}
 
 -- 1. The link.
 
@@ -61,6 +59,10 @@ pub record UsesLink (listens : Bool) (before after : Shown) : Type 0 where
   pub waiting : (after.waiting ≡ before.waiting) ⊎
       ((after.waiting ≡ None) × ((listens ≡ true) ⊎ HasHanded Taken before after))
 
+-- a fact for the words that are left and what a link shows, where they are known
+abbrev pub WhereKnown : Option (List ℕ) → Option Shown → (List ℕ → Shown → Type 0) → Type 0
+WhereKnown words shown P = IfSome words (λ drawn. IfSome shown (λ before. P drawn before))
+
 -- 2. A poll.
 
 -- a fact for each answer but out of memory
@@ -92,13 +94,14 @@ module _ {PublicState State Exchange Answer Lease : Type 0}
   abbrev pub answer_of : PollEffect Packet Handed State Exchange → Result (Option PublicState) RunError
   answer_of once = answer_by once.change once.failed
 
-  -- a client that neither sends nor listens: its pause, or the wait of a refused attempt, is not over
+  -- a client that neither sends nor listens: its pause, or the wait of a refused attempt, is not
+  -- over
   abbrev pub is_waiting : ℕ → View State Exchange → Bool
   is_waiting now view =
       not (is_unpolled view.phase || (is_listening view.phase || has_come now view.deadline))
 
-  -- what a poll does that uses neither words nor link: the client has stopped or stops now, its state
-  -- ends, or it waits
+  -- what a poll does that uses neither words nor link: the client has stopped or stops now, its
+  -- state ends, or it waits
   abbrev pub quiet_poll : ℕ → View State Exchange → Option (PollEffect Packet Handed State Exchange)
   quiet_poll now view =
       if is_stopped view.phase || limit_is_over p now view then Some (stop Nothing view)
@@ -149,8 +152,8 @@ module _ {PublicState State Exchange Answer Lease : Type 0}
     pub link : after ≡
         Some (with_message (attempt_now p now first).value.message (sent_by before.refuses) before)
 
-  -- Out of memory came right after the attempt of a client that was `first`: the link took the message,
-  -- and the client listens.
+  -- Out of memory came right after the attempt of a client that was `first`: the link took the
+  -- message, and the client listens.
   pub record IsSent (now : ℕ) (first : List ℕ → View State Exchange) (client : Client State Exchange)
       (drawn : Option (List ℕ)) (before after : Option Shown) : Type 0 where
     pub listens : is_listening client.standing.phase ≡ true
@@ -190,46 +193,3 @@ pub record NeedsMemory {State Exchange : Type 0} (needs_memory : State → Excha
   pub listens : is_listening client.standing.phase ≡ true
   pub packet : IfSome shown (λ before. IsSomeAnd before.waiting (λ packet.
       needs_memory client.state client.standing.exchange packet ≡ true))
-
--- 3. A release.
-
--- a fact for each answer but out of memory
-abbrev pub UnlessUnreleased : {A : Type 0} → Result A ReleaseError → Type 0 → Type 0
-UnlessUnreleased (Ok a) P = P
-UnlessUnreleased (Err release.Refused) P = P
-UnlessUnreleased (Err release.OutOfMemory) P = Unit {0}
-
--- what a release does: the client after it, the message that it hands to the link, and its answer
-pub record ReleaseEffect (State Exchange : Type 0) : Type 0 where
-  pub view : View State Exchange
-  pub handed : Option Handed
-  pub answer : Result Bool ReleaseError
-
-module _ {PublicState State Exchange Answer Lease : Type 0}
-    (p : Protocol PublicState Packet Handed State Exchange Answer Lease) where
-  -- no lease is held; the link refuses the message; or it takes it, and a clean-up follows
-  abbrev pub release_by : Option Lease → Bool → View State Exchange → ReleaseEffect State Exchange
-  release_by None refuse view = record { view = view; handed = None; answer = Ok false }
-  release_by (Some lease) true view = record {
-    view = view;
-    handed = Some (p.release_message lease view.exchange);
-    answer = Err release.Refused;
-  }
-  release_by (Some lease) false view = record {
-    view = clean_up p view;
-    handed = Some (p.release_message lease view.exchange);
-    answer = Ok true;
-  }
-
-  -- the release of the lease that is held
-  abbrev pub release_held : Bool → View State Exchange → ReleaseEffect State Exchange
-  release_held refuse view = release_by (p.held_lease view.state) refuse view
-
--- what a release leaves: its answer, the client and the link
-pub record HasReleased {State Exchange : Type 0} (once : ReleaseEffect State Exchange)
-    (result : Result Bool ReleaseError) (new : View State Exchange) (before : Shown)
-    (after : Option Shown) : Type 0 where
-  pub answer : result ≡ once.answer
-  pub client : new ≡ once.view
-  pub link : after ≡
-      Some (record before { handed = handed_by before.refuses once.handed before.handed })

@@ -9,8 +9,8 @@ pub use Rattle.dhcp_history.specs.declared.script.Report.TheVariants.{Handed, Re
 pub use Rattle.dhcp_history.specs.declared.script.Output.{Output}
 use Rattle.std.specs.Prelude.{ℕ, List}
 
--- A script: the time limit in seconds, 0 where there is none; the state and the exchange with which the
--- client begins; the random words that are left then; the events.
+-- A script: the time limit in seconds, 0 where there is none; the state and the exchange with which
+-- the client begins; the random words that are left then; the events.
 pub record Script (Packet State Exchange : Type 0) : Type 0 where
   pub limit : ℕ
   pub state : State

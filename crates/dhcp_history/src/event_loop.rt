@@ -1,4 +1,5 @@
-//! The loop over the events of a script: at each event the call that it asks for, and then its polls, over a link in memory.
+//! The loop over the events of a script: at each event the call that it asks for, and then its
+//! polls, over a link in memory.
 
 ghost use Rattle.std.specs.Prelude.{◌≡◌, ◌<◌, ◌^◌, ℕ, All, List, None, [], ◌∷◌, ◌++◌, Err, true, OnOk, IfOk, IfSome, slice_get, option_map};
 ghost use Rattle.dhcp_clock.specs.MemLink.{without_oldest};
@@ -24,7 +25,8 @@ ghost use Rattle.dhcp_history.specs.EventLoop.{
 };
 
 use crate::{
-    Client, Event, Failure, Input, Output, ReleaseError, Report, Rules, RunError, machine,
+    Client, Event, Failure, Input, Output, ReleaseError, Report, Rules, RunError, clean_up,
+    release_held, run,
 };
 use dhcp_clock::{Handed, MemLink, Packet, Words};
 use std::alloc::{AllocError, Global};
@@ -108,7 +110,8 @@ fn report_release<S: Drop>(
     }
 }
 
-// Reports a poll, after the message that was handed in it; returns whether the client is polled again.
+// Reports a poll, after the message that was handed in it; returns whether the client is polled
+// again.
 fn report_poll<S: Drop>(
     number: u32,
     refuse: bool,
@@ -160,7 +163,7 @@ fn poll_once<R: Rules, W: Words>(
     ensures refuses { link.new.shown.refuses ≡ link.old.shown.refuses }
     ensures empty { link.new.shown.handed ≡ [] }
 {
-    let polled = machine::run(rules, client, at.moment, words, link);
+    let polled = run(rules, client, at.moment, words, link);
     let handed = take_message(link);
     report_poll(at.number, at.refuse, polled, handed, outputs)
 }
@@ -205,7 +208,7 @@ fn release_event<R: Rules>(
         outputs.old.items outputs.new.items (view_of client.new drawn)) }
     ensures link { OnOk result (link.new.shown ≡ link.old.shown) }
 {
-    let released = machine::release_held(rules, client, link);
+    let released = release_held(rules, client, link);
     let handed = take_message(link);
     report_release(at.number, at.refuse, released, handed, outputs)
 }
@@ -237,14 +240,14 @@ fn call_event<R: Rules>(
         }
         Input::Release => release_event(rules, client, link, at, outputs),
         Input::CleanUp => {
-            machine::clean_up(rules, client);
+            clean_up(rules, client);
             Ok(())
         }
     }
 }
 
-/// One event: the call that it asks for, and then its polls. When out of memory, what was reported of
-/// the event so far may be among the outputs.
+/// One event: the call that it asks for, and then its polls. When out of memory, what was reported
+/// of the event so far may be among the outputs.
 pub fn run_event<R: Rules, W: Words>(
     alloc: Global,
     rules: &R,
@@ -289,8 +292,8 @@ fn run_events<R: Rules, W: Words>(
     Ok(outputs)
 }
 
-/// What the events report: the outputs of the history of their script, where the client begins as the
-/// script says.
+/// What the events report: the outputs of the history of their script, where the client begins as
+/// the script says.
 pub fn replay<R: Rules, W: Words>(
     alloc: Global,
     rules: &R,

@@ -1,4 +1,5 @@
-//! The laws of histories, over all rules and every script. Each is the clause of a function that does nothing.
+//! The laws of histories, over all rules and every script. Each is the clause of a function that
+//! does nothing.
 
 ghost use Rattle.std.specs.Prelude.{◌≡◌, ◌≤◌, ℕ, List, All, Bool, true};
 ghost use Rattle.dhcp_clock.specs.declared.link.Packet.{Packet};
@@ -28,7 +29,8 @@ ghost use Rattle.dhcp_history.specs.Bounds.{
 
 use crate::Rules;
 
-/// What the calls and polls of a script report, event by event, is what the history of the script reports.
+/// What the calls and polls of a script report, event by event, is what the history of the script
+/// reports.
 pub fn polls_give_the_history<R: Rules>(rules: &R)
     ensures { Lawful (R.protocol rules.now) → (script : Script Packet R.State R.Exchange) →
         replay (R.protocol rules.now) script
@@ -37,8 +39,8 @@ pub fn polls_give_the_history<R: Rules>(rules: &R)
     let _rules = rules;
 }
 
-/// At an event a client is polled at most seven times, and changes its state at most six times; more polls than seven would
-/// do nothing more.
+/// At an event a client is polled at most seven times, and changes its state at most six times;
+/// more polls than seven would do nothing more.
 pub fn seven_polls_an_event<R: Rules>(rules: &R)
     ensures polls { Lawful (R.protocol rules.now) →
         (fuel : ℕ) (event : Event Packet) (client : View R.State R.Exchange) →
@@ -62,7 +64,8 @@ pub fn two_messages_an_event<R: Rules>(rules: &R)
     let _rules = rules;
 }
 
-/// In what a history reports, an event has at most two messages, and a third where it asks for a release.
+/// In what a history reports, an event has at most two messages, and a third where it asks for a
+/// release.
 pub fn two_messages_a_number<R: Rules>(rules: &R)
     ensures { Lawful (R.protocol rules.now) → (script : Script Packet R.State R.Exchange) (number : ℕ) →
         count_of (is_send_at number)
@@ -139,7 +142,8 @@ pub fn messages_are_far_apart<R: Rules>(rules: &R)
     let _rules = rules;
 }
 
-/// What holds of the first state at each moment, and of each state at its entry, holds of all stays.
+/// What holds of the first state at each moment, and of each state at its entry, holds of all
+/// stays.
 pub fn entries_hold<R: Rules>(rules: &R)
     ensures { (holds : R.State → ℕ → Bool) → HoldsAtEntries (R.protocol rules.now) holds →
         (script : Script Packet R.State R.Exchange) → ((now : ℕ) → holds script.state now ≡ true) →

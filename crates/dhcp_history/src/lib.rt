@@ -1,16 +1,20 @@
-//! The history of a DHCP client: whole stays with their attempts, and the machine that is polled
-//! and reports them. Both are defined once, for every family of client.
+//! The history of a DHCP client: whole stays with their attempts, and the machine that is polled and
+//! reports them. Both are defined once, for every family of client.
 #![tactic(auto)]
 
 mod client;
 mod event_loop;
 pub mod laws;
-pub mod machine;
+mod machine;
+mod release;
 mod rules;
+mod schedule;
 mod script;
 
 pub use client::{Client, Phase, Standing};
 pub use event_loop::{replay, run_event};
-pub use machine::{ReleaseError, RunError};
+pub use machine::{RunError, run};
+pub use release::{ReleaseError, clean_up, release_held};
 pub use rules::{AttemptStart, NewAttempt, Rules};
+pub use schedule::next_poll;
 pub use script::{Event, Failure, Input, Output, Report};

@@ -1,11 +1,11 @@
-//! The client as a machine that is polled: the seven steps of a poll, each in a function of its own, over any rules, words and
-//! link.
+//! The client as a machine that is polled: the seven steps of a poll, each in a function of its
+//! own, over any rules, words and link.
 
 ghost use Rattle.std.specs.Prelude.{◌≡◌, ◌≤◌, ◌<◌, ◌+◌, ◌^◌, ◌⊎◌, ◌&&◌, ◌||◌, ℕ, List, Bool, true, false, not, Option, Some, None, is_some, Ok, Err, OnOk, OnErr, IfOk, IfSome, IsSomeAnd};
 ghost use Rattle.dhcp_clock.specs.declared.link.Handed.{Handed};
 ghost use Rattle.dhcp_clock.specs.Link.{Shown, HandsOver, with_message, without_packet};
 ghost use Rattle.dhcp_wire.specs.Fault.{HasCause};
-ghost use Rattle.dhcp_history.specs.Protocol.{Lawful, has_come};
+ghost use Rattle.dhcp_history.specs.Protocol.{has_come};
 ghost use Rattle.dhcp_history.specs.History.{limit_moment, after_wait_if};
 ghost use Rattle.dhcp_history.specs.Machine.{
   is_unpolled,
@@ -20,39 +20,10 @@ ghost use Rattle.dhcp_history.specs.Machine.{
   receive,
   transmit_and_receive,
   poll,
-  clean_up,
 };
-ghost use Rattle.dhcp_history.specs.NextPoll.{
-  earlier,
-  next_moment,
-  next_poll,
-  HasNextAttempt,
-  IsIdle,
-  IsActive,
-};
-ghost use Rattle.dhcp_history.specs.Script.{Nothing};
+ghost use Rattle.dhcp_history.specs.Schedule.{HasNextAttempt};
 ghost use Rattle.dhcp_history.specs.Client.{view_of, view_with, unpolled};
-ghost use Rattle.dhcp_history.specs.Run.{
-  input_of,
-  sent_by,
-  UsesLink,
-  UnlessNoMemory,
-  OnNoMemory,
-  OnTimeout,
-  HasPolled,
-  HasReceived,
-  HasTransmitted,
-  HasDrawn,
-  quiet_poll,
-  HasPolledQuietly,
-  IsShut,
-  NeedsMemory,
-  IsUnsent,
-  IsSent,
-  UnlessUnreleased,
-  release_held,
-  HasReleased,
-};
+ghost use Rattle.dhcp_history.specs.Run.{input_of, sent_by, UsesLink, WhereKnown, UnlessNoMemory, OnNoMemory, OnTimeout, HasPolled, HasReceived, HasTransmitted, HasDrawn, quiet_poll, HasPolledQuietly, IsShut, NeedsMemory, IsUnsent, IsSent};
 
 use crate::{AttemptStart, Client, NewAttempt, Phase, Rules, Standing};
 use dhcp_clock::{DhcpLink, Handed, Sent, Words};
@@ -67,17 +38,8 @@ pub enum RunError {
     OutOfMemory,
 }
 
-/// Why a lease was not released.
-#[derive(Clone, Copy, Debug, PartialEq, Eq)]
-pub enum ReleaseError {
-    /// The link refused the message.
-    Refused,
-    /// Out of memory.
-    OutOfMemory,
-}
-
 // Sends a message as its kind asks.
-fn send<L: DhcpLink>(link: &mut L, message: Handed) -> Sent
+pub(crate) fn send<L: DhcpLink>(link: &mut L, message: Handed) -> Sent
     ensures hands_over { HandsOver message result (L.shown link.old) (L.shown link.new) }
     ensures faults { HasCause (result ≡ Sent.Refused) (L.faults link.old) (L.faults link.new) }
 {
@@ -99,7 +61,7 @@ fn has_come(now: u64, moment: Option<u64>) -> bool
 }
 
 // How a client stands that was not polled in its state yet.
-fn unpolled<X: Copy>(exchange: X) -> Standing<X>
+pub(crate) fn unpolled<X: Copy>(exchange: X) -> Standing<X>
     ensures { result ≡ unpolled exchange }
 {
     Standing {
@@ -150,7 +112,8 @@ fn is_wait_over<X: Copy>(standing: Standing<X>, now: u64) -> bool
     standing.phase == Phase::Listening && has_come(now, standing.deadline)
 }
 
-// Step 3: whether the state ends, since its moment has come or the wait of its last attempt is over.
+// Step 3: whether the state ends, since its moment has come or the wait of its last attempt is
+// over.
 fn has_ended<R: Rules>(rules: &R, client: &Client<R::State, R::Exchange>, now: u64) -> bool
     ensures { (drawn : List ℕ) →
         result ≡ has_ended (R.protocol rules.now) now (view_of client.now drawn) }
@@ -231,8 +194,8 @@ fn begin_stay<R: Rules, W: Words>(
     }
 }
 
-// Step 5: an attempt of a client that stands so once it was polled. When out of memory the client is
-// unchanged.
+// Step 5: an attempt of a client that stands so once it was polled. When out of memory the client
+// is unchanged.
 fn transmit<R: Rules, W: Words, L: DhcpLink>(
     rules: &R,
     client: &mut Client<R::State, R::Exchange>,
@@ -243,9 +206,9 @@ fn transmit<R: Rules, W: Words, L: DhcpLink>(
 ) -> Result<(), AllocError>
     requires moment { now < 2 ^ 60 }
     requires small { begun.entered < 2 ^ 60 }
-    ensures transmitted { OnOk result (IfSome (W.left words.old) (λ drawn. IfSome (L.shown link.old) (λ before.
+    ensures transmitted { OnOk result (WhereKnown (W.left words.old) (L.shown link.old) (λ drawn before.
         HasTransmitted (R.protocol rules.now) now (view_with client.old begun drawn)
-        (view_of client.new) (W.left words.new) before (L.shown link.new)))) }
+        (view_of client.new) (W.left words.new) before (L.shown link.new))) }
     ensures state { client.new.state ≡ client.old.state }
     ensures limit { client.new.limit ≡ client.old.limit }
     ensures moment { OnOk result (client.new.last_moment ≡ now) }
@@ -284,8 +247,8 @@ fn transmit<R: Rules, W: Words, L: DhcpLink>(
     Ok(())
 }
 
-// Steps 6 and 7: a client that listens takes the packet that waits. When out of memory the client is
-// unchanged, and the packet is lost.
+// Steps 6 and 7: a client that listens takes the packet that waits. When out of memory the client
+// is unchanged, and the packet is lost.
 fn receive<R: Rules, W: Words, L: DhcpLink>(
     rules: &R,
     client: &mut Client<R::State, R::Exchange>,
@@ -294,10 +257,10 @@ fn receive<R: Rules, W: Words, L: DhcpLink>(
     link: &mut L,
 ) -> Result<Option<R::PublicState>, AllocError>
     requires { now < 2 ^ 60 }
-    ensures received { IfOk result (λ change. IfSome (W.left words.old) (λ drawn. IfSome (L.shown link.old) (λ before.
+    ensures received { IfOk result (λ change. WhereKnown (W.left words.old) (L.shown link.old) (λ drawn before.
         HasReceived (R.protocol rules.now)
         (receive (R.protocol rules.now) now (input_of before.waiting) None (view_of client.old drawn))
-        change (view_of client.new) (W.left words.new) before (L.shown link.new)))) }
+        change (view_of client.new) (W.left words.new) before (L.shown link.new))) }
     ensures limit { client.new.limit ≡ client.old.limit }
     ensures moment { client.new.last_moment ≡ client.old.last_moment }
     ensures state { OnErr result (client.new.state ≡ client.old.state) }
@@ -342,11 +305,11 @@ fn receive_early<R: Rules, W: Words, L: DhcpLink>(
     requires small { begun.entered < 2 ^ 60 }
     requires early { has_come now begun.deadline ≡ false }
     requires open { is_listening begun.phase ≡ true → begun ≡ client.old.standing }
-    ensures polled { UnlessNoMemory result (IfSome (W.left words.old) (λ drawn. IfSome (L.shown link.old) (λ before.
+    ensures polled { UnlessNoMemory result (WhereKnown (W.left words.old) (L.shown link.old) (λ drawn before.
         HasPolled (R.protocol rules.now)
         (transmit_and_receive (R.protocol rules.now) now before.refuses (input_of before.waiting)
         (view_with client.old begun drawn))
-        result (view_of client.new) (W.left words.new) before (L.shown link.new)))) }
+        result (view_of client.new) (W.left words.new) before (L.shown link.new))) }
     ensures shut { is_listening begun.phase ≡ false → IsShut result client.new client.old.state begun
         (W.left words.old) (W.left words.new) (L.shown link.old) (L.shown link.new)
         (L.faults link.old) (L.faults link.new) }
@@ -372,8 +335,8 @@ fn receive_early<R: Rules, W: Words, L: DhcpLink>(
     }
 }
 
-// A poll whose attempt is due: the attempt, and then the packet, for a client that stands so once it
-// was polled.
+// A poll whose attempt is due: the attempt, and then the packet, for a client that stands so once
+// it was polled.
 fn transmit_due<R: Rules, W: Words, L: DhcpLink>(
     rules: &R,
     client: &mut Client<R::State, R::Exchange>,
@@ -385,11 +348,11 @@ fn transmit_due<R: Rules, W: Words, L: DhcpLink>(
     requires moment { now < 2 ^ 60 }
     requires small { begun.entered < 2 ^ 60 }
     requires due { has_come now begun.deadline ≡ true }
-    ensures polled { UnlessNoMemory result (IfSome (W.left words.old) (λ drawn. IfSome (L.shown link.old) (λ before.
+    ensures polled { UnlessNoMemory result (WhereKnown (W.left words.old) (L.shown link.old) (λ drawn before.
         HasPolled (R.protocol rules.now)
         (transmit_and_receive (R.protocol rules.now) now before.refuses (input_of before.waiting)
         (view_with client.old begun drawn))
-        result (view_of client.new) (W.left words.new) before (L.shown link.new)))) }
+        result (view_of client.new) (W.left words.new) before (L.shown link.new))) }
     ensures limit { client.new.limit ≡ client.old.limit }
     ensures moment { UnlessNoMemory result (client.new.last_moment ≡ now) }
     ensures in_time { OnTimeout result ⊥ }
@@ -413,8 +376,8 @@ fn transmit_due<R: Rules, W: Words, L: DhcpLink>(
     }
 }
 
-/// One poll, in seven steps: a kept error, the time limit, the end of the state, the pause, an attempt,
-/// the wait of a refused attempt, the packet.
+/// One poll, in seven steps: a kept error, the time limit, the end of the state, the pause, an
+/// attempt, the wait of a refused attempt, the packet.
 pub fn run<R: Rules, W: Words, L: DhcpLink>(
     rules: &R,
     client: &mut Client<R::State, R::Exchange>,
@@ -423,10 +386,10 @@ pub fn run<R: Rules, W: Words, L: DhcpLink>(
     link: &mut L,
 ) -> Result<Option<R::PublicState>, RunError>
     requires { now < 2 ^ 60 }
-    ensures polled { UnlessNoMemory result (IfSome (W.left words.old) (λ drawn. IfSome (L.shown link.old) (λ before.
+    ensures polled { UnlessNoMemory result (WhereKnown (W.left words.old) (L.shown link.old) (λ drawn before.
         HasPolled (R.protocol rules.now)
         (poll (R.protocol rules.now) now before.refuses (input_of before.waiting) (view_of client.old drawn))
-        result (view_of client.new) (W.left words.new) before (L.shown link.new)))) }
+        result (view_of client.new) (W.left words.new) before (L.shown link.new))) }
     ensures quiet { (drawn : List ℕ) →
         IfSome (quiet_poll (R.protocol rules.now) now (view_of client.old drawn)) (λ once.
         HasPolledQuietly (R.protocol rules.now) once result (view_of client.new drawn)
@@ -468,109 +431,4 @@ pub fn run<R: Rules, W: Words, L: DhcpLink>(
         return transmit_due(rules, client, begun, now, words, link);
     }
     receive_early(rules, client, begun, now, words, link)
-}
-
-// The earlier of two moments, where there are any.
-fn earlier(first: Option<u64>, second: Option<u64>) -> Option<u64>
-    ensures { result ≡ earlier first second }
-{
-    match (first, second) {
-        (None, second) => second,
-        (first, None) => first,
-        (Some(first), Some(second)) => Some(first.min(second)),
-    }
-}
-
-// The moment at which the time limit of the state is over.
-fn limit_moment<R: Rules>(rules: &R, client: &Client<R::State, R::Exchange>) -> Option<u64>
-    ensures { result ≡ limit_moment (R.protocol rules.now)
-        client.now.limit client.now.standing.entered client.now.state }
-{
-    if client.limit == 0 || !rules.has_time_limit(&client.state) {
-        return None;
-    }
-    Some(client.standing.entered + 1000 * client.limit as u64)
-}
-
-// The next attempt, the end of the state or that of the time limit, whichever comes first.
-fn next_moment<R: Rules>(rules: &R, client: &Client<R::State, R::Exchange>) -> Option<u64>
-    ensures { result ≡ next_moment (R.protocol rules.now) client.now }
-{
-    let end = earlier(
-        rules.ending_moment(&client.state),
-        limit_moment(rules, client),
-    );
-    earlier(client.standing.deadline, end)
-}
-
-/// The moment at which a poll next does something without a packet, in milliseconds. Before it a poll
-/// without a packet does nothing; at or after it a poll answers a change or the error, sends, or begins a
-/// pause. It is none where the client has stopped, or nothing lies ahead in its state.
-pub fn next_poll<R: Rules>(rules: &R, client: &Client<R::State, R::Exchange>) -> Option<u64>
-    ensures moment { result ≡ next_poll (R.protocol rules.now) client.now }
-    ensures before { Lawful (R.protocol rules.now) → (now : ℕ) (refuse : Bool) (drawn : List ℕ) →
-        is_stopped client.now.standing.phase ≡ false → client.now.last_moment ≤ now →
-        has_come now result ≡ false →
-        IsIdle (R.protocol rules.now) now (view_of client.now drawn)
-        (poll (R.protocol rules.now) now refuse Nothing (view_of client.now drawn)) }
-    ensures after { (now : ℕ) (refuse : Bool) (drawn : List ℕ) → has_come now result ≡ true →
-        IsActive (view_of client.now drawn)
-        (poll (R.protocol rules.now) now refuse Nothing (view_of client.now drawn)) }
-{
-    match client.standing.phase {
-        Phase::Stopped => None,
-        Phase::Unpolled => {
-            if rules.has_attempts(&client.state) {
-                Some(client.last_moment)
-            } else {
-                rules.ending_moment(&client.state)
-            }
-        }
-        Phase::Pausing => next_moment(rules, client),
-        Phase::Listening => next_moment(rules, client),
-        Phase::Resting => next_moment(rules, client),
-    }
-}
-
-/// Drops lease, attempt and error.
-pub fn clean_up<R: Rules>(rules: &R, client: &mut Client<R::State, R::Exchange>)
-    ensures client { (drawn : List ℕ) →
-        view_of client.new drawn ≡ clean_up (R.protocol rules.now) (view_of client.old drawn) }
-    ensures limit { client.new.limit ≡ client.old.limit }
-    ensures moment { client.new.last_moment ≡ client.old.last_moment }
-{
-    let mut exchange = client.standing.exchange;
-    rules.after_clean_up(&mut client.state, &mut exchange);
-    client.standing = unpolled(exchange);
-}
-
-/// Releases the lease that is held, and cleans up where the link took the message; returns false where no
-/// lease is held.
-pub fn release_held<R: Rules, L: DhcpLink>(
-    rules: &R,
-    client: &mut Client<R::State, R::Exchange>,
-    link: &mut L,
-) -> Result<bool, ReleaseError>
-    ensures released { UnlessUnreleased result (IfSome (L.shown link.old) (λ before. (drawn : List ℕ) →
-        HasReleased (release_held (R.protocol rules.now) before.refuses (view_of client.old drawn))
-        result (view_of client.new drawn) before (L.shown link.new))) }
-    ensures limit { client.new.limit ≡ client.old.limit }
-    ensures moment { client.new.last_moment ≡ client.old.last_moment }
-    ensures state { OnErr result (client.new.state ≡ client.old.state) }
-    ensures standing { OnErr result (client.new.standing ≡ client.old.standing) }
-    ensures faults { HasCause (result ≡ Err ReleaseError.Refused)
-        (L.faults link.old) (L.faults link.new) }
-{
-    let message = match rules.release_message(&client.state, client.standing.exchange) {
-        Ok(None) => return Ok(false),
-        Ok(Some(message)) => message,
-        Err(_) => return Err(ReleaseError::OutOfMemory),
-    };
-    match send(link, message) {
-        Sent::Taken => {}
-        Sent::Refused => return Err(ReleaseError::Refused),
-        Sent::NoMemory => return Err(ReleaseError::OutOfMemory),
-    }
-    clean_up(rules, client);
-    Ok(true)
 }

@@ -3,8 +3,7 @@
 ghost use Rattle.std.specs.Prelude.{◌≡◌, ◌<◌, ◌^◌, Bool, false, None, Ok, option_map, IfOk, OnOk, OnErr};
 ghost use Rattle.dhcp_clock.specs.declared.link.Handed.{Handed};
 ghost use Rattle.dhcp_clock.specs.declared.link.Packet.{Packet};
-ghost use Rattle.dhcp_history.specs.Drawing.{Draws};
-ghost use Rattle.dhcp_history.specs.Client.{IsNext};
+ghost use Rattle.dhcp_history.specs.Rules.{Draws, IsNext};
 ghost use Rattle.dhcp_history.specs.Protocol.{Protocol};
 
 use dhcp_clock::{Handed, Packet, Words};

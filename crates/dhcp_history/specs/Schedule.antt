@@ -34,9 +34,9 @@ module _ {PublicState Packet Message State Exchange Answer Lease : Type 0}
       (earlier (p.ending_moment client.state)
       (limit_moment p client.limit client.standing.entered client.state))
 
-  -- The moment of the next poll that does something. A client that was not polled in its state is polled
-  -- at once where it sends there, and else at the end of the state. A client that has stopped does
-  -- nothing any more.
+  -- The moment of the next poll that does something. A client that was not polled in its state is
+  -- polled at once where it sends there, and else at the end of the state. A client that has
+  -- stopped does nothing any more.
   abbrev pub next_poll_in : Phase → Client State Exchange → Option ℕ
   next_poll_in Stopped client = None
   next_poll_in Unpolled client =
@@ -48,8 +48,8 @@ module _ {PublicState Packet Message State Exchange Answer Lease : Type 0}
   abbrev pub next_poll : Client State Exchange → Option ℕ
   next_poll client = next_poll_in client.standing.phase client
 
-  -- A poll that answers nothing, sends nothing and draws nothing. It leaves the client as it was, but
-  -- that it may have been the first poll in a state.
+  -- A poll that answers nothing, sends nothing and draws nothing. It leaves the client as it was,
+  -- but that it may have been the first poll in a state.
   pub record IsIdle (now : ℕ) (view : View State Exchange)
       (once : PollEffect Packet Message State Exchange) : Type 0 where
     pub does : once ≡ record {

@@ -1,7 +1,7 @@
 use Rattle.std.proofs.Common.{refl}
 use Rattle.dhcp_history.specs.Client.{view_of}
 use Rattle.dhcp_history.proofs.Running.{release_sent}
-use Rattle.dhcp_history.proofs.machine.release_held.Goals as goal
+use Rattle.dhcp_history.proofs.release.release_held.Goals as goal
 
 pub returns-clause-released : goal.returns-clause-released
 returns-clause-released g c =

@@ -1,0 +1,63 @@
+//! The release of a lease, and the clean-up.
+
+ghost use Rattle.std.specs.Prelude.{◌≡◌, ℕ, List, Err, OnErr, IfSome};
+ghost use Rattle.dhcp_wire.specs.Fault.{HasCause};
+ghost use Rattle.dhcp_history.specs.Machine.{clean_up};
+ghost use Rattle.dhcp_history.specs.Client.{view_of};
+ghost use Rattle.dhcp_history.specs.Release.{UnlessUnreleased, release_held, HasReleased};
+
+use crate::machine::{send, unpolled};
+use crate::{Client, Rules};
+use dhcp_clock::{DhcpLink, Sent};
+
+/// Why a lease was not released.
+#[derive(Clone, Copy, Debug, PartialEq, Eq)]
+pub enum ReleaseError {
+    /// The link refused the message.
+    Refused,
+    /// Out of memory.
+    OutOfMemory,
+}
+
+/// Drops lease, attempt and error.
+pub fn clean_up<R: Rules>(rules: &R, client: &mut Client<R::State, R::Exchange>)
+    ensures client { (drawn : List ℕ) →
+        view_of client.new drawn ≡ clean_up (R.protocol rules.now) (view_of client.old drawn) }
+    ensures limit { client.new.limit ≡ client.old.limit }
+    ensures moment { client.new.last_moment ≡ client.old.last_moment }
+{
+    let mut exchange = client.standing.exchange;
+    rules.after_clean_up(&mut client.state, &mut exchange);
+    client.standing = unpolled(exchange);
+}
+
+/// Releases the lease that is held, and cleans up where the link took the message; returns false
+/// where no lease is held.
+pub fn release_held<R: Rules, L: DhcpLink>(
+    rules: &R,
+    client: &mut Client<R::State, R::Exchange>,
+    link: &mut L,
+) -> Result<bool, ReleaseError>
+    ensures released { UnlessUnreleased result (IfSome (L.shown link.old) (λ before. (drawn : List ℕ) →
+        HasReleased (release_held (R.protocol rules.now) before.refuses (view_of client.old drawn))
+        result (view_of client.new drawn) before (L.shown link.new))) }
+    ensures limit { client.new.limit ≡ client.old.limit }
+    ensures moment { client.new.last_moment ≡ client.old.last_moment }
+    ensures state { OnErr result (client.new.state ≡ client.old.state) }
+    ensures standing { OnErr result (client.new.standing ≡ client.old.standing) }
+    ensures faults { HasCause (result ≡ Err ReleaseError.Refused)
+        (L.faults link.old) (L.faults link.new) }
+{
+    let message = match rules.release_message(&client.state, client.standing.exchange) {
+        Ok(None) => return Ok(false),
+        Ok(Some(message)) => message,
+        Err(_) => return Err(ReleaseError::OutOfMemory),
+    };
+    match send(link, message) {
+        Sent::Taken => {}
+        Sent::Refused => return Err(ReleaseError::Refused),
+        Sent::NoMemory => return Err(ReleaseError::OutOfMemory),
+    }
+    clean_up(rules, client);
+    Ok(true)
+}

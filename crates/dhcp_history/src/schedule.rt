@@ -1,0 +1,73 @@
+//! When a client next does something without a packet.
+
+ghost use Rattle.std.specs.Prelude.{◌≡◌, ◌≤◌, ℕ, List, Bool, true, false};
+ghost use Rattle.dhcp_history.specs.Protocol.{Lawful, has_come};
+ghost use Rattle.dhcp_history.specs.Script.{Nothing};
+ghost use Rattle.dhcp_history.specs.History.{limit_moment};
+ghost use Rattle.dhcp_history.specs.Machine.{is_stopped, poll};
+ghost use Rattle.dhcp_history.specs.Client.{view_of};
+ghost use Rattle.dhcp_history.specs.Schedule.{earlier, next_moment, next_poll, IsIdle, IsActive};
+
+use crate::{Client, Phase, Rules};
+
+// The earlier of two moments, where there are any.
+fn earlier(first: Option<u64>, second: Option<u64>) -> Option<u64>
+    ensures { result ≡ earlier first second }
+{
+    match (first, second) {
+        (None, second) => second,
+        (first, None) => first,
+        (Some(first), Some(second)) => Some(first.min(second)),
+    }
+}
+
+// The moment at which the time limit of the state is over.
+fn limit_moment<R: Rules>(rules: &R, client: &Client<R::State, R::Exchange>) -> Option<u64>
+    ensures { result ≡ limit_moment (R.protocol rules.now)
+        client.now.limit client.now.standing.entered client.now.state }
+{
+    if client.limit == 0 || !rules.has_time_limit(&client.state) {
+        return None;
+    }
+    Some(client.standing.entered + 1000 * client.limit as u64)
+}
+
+// The next attempt, the end of the state or that of the time limit, whichever comes first.
+fn next_moment<R: Rules>(rules: &R, client: &Client<R::State, R::Exchange>) -> Option<u64>
+    ensures { result ≡ next_moment (R.protocol rules.now) client.now }
+{
+    let end = earlier(
+        rules.ending_moment(&client.state),
+        limit_moment(rules, client),
+    );
+    earlier(client.standing.deadline, end)
+}
+
+/// The moment at which a poll next does something without a packet, in milliseconds. Before it a
+/// poll without a packet does nothing; at or after it a poll answers a change or the error, sends,
+/// or begins a pause. It is none where the client has stopped, or nothing lies ahead in its state.
+pub fn next_poll<R: Rules>(rules: &R, client: &Client<R::State, R::Exchange>) -> Option<u64>
+    ensures moment { result ≡ next_poll (R.protocol rules.now) client.now }
+    ensures before { Lawful (R.protocol rules.now) → (now : ℕ) (refuse : Bool) (drawn : List ℕ) →
+        is_stopped client.now.standing.phase ≡ false → client.now.last_moment ≤ now →
+        has_come now result ≡ false →
+        IsIdle (R.protocol rules.now) now (view_of client.now drawn)
+        (poll (R.protocol rules.now) now refuse Nothing (view_of client.now drawn)) }
+    ensures after { (now : ℕ) (refuse : Bool) (drawn : List ℕ) → has_come now result ≡ true →
+        IsActive (view_of client.now drawn)
+        (poll (R.protocol rules.now) now refuse Nothing (view_of client.now drawn)) }
+{
+    match client.standing.phase {
+        Phase::Stopped => None,
+        Phase::Unpolled => {
+            if rules.has_attempts(&client.state) {
+                Some(client.last_moment)
+            } else {
+                rules.ending_moment(&client.state)
+            }
+        }
+        Phase::Pausing => next_moment(rules, client),
+        Phase::Listening => next_moment(rules, client),
+        Phase::Resting => next_moment(rules, client),
+    }
+}
