@@ -116,7 +116,8 @@ taken_count attempts = count_of (λ attempt. not attempt.refused) attempts
 -- is over, or later
 abbrev pub Apart : {Message : Type 0} → ℕ → List (Attempt Message) → Type 0
 Apart due [] = Unit {0}
-Apart due (attempt ∷ attempts) = (due ≤ attempt.moment) × Apart (attempt.moment + attempt.wait) attempts
+Apart due (attempt ∷ attempts) =
+    (due ≤ attempt.moment) × Apart (attempt.moment + attempt.wait) attempts
 
 abbrev pub IsApart : {State Message : Type 0} → Stay State Message → Type 0
 IsApart stay = Apart stay.setting.entered (attempts_of stay.acts)

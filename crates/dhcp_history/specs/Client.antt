@@ -5,7 +5,8 @@ use Rattle.dhcp_history.specs.declared.client.Standing.{Standing}
 use Rattle.dhcp_history.specs.Machine.{View, Unpolled}
 
 -- a client that stands so in its state, with these words left
-abbrev pub view_with : {State Exchange : Type 0} → Client State Exchange → Standing Exchange → List ℕ → View State Exchange
+abbrev pub view_with : {State Exchange : Type 0} → Client State Exchange → Standing Exchange →
+    List ℕ → View State Exchange
 view_with client standing words = record {
   state = client.state;
   exchange = standing.exchange;
@@ -17,7 +18,8 @@ view_with client standing words = record {
 }
 
 -- a client, with these words left
-abbrev pub view_of : {State Exchange : Type 0} → Client State Exchange → List ℕ → View State Exchange
+abbrev pub view_of : {State Exchange : Type 0} → Client State Exchange → List ℕ →
+    View State Exchange
 view_of client words = view_with client client.standing words
 
 -- how a client stands that was not polled in its state yet

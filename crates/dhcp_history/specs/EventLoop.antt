@@ -25,7 +25,8 @@ abbrev pub release_outputs : {PublicState : Type 0} → ℕ → Bool → Option 
     Result Bool ReleaseError → List (Output PublicState Handed)
 release_outputs number refuse handed (Ok released) = handed_output number refuse handed
 release_outputs number refuse handed (Err error) =
-    handed_output number refuse handed ++ record { event = number; report = Failed SendRefused } ∷ []
+    handed_output number refuse handed ++
+    record { event = number; report = Failed SendRefused } ∷ []
 
 -- what is reported of a poll, after the message that was handed in it
 abbrev pub poll_outputs : {PublicState : Type 0} → ℕ → Bool → Option Handed →
@@ -61,8 +62,9 @@ module _ {PublicState State Exchange Answer Lease : Type 0}
 
   -- what one poll of the loop leaves: whether another follows, what is reported, the client, the
   -- words and the packet that waits
-  pub record HasPolledOnce (number : ℕ) (refuse : Bool) (once : PollEffect Packet Handed State Exchange)
-      (result : Bool) (before after : List (Output PublicState Handed))
+  pub record HasPolledOnce (number : ℕ) (refuse : Bool)
+      (once : PollEffect Packet Handed State Exchange) (result : Bool)
+      (before after : List (Output PublicState Handed))
       (view : List ℕ → View State Exchange) (left : Option (List ℕ)) (packet : Option Packet) :
       Type 0 where
     pub again : result ≡ is_some once.change

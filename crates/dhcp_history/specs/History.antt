@@ -10,12 +10,14 @@ abbrev pub is_at_or_past : {Packet : Type 0} → Option ℕ → Event Packet →
 is_at_or_past moment event = has_come event.moment moment
 
 -- the events before the first that passes the test
-abbrev pub before : {Packet : Type 0} → (Event Packet → Bool) → List (Event Packet) → List (Event Packet)
+abbrev pub before : {Packet : Type 0} → (Event Packet → Bool) → List (Event Packet) →
+    List (Event Packet)
 before test [] = []
 before test (event ∷ events) = if test event then [] else event ∷ before test events
 
 -- the events from the first that passes the test on
-abbrev pub from : {Packet : Type 0} → (Event Packet → Bool) → List (Event Packet) → List (Event Packet)
+abbrev pub from : {Packet : Type 0} → (Event Packet → Bool) → List (Event Packet) →
+    List (Event Packet)
 from test [] = []
 from test (event ∷ events) = if test event then event ∷ events else from test events
 
@@ -235,14 +237,16 @@ module _ {PublicState Packet Message State Exchange Answer Lease : Type 0}
   reading_of state exchange words CleanUp = record { value = None; words = words }
 
   -- an open attempt reads the packet, a refused one or none does not
-  abbrev pub reading_if : Bool → Setting State → Exchange → List ℕ → Input Packet → Drawn (Option Answer)
+  abbrev pub reading_if : Bool → Setting State → Exchange → List ℕ → Input Packet →
+      Drawn (Option Answer)
   reading_if true setting exchange words input = reading_of setting.state exchange words input
   reading_if false setting exchange words input = record { value = None; words = words }
 
   -- what the packets of these events answer to the last attempt, which is open or not
   abbrev pub hear : Setting State → Exchange → Bool → List ℕ → List (Event Packet) →
       Heard Packet Message Answer
-  hear setting exchange listens words [] = record { answer = None; rest = []; words = words; acts = [] }
+  hear setting exchange listens words [] =
+      record { answer = None; rest = []; words = words; acts = [] }
   hear setting exchange listens words (event ∷ events) =
       let read = reading_if listens setting exchange words event.input in
       answer_or read.value read.words (refused_release setting exchange event) (event ∷ events)
@@ -264,7 +268,8 @@ module _ {PublicState Packet Message State Exchange Answer Lease : Type 0}
       is_open progress.last && p.is_last_attempt setting.state progress.exchange
 
   -- the attempt that is made at this moment
-  abbrev pub new_attempt_at : Setting State → Progress Exchange → ℕ → Drawn (NewAttempt Exchange Message)
+  abbrev pub new_attempt_at : Setting State → Progress Exchange → ℕ →
+      Drawn (NewAttempt Exchange Message)
   new_attempt_at setting progress moment =
       p.attempt setting.state (exchange_after progress)
       (record { is_first = is_none_yet progress.last; entered = setting.entered; now = moment })
@@ -412,8 +417,9 @@ module _ {PublicState Packet Message State Exchange Answer Lease : Type 0}
       List (Event Packet) → Transition Packet Message State Exchange
   close true over setting finish event later = cut setting finish (event ∷ later)
   close false true setting finish event later =
+      let stopped = before (cuts setting) (event ∷ later) in
       record (cut setting finish (from (cuts setting) (event ∷ later))) {
-        acts = flat_map (limit_acts setting finish.exchange) (before (cuts setting) (event ∷ later));
+        acts = flat_map (limit_acts setting finish.exchange) stopped;
       }
   close false false setting finish event later = end_at setting finish (event ∷ later)
 
@@ -457,7 +463,8 @@ module _ {PublicState Packet Message State Exchange Answer Lease : Type 0}
       }
 
   -- a stay that is cut at its entry draws nothing
-  abbrev pub entry_progress : Setting State → Entry State Exchange → Event Packet → Progress Exchange
+  abbrev pub entry_progress : Setting State → Entry State Exchange → Event Packet →
+      Progress Exchange
   entry_progress setting entry event =
       if cuts setting event
       then record { last = NoneYet; due = None; exchange = entry.exchange; words = entry.words }
@@ -512,7 +519,8 @@ module _ {PublicState Packet Message State Exchange Answer Lease : Type 0}
   abbrev pub closing_outputs : Closing State Message → List (Output PublicState Message)
   closing_outputs Lasts = []
   closing_outputs (Cut event None) = []
-  closing_outputs (Cut event (Some message)) = record { event = event; report = Handed message } ∷ []
+  closing_outputs (Cut event (Some message)) =
+      record { event = event; report = Handed message } ∷ []
   closing_outputs (Answered event next) =
       record { event = event; report = Changed (p.public_state next) } ∷ []
   closing_outputs (Ended event next) =

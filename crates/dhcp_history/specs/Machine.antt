@@ -252,7 +252,8 @@ module _ {PublicState Packet Message State Exchange Answer Lease : Type 0}
       let more = again (record event { input = once.left }) once.view in
       record {
         outputs = handed_output event.number event.refuse once.handed ++
-            (record { event = event.number; report = Changed (p.public_state next) } ∷ more.outputs);
+            (record { event = event.number; report = Changed (p.public_state next) } ∷
+            more.outputs);
         view = more.view;
       }
 
@@ -293,7 +294,8 @@ module _ {PublicState Packet Message State Exchange Answer Lease : Type 0}
   call_by Release event view = release_of (p.held_lease view.state) event view
   call_by CleanUp event view = record { outputs = []; view = clean_up view }
 
-  abbrev pub call : Event Packet → View State Exchange → EventEffect PublicState Message State Exchange
+  abbrev pub call : Event Packet → View State Exchange →
+      EventEffect PublicState Message State Exchange
   call event view = call_by event.input event view
 
   -- 4. A script.

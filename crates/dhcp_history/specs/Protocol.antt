@@ -54,7 +54,8 @@ has_come now (Some moment) = nat_le moment now
 pub record Lawful {PublicState Packet Message State Exchange Answer Lease : Type 0}
     (p : Protocol PublicState Packet Message State Exchange Answer Lease) : Type 0 where
   -- every wait is at least a millisecond
-  pub wait_positive : (state : State) (exchange : Exchange) (start : AttemptStart) (words : List ℕ) →
+  pub wait_positive : (state : State) (exchange : Exchange) (start : AttemptStart)
+      (words : List ℕ) →
       has_come start.now (p.ending_moment state) ≡ false →
       0 < (p.attempt state exchange start words).value.wait
   -- a wait is over by the moment at which the state ends

@@ -39,7 +39,8 @@ handed_by refuse None handed = handed
 handed_by refuse (Some message) handed = handed ++ (message, sent_by refuse) ∷ []
 
 -- what a link shows after a poll
-abbrev pub shown_after : {State Exchange : Type 0} → Shown → PollEffect Packet Handed State Exchange → Shown
+abbrev pub shown_after : {State Exchange : Type 0} → Shown →
+    PollEffect Packet Handed State Exchange → Shown
 shown_after before once = record {
   refuses = before.refuses;
   waiting = waiting_of once.left;
@@ -91,7 +92,8 @@ module _ {PublicState State Exchange Answer Lease : Type 0}
   answer_by None true = Err run.TimedOut
   answer_by None false = Ok None
 
-  abbrev pub answer_of : PollEffect Packet Handed State Exchange → Result (Option PublicState) RunError
+  abbrev pub answer_of : PollEffect Packet Handed State Exchange →
+      Result (Option PublicState) RunError
   answer_of once = answer_by once.change once.failed
 
   -- a client that neither sends nor listens: its pause, or the wait of a refused attempt, is not
@@ -118,7 +120,8 @@ module _ {PublicState State Exchange Answer Lease : Type 0}
   -- what such a poll leaves: its answer and the client; words and link are as they were
   pub record HasPolledQuietly (once : PollEffect Packet Handed State Exchange)
       (result : Result (Option PublicState) RunError) (view : View State Exchange)
-      (drawn left : Option (List ℕ)) (before after : Option Shown) (failed failed' : ℕ) : Type 0 where
+      (drawn left : Option (List ℕ)) (before after : Option Shown) (failed failed' : ℕ) :
+      Type 0 where
     pub answer : result ≡ answer_of once
     pub client : view ≡ once.view
     pub words : left ≡ drawn
@@ -147,15 +150,17 @@ module _ {PublicState State Exchange Answer Lease : Type 0}
   pub record HasTransmitted (now : ℕ) (first : View State Exchange)
       (view : List ℕ → View State Exchange) (left : Option (List ℕ)) (before : Shown)
       (after : Option Shown) : Type 0 where
-    pub client : view (transmit p now before.refuses first).words ≡ transmit p now before.refuses first
+    pub client : view (transmit p now before.refuses first).words ≡
+        transmit p now before.refuses first
     pub words : left ≡ Some (transmit p now before.refuses first).words
     pub link : after ≡
         Some (with_message (attempt_now p now first).value.message (sent_by before.refuses) before)
 
   -- Out of memory came right after the attempt of a client that was `first`: the link took the
   -- message, and the client listens.
-  pub record IsSent (now : ℕ) (first : List ℕ → View State Exchange) (client : Client State Exchange)
-      (drawn : Option (List ℕ)) (before after : Option Shown) : Type 0 where
+  pub record IsSent (now : ℕ) (first : List ℕ → View State Exchange)
+      (client : Client State Exchange) (drawn : Option (List ℕ))
+      (before after : Option Shown) : Type 0 where
     pub listens : is_listening client.standing.phase ≡ true
     pub moment : client.last_moment ≡ now
     pub view : IfSome drawn (λ words. IfSome before (λ shown.

@@ -13,7 +13,8 @@ earlier (Some first) None = Some first
 earlier (Some first) (Some second) = Some (min first second)
 
 -- a client in a state in which it sends has a next attempt, once it was polled there
-abbrev pub HasNextAttempt : {State Exchange : Type 0} → (State → Bool) → Client State Exchange → Type 0
+abbrev pub HasNextAttempt : {State Exchange : Type 0} → (State → Bool) → Client State Exchange →
+    Type 0
 HasNextAttempt has_attempts client =
     is_unpolled client.standing.phase ≡ false → has_attempts client.state ≡ true →
     is_some client.standing.deadline ≡ true

@@ -50,7 +50,8 @@ pub fn seven_polls_an_event<R: Rules>(rules: &R)
         count_of is_change (polls (R.protocol rules.now) fuel event client).outputs ≤ 6 }
     ensures enough { Lawful (R.protocol rules.now) →
         (fuel : ℕ) (event : Event Packet) (client : View R.State R.Exchange) → 7 ≤ fuel →
-        polls (R.protocol rules.now) fuel event client ≡ polls (R.protocol rules.now) 7 event client }
+        polls (R.protocol rules.now) fuel event client
+        ≡ polls (R.protocol rules.now) 7 event client }
 {
     let _rules = rules;
 }
@@ -67,7 +68,8 @@ pub fn two_messages_an_event<R: Rules>(rules: &R)
 /// In what a history reports, an event has at most two messages, and a third where it asks for a
 /// release.
 pub fn two_messages_a_number<R: Rules>(rules: &R)
-    ensures { Lawful (R.protocol rules.now) → (script : Script Packet R.State R.Exchange) (number : ℕ) →
+    ensures { Lawful (R.protocol rules.now) →
+        (script : Script Packet R.State R.Exchange) (number : ℕ) →
         count_of (is_send_at number)
         (outputs (R.protocol rules.now) (history (R.protocol rules.now) script))
         ≤ allowed number script.events }
@@ -77,7 +79,8 @@ pub fn two_messages_a_number<R: Rules>(rules: &R)
 
 /// What a history reports stay by stay is in the order of events.
 pub fn reports_are_in_order<R: Rules>(rules: &R)
-    ensures { Lawful (R.protocol rules.now) → (script : Script Packet R.State R.Exchange) (least : ℕ) →
+    ensures { Lawful (R.protocol rules.now) →
+        (script : Script Packet R.State R.Exchange) (least : ℕ) →
         Numbered least script.events →
         InOrder least (outputs (R.protocol rules.now) (history (R.protocol rules.now) script)) }
 {
@@ -86,8 +89,10 @@ pub fn reports_are_in_order<R: Rules>(rules: &R)
 
 /// After the polls of an event a client without a kept error is not past the end of its state.
 pub fn no_state_is_overdue<R: Rules>(rules: &R)
-    ensures { Lawful (R.protocol rules.now) → (event : Event Packet) (client : View R.State R.Exchange) →
-        IsWithinState (R.protocol rules.now) event.moment (polls (R.protocol rules.now) 7 event client).view }
+    ensures { Lawful (R.protocol rules.now) →
+        (event : Event Packet) (client : View R.State R.Exchange) →
+        IsWithinState (R.protocol rules.now) event.moment
+        (polls (R.protocol rules.now) 7 event client).view }
 {
     let _rules = rules;
 }

@@ -1,5 +1,5 @@
-//! The history of a DHCP client: whole stays with their attempts, and the machine that is polled and
-//! reports them. Both are defined once, for every family of client.
+//! The history of a DHCP client: whole stays with their attempts, and the machine that is polled
+//! and reports them. Both are defined once, for every family of client.
 #![tactic(auto)]
 
 mod client;

@@ -143,7 +143,8 @@ fn end_state<R: Rules>(
 ) -> R::PublicState
     ensures client { (drawn : List ℕ) → view_of client.new drawn
         ≡ enter ((R.protocol rules.now).after_end client.old.state
-        (exchange_at (R.protocol rules.now) now (view_of client.old drawn))) (view_of client.old drawn) }
+        (exchange_at (R.protocol rules.now) now (view_of client.old drawn)))
+        (view_of client.old drawn) }
     ensures reported { result ≡ (R.protocol rules.now).public_state client.new.state }
     ensures unpolled { is_unpolled client.new.standing.phase ≡ true }
     ensures limit { client.new.limit ≡ client.old.limit }
@@ -206,14 +207,17 @@ fn transmit<R: Rules, W: Words, L: DhcpLink>(
 ) -> Result<(), AllocError>
     requires moment { now < 2 ^ 60 }
     requires small { begun.entered < 2 ^ 60 }
-    ensures transmitted { OnOk result (WhereKnown (W.left words.old) (L.shown link.old) (λ drawn before.
+    ensures transmitted { OnOk result (WhereKnown
+        (W.left words.old) (L.shown link.old) (λ drawn before.
         HasTransmitted (R.protocol rules.now) now (view_with client.old begun drawn)
         (view_of client.new) (W.left words.new) before (L.shown link.new))) }
     ensures state { client.new.state ≡ client.old.state }
     ensures limit { client.new.limit ≡ client.old.limit }
     ensures moment { OnOk result (client.new.last_moment ≡ now) }
-    ensures unchanged { OnErr result (IsUnsent client.old client.new (L.shown link.old) (L.shown link.new)) }
-    ensures quiet { OnErr result (IfSome (L.shown link.old) (λ before. L.shown link.new ≡ Some before)) }
+    ensures unchanged { OnErr result (IsUnsent client.old client.new
+        (L.shown link.old) (L.shown link.new)) }
+    ensures quiet { OnErr result (IfSome (L.shown link.old)
+        (λ before. L.shown link.new ≡ Some before)) }
     ensures sent { OnOk result (IfSome (L.shown link.old) (λ before. (message : Handed)
         × (L.shown link.new ≡ Some (with_message message (sent_by before.refuses) before)))) }
     ensures armed { OnOk result (is_some client.new.standing.deadline ≡ true) }
@@ -257,16 +261,20 @@ fn receive<R: Rules, W: Words, L: DhcpLink>(
     link: &mut L,
 ) -> Result<Option<R::PublicState>, AllocError>
     requires { now < 2 ^ 60 }
-    ensures received { IfOk result (λ change. WhereKnown (W.left words.old) (L.shown link.old) (λ drawn before.
+    ensures received { IfOk result (λ change. WhereKnown
+        (W.left words.old) (L.shown link.old) (λ drawn before.
         HasReceived (R.protocol rules.now)
-        (receive (R.protocol rules.now) now (input_of before.waiting) None (view_of client.old drawn))
+        (receive (R.protocol rules.now) now (input_of before.waiting) None
+        (view_of client.old drawn))
         change (view_of client.new) (W.left words.new) before (L.shown link.new))) }
     ensures limit { client.new.limit ≡ client.old.limit }
     ensures moment { client.new.last_moment ≡ client.old.last_moment }
     ensures state { OnErr result (client.new.state ≡ client.old.state) }
     ensures standing { OnErr result (client.new.standing ≡ client.old.standing) }
-    ensures needed { OnErr result (NeedsMemory (R.needs_memory rules.now) client.old (L.shown link.old)) }
-    ensures stays { ((client.new.standing ≡ client.old.standing) × (client.new.state ≡ client.old.state))
+    ensures needed { OnErr result (NeedsMemory (R.needs_memory rules.now)
+        client.old (L.shown link.old)) }
+    ensures stays { ((client.new.standing ≡ client.old.standing)
+        × (client.new.state ≡ client.old.state))
         ⊎ (is_unpolled client.new.standing.phase ≡ true) }
     ensures shut { is_listening client.old.standing.phase ≡ false → IsShut result client.new
         client.old.state client.old.standing (W.left words.old) (W.left words.new)
@@ -305,22 +313,27 @@ fn receive_early<R: Rules, W: Words, L: DhcpLink>(
     requires small { begun.entered < 2 ^ 60 }
     requires early { has_come now begun.deadline ≡ false }
     requires open { is_listening begun.phase ≡ true → begun ≡ client.old.standing }
-    ensures polled { UnlessNoMemory result (WhereKnown (W.left words.old) (L.shown link.old) (λ drawn before.
+    ensures polled { UnlessNoMemory result (WhereKnown
+        (W.left words.old) (L.shown link.old) (λ drawn before.
         HasPolled (R.protocol rules.now)
         (transmit_and_receive (R.protocol rules.now) now before.refuses (input_of before.waiting)
         (view_with client.old begun drawn))
         result (view_of client.new) (W.left words.new) before (L.shown link.new))) }
-    ensures shut { is_listening begun.phase ≡ false → IsShut result client.new client.old.state begun
+    ensures shut { is_listening begun.phase ≡ false → IsShut result client.new
+        client.old.state begun
         (W.left words.old) (W.left words.new) (L.shown link.old) (L.shown link.new)
         (L.faults link.old) (L.faults link.new) }
     ensures limit { client.new.limit ≡ client.old.limit }
     ensures moment { UnlessNoMemory result (client.new.last_moment ≡ now) }
     ensures in_time { OnTimeout result ⊥ }
     ensures state { OnErr result (client.new.state ≡ client.old.state) }
-    ensures needed { OnErr result (NeedsMemory (R.needs_memory rules.now) client.old (L.shown link.old)) }
-    ensures armed { ((R.protocol rules.now).has_attempts client.old.state ≡ true → is_some begun.deadline ≡ true) →
+    ensures needed { OnErr result (NeedsMemory (R.needs_memory rules.now)
+        client.old (L.shown link.old)) }
+    ensures armed { ((R.protocol rules.now).has_attempts client.old.state ≡ true →
+        is_some begun.deadline ≡ true) →
         HasNextAttempt (R.protocol rules.now).has_attempts client.new }
-    ensures unsent { OnErr result (IsUnsent client.old client.new (L.shown link.old) (L.shown link.new)) }
+    ensures unsent { OnErr result (IsUnsent client.old client.new
+        (L.shown link.old) (L.shown link.new)) }
     ensures uses { IfSome (L.shown link.old) (λ before. IsSomeAnd (L.shown link.new) (λ after.
         UsesLink (is_listening begun.phase) before after)) }
     ensures later { L.faults link.old ≤ L.faults link.new }
@@ -348,7 +361,8 @@ fn transmit_due<R: Rules, W: Words, L: DhcpLink>(
     requires moment { now < 2 ^ 60 }
     requires small { begun.entered < 2 ^ 60 }
     requires due { has_come now begun.deadline ≡ true }
-    ensures polled { UnlessNoMemory result (WhereKnown (W.left words.old) (L.shown link.old) (λ drawn before.
+    ensures polled { UnlessNoMemory result (WhereKnown
+        (W.left words.old) (L.shown link.old) (λ drawn before.
         HasPolled (R.protocol rules.now)
         (transmit_and_receive (R.protocol rules.now) now before.refuses (input_of before.waiting)
         (view_with client.old begun drawn))
@@ -357,7 +371,8 @@ fn transmit_due<R: Rules, W: Words, L: DhcpLink>(
     ensures moment { UnlessNoMemory result (client.new.last_moment ≡ now) }
     ensures in_time { OnTimeout result ⊥ }
     ensures state { OnErr result (client.new.state ≡ client.old.state) }
-    ensures memory { OnErr result (IsUnsent client.old client.new (L.shown link.old) (L.shown link.new)
+    ensures memory { OnErr result (IsUnsent client.old client.new
+        (L.shown link.old) (L.shown link.new)
         ⊎ IsSent (R.protocol rules.now) now (view_with client.old begun) client.new
         (W.left words.old) (L.shown link.old) (L.shown link.new)) }
     ensures armed { HasNextAttempt (R.protocol rules.now).has_attempts client.old →
@@ -386,10 +401,16 @@ pub fn run<R: Rules, W: Words, L: DhcpLink>(
     link: &mut L,
 ) -> Result<Option<R::PublicState>, RunError>
     requires { now < 2 ^ 60 }
-    ensures polled { UnlessNoMemory result (WhereKnown (W.left words.old) (L.shown link.old) (λ drawn before.
+
+    // where words and link are known, this is the poll of the protocol
+    ensures polled { UnlessNoMemory result (WhereKnown
+        (W.left words.old) (L.shown link.old) (λ drawn before.
         HasPolled (R.protocol rules.now)
-        (poll (R.protocol rules.now) now before.refuses (input_of before.waiting) (view_of client.old drawn))
+        (poll (R.protocol rules.now) now before.refuses (input_of before.waiting)
+        (view_of client.old drawn))
         result (view_of client.new) (W.left words.new) before (L.shown link.new))) }
+
+    // over all words and links: the steps that use neither, and what is never touched
     ensures quiet { (drawn : List ℕ) →
         IfSome (quiet_poll (R.protocol rules.now) now (view_of client.old drawn)) (λ once.
         HasPolledQuietly (R.protocol rules.now) once result (view_of client.new drawn)
@@ -399,17 +420,22 @@ pub fn run<R: Rules, W: Words, L: DhcpLink>(
         (is_stopped client.old.standing.phase ||
         limit_is_over (R.protocol rules.now) now (view_of client.old drawn)) ≡ true) }
     ensures limit { client.new.limit ≡ client.old.limit }
+    ensures armed { HasNextAttempt (R.protocol rules.now).has_attempts client.old →
+        HasNextAttempt (R.protocol rules.now).has_attempts client.new }
     ensures moment { UnlessNoMemory result (client.new.last_moment ≡ now) }
     ensures state { OnErr result (client.new.state ≡ client.old.state) }
-    ensures memory { OnNoMemory result (IsUnsent client.old client.new (L.shown link.old) (L.shown link.new)
+
+    // out of memory: as at entry, or right after the send
+    ensures memory { OnNoMemory result (IsUnsent client.old client.new
+        (L.shown link.old) (L.shown link.new)
         ⊎ IsSent (R.protocol rules.now) now
         (λ drawn. begin_stay (R.protocol rules.now) now (view_of client.old drawn)) client.new
         (W.left words.old) (L.shown link.old) (L.shown link.new)) }
     ensures needed { OnNoMemory result (is_unpolled client.old.standing.phase ≡ false →
         has_come now client.old.standing.deadline ≡ false → NeedsMemory (R.needs_memory rules.now)
         client.old (L.shown link.old)) }
-    ensures armed { HasNextAttempt (R.protocol rules.now).has_attempts client.old →
-        HasNextAttempt (R.protocol rules.now).has_attempts client.new }
+
+    // one message and one packet at most
     ensures uses { IfSome (L.shown link.old) (λ before. IsSomeAnd (L.shown link.new) (λ after.
         UsesLink (is_listening client.old.standing.phase) before after)) }
     ensures later { L.faults link.old ≤ L.faults link.new }

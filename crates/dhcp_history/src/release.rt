@@ -38,7 +38,8 @@ pub fn release_held<R: Rules, L: DhcpLink>(
     client: &mut Client<R::State, R::Exchange>,
     link: &mut L,
 ) -> Result<bool, ReleaseError>
-    ensures released { UnlessUnreleased result (IfSome (L.shown link.old) (λ before. (drawn : List ℕ) →
+    ensures released { UnlessUnreleased result
+        (IfSome (L.shown link.old) (λ before. (drawn : List ℕ) →
         HasReleased (release_held (R.protocol rules.now) before.refuses (view_of client.old drawn))
         result (view_of client.new drawn) before (L.shown link.new))) }
     ensures limit { client.new.limit ≡ client.old.limit }
