@@ -303,21 +303,21 @@ module _ {PublicState Packet Message State Exchange Answer Lease : Type 0} (p : 
   module _ (Holds : Setting State → List (Attempt Message) → Type 0)
       (each : (fuel : ℕ) (setting : Setting State) (entry : Entry State Exchange) (v : Event Packet) (vs : List (Event Packet)) → setting.state ≡ entry.state → setting.entered ≡ v.moment →
       Holds setting (attempts_of (course p fuel setting (entry_progress p setting entry v) (before (closes p setting) (v ∷ vs))).acts)) where
-    stays_have : (fuel limit : ℕ) (entry : Entry State Exchange) (events : List (Event Packet)) → AllByRecursion (λ stay. Holds stay.setting (attempts_of stay.acts)) (stays p fuel limit entry events)
-    stays_have fuel limit entry [] = tt
-    stays_have zero limit entry (v ∷ vs) = tt
-    stays_have (suc fuel) limit entry (v ∷ vs) =
-        let setting : Setting State = setting_at limit entry v.moment in
+    stays_have : (fuel timeout_sec : ℕ) (entry : Entry State Exchange) (events : List (Event Packet)) → AllByRecursion (λ stay. Holds stay.setting (attempts_of stay.acts)) (stays p fuel timeout_sec entry events)
+    stays_have fuel timeout_sec entry [] = tt
+    stays_have zero timeout_sec entry (v ∷ vs) = tt
+    stays_have (suc fuel) timeout_sec entry (v ∷ vs) =
+        let setting : Setting State = setting_at timeout_sec entry v.moment in
         let run : Course Packet Message Exchange Answer = course p (suc (length (v ∷ vs))) setting (entry_progress p setting entry v) (before (closes p setting) (v ∷ vs)) in
         let next : Transition Packet Message State Exchange = transition p setting run.finish (from (closes p setting) (v ∷ vs)) in
         let same : attempts_of (run.acts ++ next.acts) ≡ attempts_of run.acts =
         attempts-append run.acts next.acts ∙ (ap (λ (more : List (Attempt Message)). attempts_of run.acts ++ more) (none_turned setting run.finish (from (closes p setting) (v ∷ vs))) ∙ append-nil (attempts_of run.acts)) in (
           subst (λ (attempts : List (Attempt Message)). Holds setting attempts) (sym same) (each (suc (length (v ∷ vs))) setting entry v vs refl refl),
-          stays_have fuel limit next.entry next.events,
+          stays_have fuel timeout_sec next.entry next.events,
         )
 
     history_has : (script : Script Packet State Exchange) → AllByRecursion (λ stay. Holds stay.setting (attempts_of stay.acts)) (history p script)
-    history_has script = stays_have (8 * (length script.events + 1)) script.limit (record { state = script.state; exchange = script.exchange; words = script.words }) script.events
+    history_has script = stays_have (8 * (length script.events + 1)) script.timeout_sec (record { state = script.state; exchange = script.exchange; words = script.words }) script.events
 
   -- the attempts of each stay are at least their waits apart
   pub history_apart : (script : Script Packet State Exchange) → AllByRecursion IsApart (history p script)
@@ -364,7 +364,7 @@ module _ {PublicState Packet Message State Exchange Answer Lease : Type 0} (p : 
 
   -- successive attempts of a stay are so far apart as the waits of its state
   module _ (good : Exchange → Bool) (is_kept : IsKept p good) (setting : Setting State) (distance : ℕ) (distant : Distant p good setting.state distance) where
-    -- from this moment on the next attempt may stand, and then what is remembered passes the test
+    -- from this moment on the next attempt may stand, and then the exchange passes the test
     abbrev Next : ℕ → Progress Exchange → Type 0
     Next due progress = (now : ℕ) → has_come now (p.ending_moment setting.state) ≡ false → has_come now progress.due ≡ true → (due ≤ now) × (good progress.exchange ≡ true)
 
@@ -470,12 +470,12 @@ module _ {PublicState Packet Message State Exchange Answer Lease : Type 0} (p : 
         go true e = rw e g
         go false e = rw e g
 
-    stays_far : (fuel limit : ℕ) (entry : Entry State Exchange) (events : List (Event Packet)) → (events ≡ []) ⊎ (good entry.exchange ≡ true) → AllByRecursion (IsDistant p good) (stays p fuel limit entry events)
-    stays_far fuel limit entry [] g = tt
-    stays_far zero limit entry (v ∷ vs) g = tt
-    stays_far (suc fuel) limit entry (v ∷ vs) (inl none) = absurd (cc none)
-    stays_far (suc fuel) limit entry (v ∷ vs) (inr g) =
-        let setting : Setting State = setting_at limit entry v.moment in
+    stays_far : (fuel timeout_sec : ℕ) (entry : Entry State Exchange) (events : List (Event Packet)) → (events ≡ []) ⊎ (good entry.exchange ≡ true) → AllByRecursion (IsDistant p good) (stays p fuel timeout_sec entry events)
+    stays_far fuel timeout_sec entry [] g = tt
+    stays_far zero timeout_sec entry (v ∷ vs) g = tt
+    stays_far (suc fuel) timeout_sec entry (v ∷ vs) (inl none) = absurd (cc none)
+    stays_far (suc fuel) timeout_sec entry (v ∷ vs) (inr g) =
+        let setting : Setting State = setting_at timeout_sec entry v.moment in
         let progress : Progress Exchange = entry_progress p setting entry v in
         let run : Course Packet Message Exchange Answer = course p (suc (length (v ∷ vs))) setting progress (before (closes p setting) (v ∷ vs)) in
         let next : Transition Packet Message State Exchange = transition p setting run.finish (from (closes p setting) (v ∷ vs)) in
@@ -484,11 +484,11 @@ module _ {PublicState Packet Message State Exchange Answer Lease : Type 0} (p : 
           (λ distance distant. subst (λ (attempts : List (Attempt Message)). FarApart distance v.moment attempts) (sym same)
               (course_far good is_kept setting distance distant (suc (length (v ∷ vs))) progress (before (closes p setting) (v ∷ vs)) (window_lasts good is_kept setting distance distant (v ∷ vs)) v.moment
               (entry_next setting distance distant entry v g))),
-          stays_far fuel limit next.entry next.events (turn_good setting run.finish (from (closes p setting) (v ∷ vs))),
+          stays_far fuel timeout_sec next.entry next.events (turn_good setting run.finish (from (closes p setting) (v ∷ vs))),
         )
 
     pub history_far : (script : Script Packet State Exchange) → good script.exchange ≡ true → AllByRecursion (IsDistant p good) (history p script)
-    history_far script g = stays_far (8 * (length script.events + 1)) script.limit (record { state = script.state; exchange = script.exchange; words = script.words }) script.events (inr g)
+    history_far script g = stays_far (8 * (length script.events + 1)) script.timeout_sec (record { state = script.state; exchange = script.exchange; words = script.words }) script.events (inr g)
 
   -- and so are the messages that the link took
   far_sooner : (distance least more : ℕ) (attempts : List (Attempt Message)) → least ≤ more → FarApart distance more attempts → FarApart distance least attempts

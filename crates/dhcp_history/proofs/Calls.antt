@@ -17,7 +17,7 @@ module _ {PublicState Packet Message State Exchange Answer Lease : Type 0} (p : 
 
   -- what the stays report from a clean-up at this event on
   abbrev cut_stays : ℕ → ℕ → Exchange → List ℕ → Event Packet → List (Event Packet) → List (Output PublicState Message)
-  cut_stays fuel limit exchange words v vs = outputs p (stays p fuel limit (entry_of_next (p.after_clean_up exchange) words) (after_call v ∷ vs))
+  cut_stays fuel timeout_sec exchange words v vs = outputs p (stays p fuel timeout_sec (entry_of_next (p.after_clean_up exchange) words) (after_call v ∷ vs))
 
   call_cut : (view : View State Exchange) (v : Event Packet) → cuts p (setting_of p view) v ≡ true → call p v view ≡ record { outputs = cut_outputs (setting_of p view) view.exchange v; view = clean_up p view }
   call_cut view v e = by_what v.input e
@@ -55,30 +55,30 @@ module _ {PublicState Packet Message State Exchange Answer Lease : Type 0} (p : 
 
   -- an event that cuts a stay
   rest_cut : (fuel steps : ℕ) (view : View State Exchange) (v : Event Packet) (vs : List (Event Packet)) → cuts p (setting_of p view) v ≡ true →
-      rest p fuel steps view (v ∷ vs) ≡ cut_outputs (setting_of p view) view.exchange v ++ cut_stays fuel view.limit view.exchange view.words v vs
+      rest p fuel steps view (v ∷ vs) ≡ cut_outputs (setting_of p view) view.exchange v ++ cut_stays fuel view.timeout_sec view.exchange view.words v vs
   rest_cut fuel steps view v vs e =
       let setting : Setting State = setting_of p view in
       let over : closes p setting v ≡ true = rw e in
       rw (before_hit (closes p setting) v vs over, from_hit (closes p setting) v vs over, none_left p steps setting (progress_of p view), e)
 
   broken_cut : (fuel : ℕ) (view : View State Exchange) (v : Event Packet) (vs : List (Event Packet)) → cuts p (setting_of p view) v ≡ true →
-      stopped_rest p fuel view (v ∷ vs) ≡ cut_outputs (setting_of p view) view.exchange v ++ cut_stays fuel view.limit view.exchange view.words v vs
+      stopped_rest p fuel view (v ∷ vs) ≡ cut_outputs (setting_of p view) view.exchange v ++ cut_stays fuel view.timeout_sec view.exchange view.words v vs
   broken_cut fuel view v vs e =
       let setting : Setting State = setting_of p view in
       rw (before_hit (cuts p setting) v vs e, from_hit (cuts p setting) v vs e)
 
   cut_reported : (fuel steps : ℕ) (setting : Setting State) (progress : Progress Exchange) (v : Event Packet) (vs : List (Event Packet)) → cuts p setting v ≡ true →
       reported p fuel setting (course p steps setting progress (before (closes p setting) (v ∷ vs))) (from (closes p setting) (v ∷ vs)) ≡
-      cut_outputs setting progress.exchange v ++ cut_stays fuel setting.limit progress.exchange progress.words v vs
+      cut_outputs setting progress.exchange v ++ cut_stays fuel setting.timeout_sec progress.exchange progress.words v vs
   cut_reported fuel steps setting progress v vs e =
       let over : closes p setting v ≡ true = rw e in
       rw (before_hit (closes p setting) v vs over, from_hit (closes p setting) v vs over, none_left p steps setting progress, e)
 
   -- a client that is cut before its first poll
   fresh_cut : (fuel : ℕ) (view : View State Exchange) (v : Event Packet) (vs : List (Event Packet)) → cuts p (setting_of p view) v ≡ true →
-      outputs p (stays p (suc fuel) view.limit (entry_of p view) (v ∷ vs)) ≡ cut_outputs (setting_of p view) view.exchange v ++ cut_stays fuel view.limit view.exchange view.words v vs
+      outputs p (stays p (suc fuel) view.timeout_sec (entry_of p view) (v ∷ vs)) ≡ cut_outputs (setting_of p view) view.exchange v ++ cut_stays fuel view.timeout_sec view.exchange view.words v vs
   fresh_cut fuel view v vs e =
-      let setting : Setting State = setting_at view.limit (entry_of p view) v.moment in
+      let setting : Setting State = setting_at view.timeout_sec (entry_of p view) v.moment in
       let progress : Progress Exchange = record { last = NoneYet; due = None; exchange = view.exchange; words = view.words } in
       let progress_cut : entry_progress p setting (entry_of p view) v ≡ progress = rw e in
       stay_reported p fuel setting (course p (suc (length (v ∷ vs))) setting (entry_progress p setting (entry_of p view) v) (before (closes p setting) (v ∷ vs)))
@@ -114,7 +114,7 @@ module _ {PublicState Packet Message State Exchange Answer Lease : Type 0} (p : 
     abbrev cut_later : Finish Packet Exchange Answer → List (Output PublicState Message)
     cut_later finish =
         let next : Transition Packet Message State Exchange = cut p the_setting finish (from (cuts p the_setting) vs) in
-        closing_outputs p next.closing ++ outputs p (stays p fuel the_setting.limit next.entry next.events)
+        closing_outputs p next.closing ++ outputs p (stays p fuel the_setting.timeout_sec next.entry next.events)
 
     broken_uncut_in : cuts p the_setting release_at ≡ false →
         stopped_rest p fuel view (release_at ∷ vs) ≡ flat_map (act_outputs p) (refused_release p the_setting view.exchange release_at) ++ stopped_rest p fuel view (quiet_at ∷ vs)
@@ -212,7 +212,7 @@ module _ {PublicState Packet Message State Exchange Answer Lease : Type 0} (p : 
     few_changes state input = lawful.rank_bound state (has_packet input)
 
     cut_follows : (fuel : ℕ) (view : View State Exchange) → 8 * suc (length vs) ≤ suc fuel → cuts p (setting_of p view) v ≡ true →
-        cut_outputs (setting_of p view) view.exchange v ++ cut_stays (suc fuel) view.limit view.exchange view.words v vs ≡ replay_from p view (v ∷ vs)
+        cut_outputs (setting_of p view) view.exchange v ++ cut_stays (suc fuel) view.timeout_sec view.exchange view.words v vs ≡ replay_from p view (v ∷ vs)
     cut_follows fuel view enough_fuel e =
         rw (call_cut view v e) (ap (λ (more : List (Output PublicState Message)). cut_outputs (setting_of p view) view.exchange v ++ more)
         (fresh_follows p lawful vs later 7 fuel (after_call v) (clean_up p view) (called_calm v.input) refl
@@ -239,10 +239,10 @@ module _ {PublicState Packet Message State Exchange Answer Lease : Type 0} (p : 
             (broken_follows p lawful vs later 6 (suc fuel) (after_call v) view (called_calm v.input) b (omega arith)))
 
     fresh_event : (fuel : ℕ) (view : View State Exchange) → view.phase ≡ Unpolled → 8 * suc (length vs) ≤ suc fuel →
-        outputs p (stays p (suc (suc fuel)) view.limit (entry_of p view) (v ∷ vs)) ≡ replay_from p view (v ∷ vs)
+        outputs p (stays p (suc (suc fuel)) view.timeout_sec (entry_of p view) (v ∷ vs)) ≡ replay_from p view (v ∷ vs)
     fresh_event fuel view fresh enough_fuel = go (cuts p (setting_of p view) v) refl
       where
-        go : (b : Bool) → cuts p (setting_of p view) v ≡ b → outputs p (stays p (suc (suc fuel)) view.limit (entry_of p view) (v ∷ vs)) ≡ replay_from p view (v ∷ vs)
+        go : (b : Bool) → cuts p (setting_of p view) v ≡ b → outputs p (stays p (suc (suc fuel)) view.timeout_sec (entry_of p view) (v ∷ vs)) ≡ replay_from p view (v ∷ vs)
         go true e = fresh_cut (suc fuel) view v vs e ∙ cut_follows fuel view enough_fuel e
         go false e =
             let begun_view : View State Exchange = begin_stay p v.moment view in
@@ -284,7 +284,7 @@ module _ {PublicState Packet Message State Exchange Answer Lease : Type 0} (p : 
         first : Entry State Exchange
         first = record { state = script.state; exchange = script.exchange; words = script.words }
 
-        go : (events : List (Event Packet)) (fuel : ℕ) → 8 * (length events + 1) ≡ fuel → replay_from p (first_view script) events ≡ outputs p (stays p fuel script.limit first events)
+        go : (events : List (Event Packet)) (fuel : ℕ) → 8 * (length events + 1) ≡ fuel → replay_from p (first_view script) events ≡ outputs p (stays p fuel script.timeout_sec first events)
         go [] fuel e = refl
         go (v ∷ vs) zero e = absurd (omega arith)
         go (v ∷ vs) (suc zero) e = absurd (omega arith)

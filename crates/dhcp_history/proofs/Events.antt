@@ -145,17 +145,17 @@ module _ {PublicState Packet Message State Exchange Answer Lease : Type 0} (p : 
     on_holds : (view : View State Exchange) → Holds (poll_on p now refuse input view)
     on_holds view = by_phase (is_stopped view.phase) refl
       where
-        by_end : is_stopped view.phase ≡ false → has_come now (limit_moment p view.limit view.entered view.state) ≡ false → (b : Bool) → has_ended p now view ≡ b → Holds (poll_on p now refuse input view)
+        by_end : is_stopped view.phase ≡ false → has_come now (limit_moment p view.timeout_sec view.entered view.state) ≡ false → (b : Bool) → has_ended p now view ≡ b → Holds (poll_on p now refuse input view)
         by_end b f true e = rw (poll_ended p now refuse input view b f e) (by_ended view)
         by_end b f false e = rw (poll_tried p now refuse input view b f e) (by_tried view e)
 
-        by_limit : is_stopped view.phase ≡ false → (b : Bool) → has_come now (limit_moment p view.limit view.entered view.state) ≡ b → Holds (poll_on p now refuse input view)
+        by_limit : is_stopped view.phase ≡ false → (b : Bool) → has_come now (limit_moment p view.timeout_sec view.entered view.state) ≡ b → Holds (poll_on p now refuse input view)
         by_limit b true f = rw (poll_failed p now refuse input view b f) (by_broken view)
         by_limit b false f = by_end b f (has_ended p now view) refl
 
         by_phase : (b : Bool) → is_stopped view.phase ≡ b → Holds (poll_on p now refuse input view)
         by_phase true b = rw (poll_broken p now refuse input view b) (by_broken view)
-        by_phase false b = by_limit b (has_come now (limit_moment p view.limit view.entered view.state)) refl
+        by_phase false b = by_limit b (has_come now (limit_moment p view.timeout_sec view.entered view.state)) refl
 
     poll_holds : (view : View State Exchange) → Holds (poll p now refuse input view)
     poll_holds view = subst Holds (sym (poll_begun p lawful now refuse input view)) (on_holds (begin_stay p now view))

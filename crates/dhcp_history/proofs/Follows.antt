@@ -37,7 +37,7 @@ module _ {PublicState Packet Message State Exchange Answer Lease : Type 0} (p : 
   abbrev pub poll_on : ℕ → Bool → Input Packet → View State Exchange → PollEffect Packet Message State Exchange
   poll_on now refuse input view =
       if is_stopped view.phase then stop input view
-      else (if has_come now (limit_moment p view.limit view.entered view.state) then stop input view
+      else (if has_come now (limit_moment p view.timeout_sec view.entered view.state) then stop input view
       else (if has_ended p now view then end_state p now input view
       else transmit_and_receive p now refuse input view))
 
@@ -45,10 +45,10 @@ module _ {PublicState Packet Message State Exchange Answer Lease : Type 0} (p : 
   pub poll_begun : Lawful p → (now : ℕ) (refuse : Bool) (input : Input Packet) (view : View State Exchange) → poll p now refuse input view ≡ poll_on now refuse input (begin_stay p now view)
   poll_begun lawful now refuse input view = by_phase view.phase
     where
-      not_over : (limited : Bool) (limit : ℕ) → has_come now (limit_after limited limit now) ≡ false
-      not_over false limit = refl
+      not_over : (limited : Bool) (timeout_sec : ℕ) → has_come now (limit_after limited timeout_sec now) ≡ false
+      not_over false timeout_sec = refl
       not_over true zero = refl
-      not_over true (suc limit) = lt-leb (now + 1000 * suc limit) now (omega arith)
+      not_over true (suc timeout_sec) = lt-leb (now + 1000 * suc timeout_sec) now (omega arith)
 
       fresh : View State Exchange
       fresh = record view { phase = Unpolled }
@@ -57,8 +57,8 @@ module _ {PublicState Packet Message State Exchange Answer Lease : Type 0} (p : 
       same e = ap (λ (words : List ℕ). end_state p now input (record fresh { words = words })) (sym (lawful.ended_draws_none view.state view.exchange view.words now e))
 
       by_end : (b : Bool) → has_come now (p.ending_moment view.state) ≡ b → poll p now refuse input fresh ≡ poll_on now refuse input (begin_stay p now fresh)
-      by_end true e = rw (not_over (p.has_time_limit view.state) view.limit, e) (same e)
-      by_end false e = rw (not_over (p.has_time_limit view.state) view.limit, e)
+      by_end true e = rw (not_over (p.has_time_limit view.state) view.timeout_sec, e) (same e)
+      by_end false e = rw (not_over (p.has_time_limit view.state) view.timeout_sec, e)
 
       by_phase : (phase : Phase) → poll p now refuse input (record view { phase = phase }) ≡ poll_on now refuse input (begin_stay p now (record view { phase = phase }))
       by_phase Unpolled = by_end (has_come now (p.ending_moment view.state)) refl
@@ -71,15 +71,15 @@ module _ {PublicState Packet Message State Exchange Answer Lease : Type 0} (p : 
   pub poll_broken : (now : ℕ) (refuse : Bool) (input : Input Packet) (view : View State Exchange) → is_stopped view.phase ≡ true → poll_on now refuse input view ≡ stop input view
   poll_broken now refuse input view b = rw b
 
-  pub poll_failed : (now : ℕ) (refuse : Bool) (input : Input Packet) (view : View State Exchange) → is_stopped view.phase ≡ false → has_come now (limit_moment p view.limit view.entered view.state) ≡ true →
+  pub poll_failed : (now : ℕ) (refuse : Bool) (input : Input Packet) (view : View State Exchange) → is_stopped view.phase ≡ false → has_come now (limit_moment p view.timeout_sec view.entered view.state) ≡ true →
       poll_on now refuse input view ≡ stop input view
   poll_failed now refuse input view b f = rw (b, f)
 
-  pub poll_ended : (now : ℕ) (refuse : Bool) (input : Input Packet) (view : View State Exchange) → is_stopped view.phase ≡ false → has_come now (limit_moment p view.limit view.entered view.state) ≡ false →
+  pub poll_ended : (now : ℕ) (refuse : Bool) (input : Input Packet) (view : View State Exchange) → is_stopped view.phase ≡ false → has_come now (limit_moment p view.timeout_sec view.entered view.state) ≡ false →
       has_ended p now view ≡ true → poll_on now refuse input view ≡ end_state p now input view
   poll_ended now refuse input view b f e = rw (b, f, e)
 
-  pub poll_tried : (now : ℕ) (refuse : Bool) (input : Input Packet) (view : View State Exchange) → is_stopped view.phase ≡ false → has_come now (limit_moment p view.limit view.entered view.state) ≡ false →
+  pub poll_tried : (now : ℕ) (refuse : Bool) (input : Input Packet) (view : View State Exchange) → is_stopped view.phase ≡ false → has_come now (limit_moment p view.timeout_sec view.entered view.state) ≡ false →
       has_ended p now view ≡ false → poll_on now refuse input view ≡ transmit_and_receive p now refuse input view
   poll_tried now refuse input view b f e = rw (b, f, e)
 
@@ -93,7 +93,7 @@ module _ {PublicState Packet Message State Exchange Answer Lease : Type 0} (p : 
       go Resting e = refl
       go Stopped e = refl
 
-  -- what is remembered at the ending moment: the wait of an open attempt is over by then
+  -- the exchange at the ending moment: the wait of an open attempt is over by then
   exchange_ended : (now : ℕ) (view : View State Exchange) → IsBegun p view → has_come now (p.ending_moment view.state) ≡ true → exchange_at p now view ≡ exchange_after p (progress_of p view)
   exchange_ended now view is_begun come = go view.phase refl
     where
@@ -126,7 +126,7 @@ module _ {PublicState Packet Message State Exchange Answer Lease : Type 0} (p : 
 
   -- a poll that finds the state at its end goes on with the next state
   moved_on : (fuel : ℕ) (view : View State Exchange) (v : Event Packet) (vs : List (Event Packet)) (exchange : Exchange) (all : List (Output PublicState Message)) →
-      exchange_at p v.moment view ≡ exchange → all ≡ moved p fuel view.limit v (p.after_end view.state exchange) view.words (v ∷ vs) →
+      exchange_at p v.moment view ≡ exchange → all ≡ moved p fuel view.timeout_sec v (p.after_end view.state exchange) view.words (v ∷ vs) →
       Reports p fuel v vs all (end_state p v.moment v.input view)
   moved_on fuel view v vs exchange all e h = subst (λ (once : PollEffect Packet Message State Exchange). Reports p fuel v vs all once) (sym (ended_as v.moment v.input view exchange e)) h
 
@@ -142,12 +142,12 @@ module _ {PublicState Packet Message State Exchange Answer Lease : Type 0} (p : 
           rw (poll_ended v.moment v.refuse v.input view is_begun.works f over)
           (moved_on fuel view v vs (p.after_wait view.exchange) (rest p fuel (suc (suc steps)) view (v ∷ vs))
           (exchange_over v.moment view (first_of (is_wait_over p v.moment view) (p.is_last_attempt view.state view.exchange) l))
-          (ran_out_follows p lawful fuel (suc steps) view.state view.limit view.entered v vs plain later (omega arith) enough_fuel view.exchange view.deadline view.words
+          (ran_out_follows p lawful fuel (suc steps) view.state view.timeout_sec view.entered v vs plain later (omega arith) enough_fuel view.exchange view.deadline view.words
           (closes_ended p (setting_of p view) v vs plain f ∙ e) e view.phase l))
       by_last f e false l =
           let lasts : has_ended p v.moment view ≡ false = rw (e, l) in
           rw (poll_tried v.moment v.refuse v.input view is_begun.works f lasts)
-          (tried_follows p lawful fuel steps view.state view.limit view.entered v vs plain later enough enough_fuel view.exchange view.deadline view.words
+          (tried_follows p lawful fuel steps view.state view.timeout_sec view.entered v vs plain later enough enough_fuel view.exchange view.deadline view.words
           (closes_ended p (setting_of p view) v vs plain f ∙ e) e view.phase is_begun l)
 
       by_end : overruns p (setting_of p view) v ≡ false → (b : Bool) → ends p (setting_of p view) v ≡ b → Reports p fuel v vs (rest p fuel (suc (suc steps)) view (v ∷ vs)) (poll_on v.moment v.refuse v.input view)
@@ -222,7 +222,7 @@ module _ {PublicState Packet Message State Exchange Answer Lease : Type 0} (p : 
         (poll_on now refuse input view).change ≡ Some next → Moves view.state input (poll_on now refuse input view)
     poll_moves now refuse input view next moves = by_phase (is_stopped view.phase) refl
       where
-        by_end : is_stopped view.phase ≡ false → has_come now (limit_moment p view.limit view.entered view.state) ≡ false → (b : Bool) → has_ended p now view ≡ b → Moves view.state input (poll_on now refuse input view)
+        by_end : is_stopped view.phase ≡ false → has_come now (limit_moment p view.timeout_sec view.entered view.state) ≡ false → (b : Bool) → has_ended p now view ≡ b → Moves view.state input (poll_on now refuse input view)
         by_end b f true e =
             rw (poll_ended now refuse input view b f e) (record {
               fresh = refl;
@@ -231,13 +231,13 @@ module _ {PublicState Packet Message State Exchange Answer Lease : Type 0} (p : 
             })
         by_end b f false e = rw (poll_tried now refuse input view b f e) (tried_moves now refuse input view next (rw (poll_tried now refuse input view b f e) at moves))
 
-        by_limit : is_stopped view.phase ≡ false → (b : Bool) → has_come now (limit_moment p view.limit view.entered view.state) ≡ b → Moves view.state input (poll_on now refuse input view)
+        by_limit : is_stopped view.phase ≡ false → (b : Bool) → has_come now (limit_moment p view.timeout_sec view.entered view.state) ≡ b → Moves view.state input (poll_on now refuse input view)
         by_limit b true f = absurd (cc (rw (poll_failed now refuse input view b f) at moves))
         by_limit b false f = by_end b f (has_ended p now view) refl
 
         by_phase : (b : Bool) → is_stopped view.phase ≡ b → Moves view.state input (poll_on now refuse input view)
         by_phase true b = absurd (cc (rw (poll_broken now refuse input view b) at moves))
-        by_phase false b = by_limit b (has_come now (limit_moment p view.limit view.entered view.state)) refl
+        by_phase false b = by_limit b (has_come now (limit_moment p view.timeout_sec view.entered view.state)) refl
 
   -- a client in a new state is in the midst of a stay once it is polled
   first_armed : (state : State) (moment now : ℕ) → has_come now (first_due p state moment) ≡ true → p.has_attempts state ≡ true
@@ -278,22 +278,22 @@ module _ {PublicState Packet Message State Exchange Answer Lease : Type 0} (p : 
   -- the stays that are entered at an event are reported by what a client in the first one's state is still to report
   pub stay_reported : (fuel : ℕ) (setting : Setting State) (run : Course Packet Message Exchange Answer) (late : List (Event Packet)) (entry paused : ℕ) →
       outputs p (record { setting = setting; entry = entry; pause = paused; acts = run.acts ++ (transition p setting run.finish late).acts; closing = (transition p setting run.finish late).closing }
-      ∷ stays p fuel setting.limit (transition p setting run.finish late).entry (transition p setting run.finish late).events) ≡
+      ∷ stays p fuel setting.timeout_sec (transition p setting run.finish late).entry (transition p setting run.finish late).events) ≡
       reported p fuel setting run late
   stay_reported fuel setting run late entry paused = go (transition p setting run.finish late)
     where
       go : (next : Transition Packet Message State Exchange) → outputs p (record { setting = setting; entry = entry; pause = paused; acts = run.acts ++ next.acts; closing = next.closing }
-          ∷ stays p fuel setting.limit next.entry next.events) ≡ flat_map (act_outputs p) run.acts ++ turned p fuel setting next
+          ∷ stays p fuel setting.timeout_sec next.entry next.events) ≡ flat_map (act_outputs p) run.acts ++ turned p fuel setting next
       go next = rw (flat_map-append (act_outputs p) run.acts next.acts) (simp append_assoc)
 
-  module _ (fuel : ℕ) (state : State) (exchange : Exchange) (limit entered : ℕ) (deadline : Option ℕ) (words : List ℕ) (v : Event Packet) (vs : List (Event Packet)) where
+  module _ (fuel : ℕ) (state : State) (exchange : Exchange) (timeout_sec entered : ℕ) (deadline : Option ℕ) (words : List ℕ) (v : Event Packet) (vs : List (Event Packet)) where
     abbrev fresh_view : View State Exchange
-    fresh_view = record { state = state; exchange = exchange; limit = limit; entered = entered; phase = Unpolled; deadline = deadline; words = words }
+    fresh_view = record { state = state; exchange = exchange; timeout_sec = timeout_sec; entered = entered; phase = Unpolled; deadline = deadline; words = words }
 
     abbrev fresh_setting : Setting State
-    fresh_setting = setting_at limit (entry_of p fresh_view) v.moment
+    fresh_setting = setting_at timeout_sec (entry_of p fresh_view) v.moment
 
-    fresh_rest_in : cuts p fresh_setting v ≡ false → outputs p (stays p (suc fuel) limit (entry_of p fresh_view) (v ∷ vs)) ≡ rest p fuel (suc (length (v ∷ vs))) (begin_stay p v.moment fresh_view) (v ∷ vs)
+    fresh_rest_in : cuts p fresh_setting v ≡ false → outputs p (stays p (suc fuel) timeout_sec (entry_of p fresh_view) (v ∷ vs)) ≡ rest p fuel (suc (length (v ∷ vs))) (begin_stay p v.moment fresh_view) (v ∷ vs)
     fresh_rest_in uncut =
         let progress_uncut : entry_progress p fresh_setting (entry_of p fresh_view) v ≡ first_progress p (entry_of p fresh_view) v.moment = rw uncut in
         stay_reported fuel fresh_setting (course p (suc (length (v ∷ vs))) fresh_setting (entry_progress p fresh_setting (entry_of p fresh_view) v) (before (closes p fresh_setting) (v ∷ vs)))
@@ -301,14 +301,14 @@ module _ {PublicState Packet Message State Exchange Answer Lease : Type 0} (p : 
         ap (λ (progress : Progress Exchange). reported p fuel fresh_setting (course p (suc (length (v ∷ vs))) fresh_setting progress (before (closes p fresh_setting) (v ∷ vs))) (from (closes p fresh_setting) (v ∷ vs))) progress_uncut
 
   fresh_eta : (view : View State Exchange) → view.phase ≡ Unpolled →
-      view ≡ record { state = view.state; exchange = view.exchange; limit = view.limit; entered = view.entered; phase = Unpolled; deadline = view.deadline; words = view.words }
+      view ≡ record { state = view.state; exchange = view.exchange; timeout_sec = view.timeout_sec; entered = view.entered; phase = Unpolled; deadline = view.deadline; words = view.words }
   fresh_eta view e = rw (← e)
 
-  pub fresh_rest : (fuel : ℕ) (view : View State Exchange) (v : Event Packet) (vs : List (Event Packet)) → view.phase ≡ Unpolled → cuts p (setting_at view.limit (entry_of p view) v.moment) v ≡ false →
-      outputs p (stays p (suc fuel) view.limit (entry_of p view) (v ∷ vs)) ≡ rest p fuel (suc (length (v ∷ vs))) (begin_stay p v.moment view) (v ∷ vs)
+  pub fresh_rest : (fuel : ℕ) (view : View State Exchange) (v : Event Packet) (vs : List (Event Packet)) → view.phase ≡ Unpolled → cuts p (setting_at view.timeout_sec (entry_of p view) v.moment) v ≡ false →
+      outputs p (stays p (suc fuel) view.timeout_sec (entry_of p view) (v ∷ vs)) ≡ rest p fuel (suc (length (v ∷ vs))) (begin_stay p v.moment view) (v ∷ vs)
   fresh_rest fuel view v vs e uncut =
-      subst (λ (w : View State Exchange). outputs p (stays p (suc fuel) view.limit (entry_of p view) (v ∷ vs)) ≡ rest p fuel (suc (length (v ∷ vs))) (begin_stay p v.moment w) (v ∷ vs)) (sym (fresh_eta view e))
-      (fresh_rest_in fuel view.state view.exchange view.limit view.entered view.deadline view.words v vs uncut)
+      subst (λ (w : View State Exchange). outputs p (stays p (suc fuel) view.timeout_sec (entry_of p view) (v ∷ vs)) ≡ rest p fuel (suc (length (v ∷ vs))) (begin_stay p v.moment w) (v ∷ vs)) (sym (fresh_eta view e))
+      (fresh_rest_in fuel view.state view.exchange view.timeout_sec view.entered view.deadline view.words v vs uncut)
 
   -- polling a client again changes nothing of how it began
   begun_twice : (now : ℕ) (view : View State Exchange) → begin_stay p now (begin_stay p now view) ≡ begin_stay p now view
@@ -332,7 +332,7 @@ module _ {PublicState Packet Message State Exchange Answer Lease : Type 0} (p : 
 
     abbrev pub FreshFollows : ℕ → Type 0
     FreshFollows polled = (fuel : ℕ) (v : Event Packet) (view : View State Exchange) → input_after_call v.input ≡ v.input → view.phase ≡ Unpolled → suc (rank lawful view.state v.input) ≤ polled → 8 * length vs + rank lawful view.state v.input ≤ fuel →
-        outputs p (stays p (suc fuel) view.limit (entry_of p view) (v ∷ vs)) ≡ told polled v view
+        outputs p (stays p (suc fuel) view.timeout_sec (entry_of p view) (v ∷ vs)) ≡ told polled v view
 
     abbrev pub BegunFollows : ℕ → Type 0
     BegunFollows polled = (fuel steps : ℕ) (v : Event Packet) (view : View State Exchange) → input_after_call v.input ≡ v.input → IsBegun p view → suc (rank lawful view.state v.input) ≤ polled → 8 * length vs + rank lawful view.state v.input ≤ fuel → suc (length vs) ≤ suc steps →
@@ -366,7 +366,7 @@ module _ {PublicState Packet Message State Exchange Answer Lease : Type 0} (p : 
         go (suc fuel') f (Some next) e =
             let moves : Moves lawful view.state v.input once = poll_moves lawful v.moment v.refuse v.input view next e in
             let left : Event Packet = record v { input = once.left } in
-            let more : outputs p (stays p fuel once.view.limit (entry_of p once.view) (left ∷ vs)) ≡ told polled left once.view =
+            let more : outputs p (stays p fuel once.view.timeout_sec (entry_of p once.view) (left ∷ vs)) ≡ told polled left once.view =
             rw f (fresh fuel' left once.view (moves.calm calm) moves.fresh (omega (arith, moves.falls)) (omega (arith, moves.falls, f))) in
             step ∙ rw (e, more) (sym (append_assoc (handed_output v.number v.refuse once.handed) (changed p v next ∷ (polls p polled left once.view).outputs) (replay_from p (polls p polled left once.view).view vs)))
 
@@ -379,7 +379,7 @@ module _ {PublicState Packet Message State Exchange Answer Lease : Type 0} (p : 
     fresh_from_begun : (polled : ℕ) → BegunFollows polled → FreshFollows polled
     fresh_from_begun zero begun_follows fuel v view calm e few enough_fuel = absurd (omega arith)
     fresh_from_begun (suc polled) begun_follows fuel v view calm e few enough_fuel =
-        rw (fresh_rest fuel view v vs e ((plain_of v calm).uncut (setting_at view.limit (entry_of p view) v.moment)), ← begun_polls polled v view)
+        rw (fresh_rest fuel view v vs e ((plain_of v calm).uncut (setting_at view.timeout_sec (entry_of p view) v.moment)), ← begun_polls polled v view)
         (begun_follows fuel (length vs) v (begin_stay p v.moment view) calm (begun_is v.moment view e)
         (rw (begun_state v.moment view) few) (rw (begun_state v.moment view) enough_fuel) (omega arith))
 

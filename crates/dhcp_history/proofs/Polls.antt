@@ -23,7 +23,7 @@ not_due now wait h = lt-leb (now + wait) now (omega arith)
 module _ {PublicState Packet Message State Exchange Answer Lease : Type 0} (p : Protocol PublicState Packet Message State Exchange Answer Lease) where
   -- the setting and the place of the stay in progress, as the view tells them
   abbrev pub setting_of : View State Exchange → Setting State
-  setting_of view = record { state = view.state; entered = view.entered; limit = view.limit }
+  setting_of view = record { state = view.state; entered = view.entered; timeout_sec = view.timeout_sec }
 
   abbrev pub progress_of : View State Exchange → Progress Exchange
   progress_of view = record { last = last_of view.phase; due = view.deadline; exchange = view.exchange; words = view.words }
@@ -31,10 +31,10 @@ module _ {PublicState Packet Message State Exchange Answer Lease : Type 0} (p : 
   abbrev pub entry_of : View State Exchange → Entry State Exchange
   entry_of view = record { state = view.state; exchange = view.exchange; words = view.words }
 
-  -- what is still to be reported after a turn: its acts, the change, and the stays that follow
+  -- what is still to be reported after a transition: its acts, the change, and the stays that follow
   abbrev pub turned : ℕ → Setting State → Transition Packet Message State Exchange → List (Output PublicState Message)
   turned fuel setting next =
-      flat_map (act_outputs p) next.acts ++ (closing_outputs p next.closing ++ outputs p (stays p fuel setting.limit next.entry next.events))
+      flat_map (act_outputs p) next.acts ++ (closing_outputs p next.closing ++ outputs p (stays p fuel setting.timeout_sec next.entry next.events))
 
   -- what is still to be reported where a stay runs so, and these are the events from its end on
   abbrev pub reported : ℕ → Setting State → Course Packet Message Exchange Answer → List (Event Packet) → List (Output PublicState Message)
@@ -63,7 +63,7 @@ module _ {PublicState Packet Message State Exchange Answer Lease : Type 0} (p : 
 
   -- the change to the next state, and then what the stays report from there on
   abbrev pub moved : ℕ → ℕ → Event Packet → NextState State Exchange → List ℕ → List (Event Packet) → List (Output PublicState Message)
-  moved fuel limit event next words events = changed event next.state ∷ outputs p (stays p fuel limit (entry_of_next next words) events)
+  moved fuel timeout_sec event next words events = changed event next.state ∷ outputs p (stays p fuel timeout_sec (entry_of_next next words) events)
 
   -- with no event left nothing is reported
   pub rest_none : (fuel steps : ℕ) (view : View State Exchange) → rest fuel steps view [] ≡ []
@@ -104,24 +104,24 @@ module _ {PublicState Packet Message State Exchange Answer Lease : Type 0} (p : 
 
   -- a stay that ends at this event reports the change
   pub rest_ended : (fuel steps : ℕ) (view : View State Exchange) (v : Event Packet) (vs : List (Event Packet)) → IsPlain p v → overruns p (setting_of view) v ≡ false → ends p (setting_of view) v ≡ true →
-      rest fuel steps view (v ∷ vs) ≡ moved fuel view.limit v (p.after_end view.state (exchange_after p (progress_of view))) view.words (v ∷ vs)
+      rest fuel steps view (v ∷ vs) ≡ moved fuel view.timeout_sec v (p.after_end view.state (exchange_after p (progress_of view))) view.words (v ∷ vs)
   rest_ended fuel steps view v vs plain f e =
       let setting : Setting State = setting_of view in
       let over : closes p setting v ≡ true = closes_ended setting v vs plain f ∙ e in
       rw (before_hit (closes p setting) v vs over, from_hit (closes p setting) v vs over, none_left p steps setting (progress_of view), plain.uncut setting, f, plain.undenied setting view.exchange, plain.same)
 
-  module _ (fuel steps : ℕ) (state : State) (exchange : Exchange) (limit entered : ℕ) (due : Option ℕ) (words : List ℕ) (v : Event Packet) (vs : List (Event Packet)) (plain : IsPlain p v) where
+  module _ (fuel steps : ℕ) (state : State) (exchange : Exchange) (timeout_sec entered : ℕ) (due : Option ℕ) (words : List ℕ) (v : Event Packet) (vs : List (Event Packet)) (plain : IsPlain p v) where
     abbrev view_in : Phase → View State Exchange
-    view_in phase = record { state = state; exchange = exchange; limit = limit; entered = entered; phase = phase; deadline = due; words = words }
+    view_in phase = record { state = state; exchange = exchange; timeout_sec = timeout_sec; entered = entered; phase = phase; deadline = due; words = words }
 
     abbrev setting : Setting State
-    setting = record { state = state; entered = entered; limit = limit }
+    setting = record { state = state; entered = entered; timeout_sec = timeout_sec }
 
     module _ (lasts : closes p setting v ≡ false) where
       window_goes_on : before (closes p setting) (v ∷ vs) ≡ v ∷ before (closes p setting) vs
       window_goes_on = before_miss (closes p setting) v vs lasts
 
-      -- an attempt that is due stands at this event
+      -- an attempt that is due is made at this event
       rest_attempt : (phase : Phase) → is_at_or_past due v ≡ true → runs_out p setting (progress_of (view_in phase)) ≡ false →
           rest fuel (suc steps) (view_in phase) (v ∷ vs) ≡
           flat_map (act_outputs p) (Attempted (attempt_at p setting (progress_of (view_in phase)) v) ∷ []) ++
@@ -130,7 +130,7 @@ module _ {PublicState Packet Message State Exchange Answer Lease : Type 0} (p : 
 
       -- or the stay ends, where the last attempt was the last of all
       rest_ran_out : is_at_or_past due v ≡ true → p.is_last_attempt state exchange ≡ true →
-          rest fuel (suc steps) (view_in Listening) (v ∷ vs) ≡ moved fuel limit v (p.after_end state (p.after_wait exchange)) words (v ∷ vs)
+          rest fuel (suc steps) (view_in Listening) (v ∷ vs) ≡ moved fuel timeout_sec v (p.after_end state (p.after_wait exchange)) words (v ∷ vs)
       rest_ran_out e over =
           rw (
             window_goes_on,
@@ -155,7 +155,7 @@ module _ {PublicState Packet Message State Exchange Answer Lease : Type 0} (p : 
       -- nothing is due, and the packet answers
       rest_answered : (answer : Answer) → is_at_or_past due v ≡ false → (reading_of p state exchange words v.input).value ≡ Some answer →
           rest fuel (suc steps) (view_in Listening) (v ∷ vs) ≡
-          moved fuel limit v (p.after_answer state answer v.moment exchange) (reading_of p state exchange words v.input).words (after_packet (v ∷ vs))
+          moved fuel timeout_sec v (p.after_answer state answer v.moment exchange) (reading_of p state exchange words v.input).words (after_packet (v ∷ vs))
       rest_answered answer e some =
           rw (window_goes_on, from_miss (closes p setting) v vs lasts, is_answered p steps setting due exchange words v (before (closes p setting) vs) plain answer e some, before-from (closes p setting) vs)
 
@@ -176,7 +176,7 @@ module _ {PublicState Packet Message State Exchange Answer Lease : Type 0} (p : 
   abbrev pub followed : ℕ → Event Packet → List (Event Packet) → Option State → PollEffect Packet Message State Exchange → List (Output PublicState Message)
   followed fuel v vs None once = failed_output v.number once.failed ++ replay_from p once.view vs
   followed fuel v vs (Some next) once =
-      changed v next ∷ outputs p (stays p fuel once.view.limit (entry_of once.view) (record v { input = once.left } ∷ vs))
+      changed v next ∷ outputs p (stays p fuel once.view.timeout_sec (entry_of once.view) (record v { input = once.left } ∷ vs))
 
   -- what is to be reported is what this poll reports, and what follows
   abbrev pub Reports : ℕ → Event Packet → List (Event Packet) → List (Output PublicState Message) → PollEffect Packet Message State Exchange → Type 0
@@ -226,13 +226,13 @@ module _ {PublicState Packet Message State Exchange Answer Lease : Type 0} (p : 
             let soon : start.now < moment = leb-false moment start.now (rw e at lasts) in
             le-leb (start.now + (p.attempt state exchange start words).value.wait) later (omega (arith, lawful.wait_within state exchange start words moment tries e soon))
 
-    module _ (fuel steps : ℕ) (state : State) (limit entered : ℕ) (v : Event Packet) (vs : List (Event Packet)) (plain : IsPlain p v)
+    module _ (fuel steps : ℕ) (state : State) (timeout_sec entered : ℕ) (v : Event Packet) (vs : List (Event Packet)) (plain : IsPlain p v)
         (later : Follows vs) (enough : suc (length vs) ≤ suc steps) (enough_fuel : 8 * length vs ≤ fuel) where
       abbrev the_setting : Setting State
-      the_setting = record { state = state; entered = entered; limit = limit }
+      the_setting = record { state = state; entered = entered; timeout_sec = timeout_sec }
 
       abbrev view_at : Exchange → Option ℕ → List ℕ → Phase → View State Exchange
-      view_at exchange due words phase = record { state = state; exchange = exchange; limit = limit; entered = entered; phase = phase; deadline = due; words = words }
+      view_at exchange due words phase = record { state = state; exchange = exchange; timeout_sec = timeout_sec; entered = entered; phase = phase; deadline = due; words = words }
 
       module _ (lasts : closes p the_setting v ≡ false) (unended : ends p the_setting v ≡ false) where
         -- the packet is taken where nothing is due
@@ -242,18 +242,18 @@ module _ {PublicState Packet Message State Exchange Answer Lease : Type 0} (p : 
         taken_follows exchange due words handed Unpolled waits begun = absurd (cc begun.polled)
         taken_follows exchange due words handed Stopped waits begun = absurd (cc begun.works)
         taken_follows exchange due words handed Pausing waits begun =
-            rest_waits fuel steps state exchange limit entered due words v vs plain lasts Pausing refl waits ∙ later.begun fuel (suc steps) (view_at exchange due words Pausing) begun enough enough_fuel
+            rest_waits fuel steps state exchange timeout_sec entered due words v vs plain lasts Pausing refl waits ∙ later.begun fuel (suc steps) (view_at exchange due words Pausing) begun enough enough_fuel
         taken_follows exchange due words handed Resting waits begun =
-            rest_waits fuel steps state exchange limit entered due words v vs plain lasts Resting refl waits ∙ later.begun fuel (suc steps) (view_at exchange due words Resting) begun enough enough_fuel
+            rest_waits fuel steps state exchange timeout_sec entered due words v vs plain lasts Resting refl waits ∙ later.begun fuel (suc steps) (view_at exchange due words Resting) begun enough enough_fuel
         taken_follows exchange due words handed Listening waits begun = go (reading_of p state exchange words v.input).value refl
           where
             go : (answer : Option Answer) → (reading_of p state exchange words v.input).value ≡ answer →
                 rest fuel (suc steps) (view_at exchange due words Listening) (v ∷ vs) ≡
                 followed fuel v vs (receive p v.moment v.input handed (view_at exchange due words Listening)).change (receive p v.moment v.input handed (view_at exchange due words Listening))
-            go None e = rw (rest_listens fuel steps state exchange limit entered due words v vs plain lasts waits e, e)
+            go None e = rw (rest_listens fuel steps state exchange timeout_sec entered due words v vs plain lasts waits e, e)
                 (later.begun fuel (suc steps) (record (view_at exchange due words Listening) { words = (reading_of p state exchange words v.input).words })
                 (record { polled = refl; works = refl; timely = begun.timely; armed = begun.armed }) enough enough_fuel)
-            go (Some answer) e = rw (rest_answered fuel steps state exchange limit entered due words v vs plain lasts answer waits e, e)
+            go (Some answer) e = rw (rest_answered fuel steps state exchange timeout_sec entered due words v vs plain lasts answer waits e, e)
 
         -- what an attempt that begins here leaves to be reported
         begins : (tries : p.has_attempts state ≡ true) (handed : Option Message) (exchange : Exchange) (first : Bool) (words : List ℕ) (refuse : Bool) →
@@ -287,14 +287,14 @@ module _ {PublicState Packet Message State Exchange Answer Lease : Type 0} (p : 
             (ap (λ (more : List (Output PublicState Message)). record { event = v.number; report = if v.refuse then Refused attempt.value.message else Handed attempt.value.message } ∷ more)
             (begins tries (Some attempt.value.message) exchange first words v.refuse))
 
-    module _ (fuel steps : ℕ) (state : State) (limit entered : ℕ) (v : Event Packet) (vs : List (Event Packet)) (plain : IsPlain p v)
+    module _ (fuel steps : ℕ) (state : State) (timeout_sec entered : ℕ) (v : Event Packet) (vs : List (Event Packet)) (plain : IsPlain p v)
         (later : Follows vs) (enough : suc (length vs) ≤ suc steps) (enough_fuel : 8 * length vs ≤ fuel)
         (exchange : Exchange) (due : Option ℕ) (words : List ℕ) where
       abbrev the_set : Setting State
-      the_set = record { state = state; entered = entered; limit = limit }
+      the_set = record { state = state; entered = entered; timeout_sec = timeout_sec }
 
       abbrev view_by : Phase → View State Exchange
-      view_by phase = record { state = state; exchange = exchange; limit = limit; entered = entered; phase = phase; deadline = due; words = words }
+      view_by phase = record { state = state; exchange = exchange; timeout_sec = timeout_sec; entered = entered; phase = phase; deadline = due; words = words }
 
       module _ (lasts : closes p the_set v ≡ false) (unended : ends p the_set v ≡ false) where
         due_follows : (phase : Phase) → IsBegun (view_by phase) → is_at_or_past due v ≡ true → (is_wait_over p v.moment (view_by phase) && p.is_last_attempt state exchange) ≡ false →
@@ -302,14 +302,14 @@ module _ {PublicState Packet Message State Exchange Answer Lease : Type 0} (p : 
         due_follows Unpolled begun e more = absurd (cc begun.polled)
         due_follows Stopped begun e more = absurd (cc begun.works)
         due_follows Pausing begun e more =
-            rw (tried_due v.moment v.refuse v.input (view_by Pausing) e, rest_attempt fuel (suc steps) state exchange limit entered due words v vs plain lasts Pausing e refl)
-            (handed_follows fuel steps state limit entered v vs plain later enough enough_fuel lasts unended (begun.armed v.moment e) exchange true words)
+            rw (tried_due v.moment v.refuse v.input (view_by Pausing) e, rest_attempt fuel (suc steps) state exchange timeout_sec entered due words v vs plain lasts Pausing e refl)
+            (handed_follows fuel steps state timeout_sec entered v vs plain later enough enough_fuel lasts unended (begun.armed v.moment e) exchange true words)
         due_follows Resting begun e more =
-            rw (tried_due v.moment v.refuse v.input (view_by Resting) e, rest_attempt fuel (suc steps) state exchange limit entered due words v vs plain lasts Resting e refl)
-            (handed_follows fuel steps state limit entered v vs plain later enough enough_fuel lasts unended (begun.armed v.moment e) exchange false words)
+            rw (tried_due v.moment v.refuse v.input (view_by Resting) e, rest_attempt fuel (suc steps) state exchange timeout_sec entered due words v vs plain lasts Resting e refl)
+            (handed_follows fuel steps state timeout_sec entered v vs plain later enough enough_fuel lasts unended (begun.armed v.moment e) exchange false words)
         due_follows Listening begun e more =
-            rw (tried_over v.moment v.refuse v.input (view_by Listening) refl e, rest_attempt fuel (suc steps) state exchange limit entered due words v vs plain lasts Listening e (rw e at more))
-            (handed_follows fuel steps state limit entered v vs plain later enough enough_fuel lasts unended (begun.armed v.moment e) (p.after_wait exchange) false words)
+            rw (tried_over v.moment v.refuse v.input (view_by Listening) refl e, rest_attempt fuel (suc steps) state exchange timeout_sec entered due words v vs plain lasts Listening e (rw e at more))
+            (handed_follows fuel steps state timeout_sec entered v vs plain later enough enough_fuel lasts unended (begun.armed v.moment e) (p.after_wait exchange) false words)
 
         pub tried_follows : (phase : Phase) → IsBegun (view_by phase) → (is_wait_over p v.moment (view_by phase) && p.is_last_attempt state exchange) ≡ false →
             Reports fuel v vs (rest fuel (suc (suc steps)) (view_by phase) (v ∷ vs)) (transmit_and_receive p v.moment v.refuse v.input (view_by phase))
@@ -319,18 +319,18 @@ module _ {PublicState Packet Message State Exchange Answer Lease : Type 0} (p : 
             go true e = due_follows phase begun e more
             go false e =
                 rw (tried_early v.moment v.refuse v.input (view_by phase) e, taken_handed v.moment v.input None (view_by phase))
-                (taken_follows fuel (suc steps) state limit entered v vs plain later (omega arith) enough_fuel lasts unended exchange due words None phase e begun)
+                (taken_follows fuel (suc steps) state timeout_sec entered v vs plain later (omega arith) enough_fuel lasts unended exchange due words None phase e begun)
 
         -- a last attempt whose wait is over ends the stay
         pub ran_out_follows : (phase : Phase) → (is_wait_over p v.moment (view_by phase) && p.is_last_attempt state exchange) ≡ true →
-            rest fuel (suc steps) (view_by phase) (v ∷ vs) ≡ moved fuel limit v (p.after_end state (p.after_wait exchange)) words (v ∷ vs)
+            rest fuel (suc steps) (view_by phase) (v ∷ vs) ≡ moved fuel timeout_sec v (p.after_end state (p.after_wait exchange)) words (v ∷ vs)
         ran_out_follows Unpolled over = absurd (cc over)
         ran_out_follows Stopped over = absurd (cc over)
         ran_out_follows Pausing over = absurd (cc over)
         ran_out_follows Resting over = absurd (cc over)
         ran_out_follows Listening over = go (is_at_or_past due v) refl (p.is_last_attempt state exchange) refl
           where
-            go : (b : Bool) → is_at_or_past due v ≡ b → (c : Bool) → p.is_last_attempt state exchange ≡ c → rest fuel (suc steps) (view_by Listening) (v ∷ vs) ≡ moved fuel limit v (p.after_end state (p.after_wait exchange)) words (v ∷ vs)
-            go true e true f = rest_ran_out fuel steps state exchange limit entered due words v vs plain lasts e f
+            go : (b : Bool) → is_at_or_past due v ≡ b → (c : Bool) → p.is_last_attempt state exchange ≡ c → rest fuel (suc steps) (view_by Listening) (v ∷ vs) ≡ moved fuel timeout_sec v (p.after_end state (p.after_wait exchange)) words (v ∷ vs)
+            go true e true f = rest_ran_out fuel steps state exchange timeout_sec entered due words v vs plain lasts e f
             go true e false f = absurd (cc (rw (e, f) at over))
             go false e c f = absurd (cc (rw e at over))

@@ -29,7 +29,7 @@ stopped_phase Stopped h = refl
 pub at_told : {A : Type 0} (P : A → Type 0) (told : Option A) (value : A) → told ≡ Some value → IfSome told P → P value
 at_told {A} P told value e h = let family : Option A → Type 0 = λ (o : Option A). IfSome o P in subst family e h
 
--- a fact for each answer but want of memory goes over to another
+-- a fact for each answer but out of memory goes over to another
 pub on_run : {A : Type 0} {P Q : Type 0} (result : Result A RunError) → (P → Q) → UnlessNoMemory result P → UnlessNoMemory result Q
 on_run (Ok a) f h = f h
 on_run (Err run.TimedOut) f h = f h
@@ -114,10 +114,10 @@ module _ {PublicState State Exchange Answer Lease : Type 0} (p : Protocol Public
   -- a poll whose attempt is not due: the client waits, or the poll is not quiet
   pub early_quiet : (now : ℕ) (client new : Client State Exchange) (begun : Standing Exchange) (result : Result (Option PublicState) RunError) (drawn mid left : Option (List ℕ)) (before after : Option Shown) (failed failed' : ℕ) (words : List ℕ) →
       is_stopped client.standing.phase ≡ false → limit_is_over p now (view_of client words) ≡ false → has_ended p now (view_of client words) ≡ false →
-      (is_unpolled client.standing.phase ≡ false → begun ≡ client.standing) → (is_unpolled client.standing.phase ≡ false → mid ≡ drawn) → new.limit ≡ client.limit →
+      (is_unpolled client.standing.phase ≡ false → begun ≡ client.standing) → (is_unpolled client.standing.phase ≡ false → mid ≡ drawn) → new.timeout_sec ≡ client.timeout_sec →
       (is_listening begun.phase ≡ false → IsShut result new client.state begun mid left before after failed failed') →
       IfSome (quiet_poll p now (view_of client words)) (λ once. HasPolledQuietly p once result (view_of new words) drawn left before after failed failed')
-  early_quiet now client new begun result drawn mid left before after failed failed' words b f e same undrawn limit shut = go (is_waiting p now (view_of client words)) refl
+  early_quiet now client new begun result drawn mid left before after failed failed' words b f e same undrawn timeout_sec shut = go (is_waiting p now (view_of client words)) refl
     where
       go : (w : Bool) → is_waiting p now (view_of client words) ≡ w → IfSome (quiet_poll p now (view_of client words)) (λ once. HasPolledQuietly p once result (view_of new words) drawn left before after failed failed')
       go false w = rw (quiet_busy now (view_of client words) b f e w) tt
@@ -126,7 +126,7 @@ module _ {PublicState State Exchange Answer Lease : Type 0} (p : Protocol Public
           let is : IsShut result new client.state begun mid left before after failed failed' = shut (rw (same waits.0) (waits.1)) in
           rw (quiet_waits now (view_of client words) b f e w) (record {
             answer = is.answer;
-            client = rw (is.state, is.standing, same waits.0, limit);
+            client = rw (is.state, is.standing, same waits.0, timeout_sec);
             words = is.words ∙ undrawn waits.0;
             link = is.link;
             faults = is.faults;

@@ -249,17 +249,17 @@ module _ {PublicState Packet Message State Exchange Answer Lease : Type 0} (p : 
       go (Hears answer e heard) = subst (λ (outcome : Outcome Answer). Turning setting events (transition_by p outcome setting finish late)) (sym e) (answered answer heard)
       go (Over v vs e r w l) = subst (λ (outcome : Outcome Answer). Turning setting events (transition_by p outcome setting finish late)) (sym e) (over v vs r w l)
 
-  -- the turn of the stay that is entered at the first of these events
+  -- the transition of the stay that is entered at the first of these events
   abbrev pub transition_of : ℕ → Entry State Exchange → Event Packet → List (Event Packet) → Transition Packet Message State Exchange
-  transition_of limit entry first later =
-      let setting = setting_at limit entry first.moment in
+  transition_of timeout_sec entry first later =
+      let setting = setting_at timeout_sec entry first.moment in
       let run = course p (suc (length (first ∷ later))) setting (entry_progress p setting entry first) (before (closes p setting) (first ∷ later)) in
       transition p setting run.finish (from (closes p setting) (first ∷ later))
 
-  stay_turns : (limit : ℕ) (entry : Entry State Exchange) (first : Event Packet) (later : List (Event Packet)) →
-      Turning (setting_at limit entry first.moment) (first ∷ later) (transition_of limit entry first later)
-  stay_turns limit entry first later =
-      let setting : Setting State = setting_at limit entry first.moment in
+  stay_turns : (timeout_sec : ℕ) (entry : Entry State Exchange) (first : Event Packet) (later : List (Event Packet)) →
+      Turning (setting_at timeout_sec entry first.moment) (first ∷ later) (transition_of timeout_sec entry first later)
+  stay_turns timeout_sec entry first later =
+      let setting : Setting State = setting_at timeout_sec entry first.moment in
       let progress : Progress Exchange = entry_progress p setting entry first in
       let window : List (Event Packet) = before (closes p setting) (first ∷ later) in
       turns setting (course p (suc (length (first ∷ later))) setting progress window).finish window (from (closes p setting) (first ∷ later)) (first ∷ later)
@@ -281,17 +281,17 @@ module _ {PublicState Packet Message State Exchange Answer Lease : Type 0} (p : 
     turn_holds setting events next (IsAnswered v vs exchange words answer l s e w r) = rw (s, e) (by_answer setting.state answer v.moment exchange)
     turn_holds setting events next (IsEnded v vs exchange counts l s e w r) = rw (s, e) (by_end setting.state exchange counts v.moment r)
 
-    stays_hold : (fuel limit : ℕ) (entry : Entry State Exchange) (events : List (Event Packet)) → HoldsFirst entry.state events →
-        AllByRecursion (λ stay. Holds stay.setting.state stay.setting.entered) (stays p fuel limit entry events)
-    stays_hold fuel limit entry [] h = tt
-    stays_hold zero limit entry (v ∷ vs) h = tt
-    stays_hold (suc fuel) limit entry (v ∷ vs) h =
-        let next : Transition Packet Message State Exchange = transition_of limit entry v vs in
-        (h, stays_hold fuel limit next.entry next.events (turn_holds (setting_at limit entry v.moment) (v ∷ vs) next (stay_turns limit entry v vs)))
+    stays_hold : (fuel timeout_sec : ℕ) (entry : Entry State Exchange) (events : List (Event Packet)) → HoldsFirst entry.state events →
+        AllByRecursion (λ stay. Holds stay.setting.state stay.setting.entered) (stays p fuel timeout_sec entry events)
+    stays_hold fuel timeout_sec entry [] h = tt
+    stays_hold zero timeout_sec entry (v ∷ vs) h = tt
+    stays_hold (suc fuel) timeout_sec entry (v ∷ vs) h =
+        let next : Transition Packet Message State Exchange = transition_of timeout_sec entry v vs in
+        (h, stays_hold fuel timeout_sec next.entry next.events (turn_holds (setting_at timeout_sec entry v.moment) (v ∷ vs) next (stay_turns timeout_sec entry v vs)))
 
     -- what holds of the first state at each moment, and of each state as it is entered, holds of all stays
     pub history_holds : (script : Script Packet State Exchange) → ((now : ℕ) → Holds script.state now) → AllByRecursion (λ stay. Holds stay.setting.state stay.setting.entered) (history p script)
-    history_holds script h = stays_hold (8 * (length script.events + 1)) script.limit (record { state = script.state; exchange = script.exchange; words = script.words }) script.events (first script.events)
+    history_holds script h = stays_hold (8 * (length script.events + 1)) script.timeout_sec (record { state = script.state; exchange = script.exchange; words = script.words }) script.events (first script.events)
       where
         first : (events : List (Event Packet)) → HoldsFirst script.state events
         first [] = tt
@@ -350,7 +350,7 @@ module _ {PublicState Packet Message State Exchange Answer Lease : Type 0} (p : 
     answer_falls state exchange words answer now CleanUp r = absurd (cc r)
     answer_falls state exchange words answer now (Arrival packet) r = (refl, lawful.rank_answered state exchange packet words answer now r)
 
-    -- each turn leaves fewer stays to come
+    -- each transition leaves fewer stays to come
     abbrev Falls : State → Event Packet → List (Event Packet) → Transition Packet Message State Exchange → Type 0
     Falls state first later next = (next.closing ≡ Lasts × next.events ≡ []) ⊎
         ((next.closing ≡ Lasts → ⊥) × (1 ≤ length next.events) × (measure next.entry.state next.events < measure state (first ∷ later)))
@@ -397,21 +397,21 @@ module _ {PublicState Packet Message State Exchange Answer Lease : Type 0} (p : 
     closes_more stay [] some closes h = absurd (omega (arith, some))
     closes_more stay (next ∷ rest) some closes h = (closes, h)
 
-    stays_some : (fuel limit : ℕ) (entry : Entry State Exchange) (events : List (Event Packet)) → 1 ≤ fuel → 1 ≤ length events → 1 ≤ length (stays p fuel limit entry events)
-    stays_some fuel limit entry [] f e = absurd (omega (arith, e))
-    stays_some zero limit entry (v ∷ vs) f e = absurd (omega (arith, f))
-    stays_some (suc fuel) limit entry (v ∷ vs) f e = omega arith
+    stays_some : (fuel timeout_sec : ℕ) (entry : Entry State Exchange) (events : List (Event Packet)) → 1 ≤ fuel → 1 ≤ length events → 1 ≤ length (stays p fuel timeout_sec entry events)
+    stays_some fuel timeout_sec entry [] f e = absurd (omega (arith, e))
+    stays_some zero timeout_sec entry (v ∷ vs) f e = absurd (omega (arith, f))
+    stays_some (suc fuel) timeout_sec entry (v ∷ vs) f e = omega arith
 
-    stays_close : (fuel limit : ℕ) (entry : Entry State Exchange) (events : List (Event Packet)) → (1 ≤ length events → measure entry.state events < fuel) → CloseInTurn (stays p fuel limit entry events)
-    stays_close fuel limit entry [] enough = tt
-    stays_close zero limit entry (v ∷ vs) enough = absurd (omega (arith, enough (omega arith)))
-    stays_close (suc fuel) limit entry (v ∷ vs) enough = go (turn_falls setting v vs next (stay_turns limit entry v vs)) (stays_close fuel limit next.entry next.events)
+    stays_close : (fuel timeout_sec : ℕ) (entry : Entry State Exchange) (events : List (Event Packet)) → (1 ≤ length events → measure entry.state events < fuel) → CloseInTurn (stays p fuel timeout_sec entry events)
+    stays_close fuel timeout_sec entry [] enough = tt
+    stays_close zero timeout_sec entry (v ∷ vs) enough = absurd (omega (arith, enough (omega arith)))
+    stays_close (suc fuel) timeout_sec entry (v ∷ vs) enough = go (turn_falls setting v vs next (stay_turns timeout_sec entry v vs)) (stays_close fuel timeout_sec next.entry next.events)
       where
         setting : Setting State
-        setting = setting_at limit entry v.moment
+        setting = setting_at timeout_sec entry v.moment
 
         next : Transition Packet Message State Exchange
-        next = transition_of limit entry v vs
+        next = transition_of timeout_sec entry v vs
 
         run : Course Packet Message Exchange Answer
         run = course p (suc (length (v ∷ vs))) setting (entry_progress p setting entry v) (before (closes p setting) (v ∷ vs))
@@ -419,12 +419,12 @@ module _ {PublicState Packet Message State Exchange Answer Lease : Type 0} (p : 
         stay : Stay State Message
         stay = record { setting = setting; entry = v.number; pause = entry_pause p setting entry v; acts = run.acts ++ next.acts; closing = next.closing }
 
-        go : Falls entry.state v vs next → ((1 ≤ length next.events → measure next.entry.state next.events < fuel) → CloseInTurn (stays p fuel limit next.entry next.events)) →
-            CloseInTurn (stay ∷ stays p fuel limit next.entry next.events)
-        go (inl ends) ih = closes_last stay (stays p fuel limit next.entry next.events) (rw ends.1) ends.0
+        go : Falls entry.state v vs next → ((1 ≤ length next.events → measure next.entry.state next.events < fuel) → CloseInTurn (stays p fuel timeout_sec next.entry next.events)) →
+            CloseInTurn (stay ∷ stays p fuel timeout_sec next.entry next.events)
+        go (inl ends) ih = closes_last stay (stays p fuel timeout_sec next.entry next.events) (rw ends.1) ends.0
         go (inr more) ih =
             let room : measure next.entry.state next.events < fuel = omega (arith, more.2, enough (omega arith)) in
-            closes_more stay (stays p fuel limit next.entry next.events) (stays_some fuel limit next.entry next.events (omega (arith, room)) more.1) more.0 (ih (λ h. room))
+            closes_more stay (stays p fuel timeout_sec next.entry next.events) (stays_some fuel timeout_sec next.entry next.events (omega (arith, room)) more.1) more.0 (ih (λ h. room))
 
     weight_most : (state : State) (input : Input Packet) → weight state input ≤ 7
     weight_most state Nothing = omega (arith, lawful.rank_bound state false)
@@ -434,7 +434,7 @@ module _ {PublicState Packet Message State Exchange Answer Lease : Type 0} (p : 
 
     -- the last stay of a history lasts, and all others close
     pub history_closes : (script : Script Packet State Exchange) → CloseInTurn (history p script)
-    history_closes script = stays_close (8 * (length script.events + 1)) script.limit (record { state = script.state; exchange = script.exchange; words = script.words }) script.events (enough script.events)
+    history_closes script = stays_close (8 * (length script.events + 1)) script.timeout_sec (record { state = script.state; exchange = script.exchange; words = script.words }) script.events (enough script.events)
       where
         enough : (events : List (Event Packet)) → 1 ≤ length events → measure script.state events < 8 * (length events + 1)
         enough [] h = omega (arith, h)

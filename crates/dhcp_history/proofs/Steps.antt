@@ -70,7 +70,7 @@ module _ {PublicState Packet Message State Exchange Answer Lease : Type 0} (p : 
     abbrev progress_with : LastAttempt → Progress Exchange
     progress_with last = record { last = last; due = due; exchange = exchange; words = words }
 
-    -- at an event at or past the due moment an attempt stands
+    -- at an event at or past the due moment an attempt is made
     pub attempt_stands : (last : LastAttempt) → is_at_or_past due v ≡ true → runs_out p setting (progress_with last) ≡ false →
         course p (suc fuel) setting (progress_with last) (v ∷ vs) ≡
         with_acts (Attempted (attempt_at p setting (progress_with last) v) ∷ []) (course p fuel setting (progress_after p setting (progress_with last) v) (v ∷ vs))

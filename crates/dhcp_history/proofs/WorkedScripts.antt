@@ -16,7 +16,7 @@ refusing number moment input = record { number = number; moment = moment; refuse
 
 -- a script that begins in a state, with all the random words 0
 abbrev script : State → ℕ → List (Event Packet) → Script Packet State ℕ
-script state limit events = record { limit = limit; state = state; exchange = 0; words = []; events = events }
+script state timeout_sec events = record { timeout_sec = timeout_sec; state = state; exchange = 0; words = []; events = events }
 
 abbrev Reports : Type 0
 Reports = List (Output State Message)
@@ -158,15 +158,15 @@ limit_and_release = (refl, refl)
 -- the stays of a history: the first is answered, the second is cut, the last lasts
 three_stays : history client (script (Requesting lease) 0 (at 1 10 (Arrival (Lends lease)) ∷ at 2 20 CleanUp ∷ [])) ≡
     record {
-      setting = record { state = Requesting lease; entered = 10; limit = 0 };
+      setting = record { state = Requesting lease; entered = 10; timeout_sec = 0 };
       entry = 1;
       pause = 0;
       acts = Attempted (record { event = 1; moment = 10; wait = 4000; refused = false; message = Request 0 }) ∷ [];
       closing = Answered 1 (Bound lease 10);
     } ∷
-    record { setting = record { state = Bound lease 10; entered = 10; limit = 0 }; entry = 1; pause = 0; acts = []; closing = Cut 2 None } ∷
+    record { setting = record { state = Bound lease 10; entered = 10; timeout_sec = 0 }; entry = 1; pause = 0; acts = []; closing = Cut 2 None } ∷
     record {
-      setting = record { state = Selecting; entered = 20; limit = 0 };
+      setting = record { state = Selecting; entered = 20; timeout_sec = 0 };
       entry = 2;
       pause = 0;
       acts = Attempted (record { event = 2; moment = 20; wait = 4000; refused = false; message = Discover 0 }) ∷ [];

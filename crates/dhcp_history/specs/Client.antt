@@ -10,7 +10,7 @@ abbrev pub view_with : {State Exchange : Type 0} → Client State Exchange → S
 view_with client standing words = record {
   state = client.state;
   exchange = standing.exchange;
-  limit = client.limit;
+  timeout_sec = client.timeout_sec;
   entered = standing.entered;
   phase = standing.phase;
   deadline = standing.deadline;

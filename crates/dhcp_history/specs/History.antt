@@ -50,7 +50,7 @@ pub data Closing (State Message : Type 0) : Type 0 where
 pub record Setting (State : Type 0) : Type 0 where
   pub state : State
   pub entered : ℕ
-  pub limit : ℕ
+  pub timeout_sec : ℕ
 
 -- a stay: its setting, the event at which it was entered, its pause, what the client does in it,
 -- and how it closes
@@ -149,9 +149,9 @@ cuts_by CleanUp refuse holding = true
 
 -- the moment at which the time limit is over in a state that was entered at this moment
 abbrev pub limit_after : Bool → ℕ → ℕ → Option ℕ
-limit_after false limit entered = None
+limit_after false timeout_sec entered = None
 limit_after true zero entered = None
-limit_after true (suc limit) entered = Some (entered + 1000 * suc limit)
+limit_after true (suc timeout_sec) entered = Some (entered + 1000 * suc timeout_sec)
 
 -- what is left of the first of these events once its packet has answered: an answer uses up the
 -- event
@@ -188,7 +188,8 @@ entry_of_next next words = record { state = next.state; exchange = next.exchange
 
 -- the setting of a stay that is entered at this moment
 abbrev pub setting_at : {State Exchange : Type 0} → ℕ → Entry State Exchange → ℕ → Setting State
-setting_at limit entry moment = record { state = entry.state; entered = moment; limit = limit }
+setting_at timeout_sec entry moment =
+    record { state = entry.state; entered = moment; timeout_sec = timeout_sec }
 
 module _ {PublicState Packet Message State Exchange Answer Lease : Type 0}
     (p : Protocol PublicState Packet Message State Exchange Answer Lease) where
@@ -200,12 +201,12 @@ module _ {PublicState Packet Message State Exchange Answer Lease : Type 0}
 
   -- the moment at which the time limit is over
   abbrev pub limit_moment : ℕ → ℕ → State → Option ℕ
-  limit_moment limit entered state = limit_after (p.has_time_limit state) limit entered
+  limit_moment timeout_sec entered state = limit_after (p.has_time_limit state) timeout_sec entered
 
   -- whether the time limit is over at the event
   abbrev pub overruns : Setting State → Event Packet → Bool
   overruns setting event =
-      is_at_or_past (limit_moment setting.limit setting.entered setting.state) event
+      is_at_or_past (limit_moment setting.timeout_sec setting.entered setting.state) event
 
   -- whether the state's ending moment has come at the event
   abbrev pub ends : Setting State → Event Packet → Bool
@@ -477,10 +478,10 @@ module _ {PublicState Packet Message State Exchange Answer Lease : Type 0}
   -- the stays from an entry on, the first of them entered at the first of these events; `fuel` is
   -- above the number of stays
   abbrev pub stays : ℕ → ℕ → Entry State Exchange → List (Event Packet) → List (Stay State Message)
-  stays fuel limit entry [] = []
-  stays zero limit entry (first ∷ later) = []
-  stays (suc fuel) limit entry (first ∷ later) =
-      let setting = setting_at limit entry first.moment in
+  stays fuel timeout_sec entry [] = []
+  stays zero timeout_sec entry (first ∷ later) = []
+  stays (suc fuel) timeout_sec entry (first ∷ later) =
+      let setting = setting_at timeout_sec entry first.moment in
       let progress = entry_progress setting entry first in
       let window = before (closes setting) (first ∷ later) in
       let run = course (suc (length (first ∷ later))) setting progress window in
@@ -492,13 +493,13 @@ module _ {PublicState Packet Message State Exchange Answer Lease : Type 0}
         acts = run.acts ++ next.acts;
         closing = next.closing;
       }
-      ∷ stays fuel limit next.entry next.events
+      ∷ stays fuel timeout_sec next.entry next.events
 
   -- The history of a script. At one event seven stays are entered at most, and one more after a
   -- cut.
   abbrev pub history : Script Packet State Exchange → List (Stay State Message)
   history script =
-      stays (8 * (length script.events + 1)) script.limit
+      stays (8 * (length script.events + 1)) script.timeout_sec
       (record { state = script.state; exchange = script.exchange; words = script.words })
       script.events
 

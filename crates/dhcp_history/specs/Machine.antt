@@ -46,7 +46,7 @@ phase_by false = Listening
 pub record View (State Exchange : Type 0) : Type 0 where
   pub state : State
   pub exchange : Exchange
-  pub limit : ℕ
+  pub timeout_sec : ℕ
   pub entered : ℕ
   pub phase : Phase
   pub deadline : Option ℕ
@@ -58,7 +58,7 @@ abbrev pub first_view : {Packet State Exchange : Type 0} → Script Packet State
 first_view script = record {
   state = script.state;
   exchange = script.exchange;
-  limit = script.limit;
+  timeout_sec = script.timeout_sec;
   entered = 0;
   phase = Unpolled;
   deadline = None;
@@ -99,7 +99,7 @@ abbrev pub enter : {State Exchange : Type 0} → NextState State Exchange → Vi
 enter next view = record {
   state = next.state;
   exchange = next.exchange;
-  limit = view.limit;
+  timeout_sec = view.timeout_sec;
   entered = 0;
   phase = Unpolled;
   deadline = None;
@@ -138,7 +138,8 @@ module _ {PublicState Packet Message State Exchange Answer Lease : Type 0}
   -- whether the time limit is over; it counts from the first poll in a state on
   abbrev pub limit_is_over_in : Phase → ℕ → View State Exchange → Bool
   limit_is_over_in Unpolled now view = false
-  limit_is_over_in _ now view = has_come now (limit_moment p view.limit view.entered view.state)
+  limit_is_over_in _ now view =
+      has_come now (limit_moment p view.timeout_sec view.entered view.state)
 
   abbrev pub limit_is_over : ℕ → View State Exchange → Bool
   limit_is_over now view = limit_is_over_in view.phase now view

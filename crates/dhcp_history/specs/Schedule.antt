@@ -33,7 +33,7 @@ module _ {PublicState Packet Message State Exchange Answer Lease : Type 0}
   next_moment client =
       earlier client.standing.deadline
       (earlier (p.ending_moment client.state)
-      (limit_moment p client.limit client.standing.entered client.state))
+      (limit_moment p client.timeout_sec client.standing.entered client.state))
 
   -- The moment of the next poll that does something. A client that was not polled in its state is
   -- polled at once where it sends there, and else at the end of the state. A client that has

@@ -12,7 +12,7 @@ use Rattle.std.specs.Prelude.{ℕ, List}
 -- A script: the time limit in seconds, 0 where there is none; the state and the exchange with which
 -- the client begins; the random words that are left then; the events.
 pub record Script (Packet State Exchange : Type 0) : Type 0 where
-  pub limit : ℕ
+  pub timeout_sec : ℕ
   pub state : State
   pub exchange : Exchange
   pub words : List ℕ

@@ -35,8 +35,8 @@ pub struct Standing<X> {
 pub struct Client<S, X> {
     /// What it is in, with what that rests on.
     pub state: S,
-    /// Its time limit in seconds, 0 where there is none.
-    pub limit: u32,
+    /// Its time limit, in seconds, and 0 where there is none.
+    pub timeout_sec: u32,
     /// Where it stands in its state.
     pub standing: Standing<X>,
     /// The last moment given to it, in milliseconds, 0 where there was none.

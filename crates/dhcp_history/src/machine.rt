@@ -82,9 +82,9 @@ fn is_stopped(phase: Phase) -> bool
 // Whether so many seconds have passed since the stay was entered.
 fn limit_has_come<R: Rules>(rules: &R, client: &Client<R::State, R::Exchange>, now: u64) -> bool
     ensures { result ≡ has_come now (limit_moment (R.protocol rules.now)
-        client.now.limit client.now.standing.entered client.now.state) }
+        client.now.timeout_sec client.now.standing.entered client.now.state) }
 {
-    let limit = 1000 * client.limit as u64;
+    let limit = 1000 * client.timeout_sec as u64;
     rules.has_time_limit(&client.state)
         && limit > 0
         && client.standing.entered <= now
@@ -147,7 +147,7 @@ fn end_state<R: Rules>(
         (view_of client.old drawn) }
     ensures reported { result ≡ (R.protocol rules.now).public_state client.new.state }
     ensures unpolled { is_unpolled client.new.standing.phase ≡ true }
-    ensures limit { client.new.limit ≡ client.old.limit }
+    ensures timeout { client.new.timeout_sec ≡ client.old.timeout_sec }
     ensures moment { client.new.last_moment ≡ now }
 {
     let mut exchange = exchange_at(rules, client.standing, now);
@@ -212,7 +212,7 @@ fn transmit<R: Rules, W: Words, L: DhcpLink>(
         HasTransmitted (R.protocol rules.now) now (view_with client.old begun drawn)
         (view_of client.new) (W.left words.new) before (L.shown link.new))) }
     ensures state { client.new.state ≡ client.old.state }
-    ensures limit { client.new.limit ≡ client.old.limit }
+    ensures timeout { client.new.timeout_sec ≡ client.old.timeout_sec }
     ensures moment { OnOk result (client.new.last_moment ≡ now) }
     ensures unchanged { OnErr result (IsUnsent client.old client.new
         (L.shown link.old) (L.shown link.new)) }
@@ -267,7 +267,7 @@ fn receive<R: Rules, W: Words, L: DhcpLink>(
         (receive (R.protocol rules.now) now (input_of before.waiting) None
         (view_of client.old drawn))
         change (view_of client.new) (W.left words.new) before (L.shown link.new))) }
-    ensures limit { client.new.limit ≡ client.old.limit }
+    ensures timeout { client.new.timeout_sec ≡ client.old.timeout_sec }
     ensures moment { client.new.last_moment ≡ client.old.last_moment }
     ensures state { OnErr result (client.new.state ≡ client.old.state) }
     ensures standing { OnErr result (client.new.standing ≡ client.old.standing) }
@@ -323,7 +323,7 @@ fn receive_early<R: Rules, W: Words, L: DhcpLink>(
         client.old.state begun
         (W.left words.old) (W.left words.new) (L.shown link.old) (L.shown link.new)
         (L.faults link.old) (L.faults link.new) }
-    ensures limit { client.new.limit ≡ client.old.limit }
+    ensures timeout { client.new.timeout_sec ≡ client.old.timeout_sec }
     ensures moment { UnlessNoMemory result (client.new.last_moment ≡ now) }
     ensures in_time { OnTimeout result ⊥ }
     ensures state { OnErr result (client.new.state ≡ client.old.state) }
@@ -367,7 +367,7 @@ fn transmit_due<R: Rules, W: Words, L: DhcpLink>(
         (transmit_and_receive (R.protocol rules.now) now before.refuses (input_of before.waiting)
         (view_with client.old begun drawn))
         result (view_of client.new) (W.left words.new) before (L.shown link.new))) }
-    ensures limit { client.new.limit ≡ client.old.limit }
+    ensures timeout { client.new.timeout_sec ≡ client.old.timeout_sec }
     ensures moment { UnlessNoMemory result (client.new.last_moment ≡ now) }
     ensures in_time { OnTimeout result ⊥ }
     ensures state { OnErr result (client.new.state ≡ client.old.state) }
@@ -419,7 +419,7 @@ pub fn run<R: Rules, W: Words, L: DhcpLink>(
     ensures cause { OnTimeout result ((drawn : List ℕ) →
         (is_stopped client.old.standing.phase ||
         limit_is_over (R.protocol rules.now) now (view_of client.old drawn)) ≡ true) }
-    ensures limit { client.new.limit ≡ client.old.limit }
+    ensures timeout { client.new.timeout_sec ≡ client.old.timeout_sec }
     ensures armed { HasNextAttempt (R.protocol rules.now).has_attempts client.old →
         HasNextAttempt (R.protocol rules.now).has_attempts client.new }
     ensures moment { UnlessNoMemory result (client.new.last_moment ≡ now) }

@@ -23,7 +23,7 @@ pub enum ReleaseError {
 pub fn clean_up<R: Rules>(rules: &R, client: &mut Client<R::State, R::Exchange>)
     ensures client { (drawn : List ℕ) →
         view_of client.new drawn ≡ clean_up (R.protocol rules.now) (view_of client.old drawn) }
-    ensures limit { client.new.limit ≡ client.old.limit }
+    ensures timeout { client.new.timeout_sec ≡ client.old.timeout_sec }
     ensures moment { client.new.last_moment ≡ client.old.last_moment }
 {
     let mut exchange = client.standing.exchange;
@@ -42,7 +42,7 @@ pub fn release_held<R: Rules, L: DhcpLink>(
         (IfSome (L.shown link.old) (λ before. (drawn : List ℕ) →
         HasReleased (release_held (R.protocol rules.now) before.refuses (view_of client.old drawn))
         result (view_of client.new drawn) before (L.shown link.new))) }
-    ensures limit { client.new.limit ≡ client.old.limit }
+    ensures timeout { client.new.timeout_sec ≡ client.old.timeout_sec }
     ensures moment { client.new.last_moment ≡ client.old.last_moment }
     ensures state { OnErr result (client.new.state ≡ client.old.state) }
     ensures standing { OnErr result (client.new.standing ≡ client.old.standing) }

@@ -24,12 +24,12 @@ fn earlier(first: Option<u64>, second: Option<u64>) -> Option<u64>
 // The moment at which the time limit of the state is over.
 fn limit_moment<R: Rules>(rules: &R, client: &Client<R::State, R::Exchange>) -> Option<u64>
     ensures { result ≡ limit_moment (R.protocol rules.now)
-        client.now.limit client.now.standing.entered client.now.state }
+        client.now.timeout_sec client.now.standing.entered client.now.state }
 {
-    if client.limit == 0 || !rules.has_time_limit(&client.state) {
+    if client.timeout_sec == 0 || !rules.has_time_limit(&client.state) {
         return None;
     }
-    Some(client.standing.entered + 1000 * client.limit as u64)
+    Some(client.standing.entered + 1000 * client.timeout_sec as u64)
 }
 
 // The next attempt, the end of the state or that of the time limit, whichever comes first.

@@ -87,4 +87,4 @@ returns-clause-quiet g c = λ drawn.
     (g.W.Words.left c.args.words.now) (g.W.Words.left c.begin_stay-begun.new.words) (g.W.Words.left c.receive_early.new.words) (g.L.DhcpLink.shown c.args.link.now) (g.L.DhcpLink.shown c.receive_early.new.link)
     (g.L.DhcpLink.faults c.args.link.now) (g.L.DhcpLink.faults c.receive_early.new.link) drawn
     (sym c.is_stopped.ensures ∙ c.if-is_stopped.false) (sym (c.limit_is_over.ensures drawn) ∙ c.if-limit_is_over.false) (sym (c.has_ended.ensures drawn) ∙ c.if-has_ended.false)
-    c.begin_stay-begun.ensures.polled c.begin_stay-begun.ensures.undrawn c.receive_early.ensures.limit c.receive_early.ensures.shut
+    c.begin_stay-begun.ensures.polled c.begin_stay-begun.ensures.undrawn c.receive_early.ensures.timeout c.receive_early.ensures.shut
