@@ -2,7 +2,7 @@
 use Rattle.std.proofs.Common.{subst, ◌≡◌, ℕ, suc, zero, ◌+◌, ◌*◌, ◌≤◌, List, [], ◌∷◌, ◌++◌, length, refl, ap, Bool, true, false, arith, ◌∙◌, sym, append_assoc}
 use Rattle.std.specs.Prelude.{Option, Some, None, flat_map, if◌then◌else◌, ◌&&◌, ◌||◌}
 use Rattle.std.proofs.lemmas.Bool.{lt-leb}
-use Rattle.dhcp_history.specs.Protocol.{Protocol, Lawful, has_come}
+use Rattle.dhcp_history.specs.Protocol.{Protocol, Lawful, has_come, pause_of}
 use Rattle.dhcp_history.specs.Script.{Input, Nothing, Arrival, Release, CleanUp, Event, Output}
 use Rattle.dhcp_history.specs.History.{before, from, ends, overruns, closes, cuts, Progress, exchange_after, Course, course, Transition, transition, first_progress, entry_progress, entry_pause, setting_at, first_due, limit_moment, limit_after, act_outputs, stays, outputs, Setting, reading_of}
 use Rattle.dhcp_history.specs.Script.{input_after_call}
@@ -252,7 +252,7 @@ module _ {PublicState Packet Message State Exchange Answer Lease : Type 0} (p : 
     polled = refl;
     works = refl;
     timely = λ moment h listening. absurd (cc listening);
-    armed = λ later h. first_armed view.state (now + (p.pause view.state view.exchange view.words).value) later h;
+    armed = λ later h. first_armed view.state (now + (pause_of p view.state view.exchange view.words).value) later h;
   })
 
   pub begun_state : (now : ℕ) (view : View State Exchange) → (begin_stay p now view).state ≡ view.state

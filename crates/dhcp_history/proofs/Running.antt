@@ -12,8 +12,8 @@ use Rattle.dhcp_history.specs.declared.machine.RunError.TheVariants as run
 use Rattle.dhcp_history.specs.Protocol.{Protocol, has_come}
 use Rattle.dhcp_history.specs.Script.{Input, Nothing}
 use Rattle.dhcp_history.specs.History.{reading_of}
-use Rattle.dhcp_history.specs.Machine.{View, Phase, Unpolled, Pausing, Listening, Resting, Stopped, PollEffect, is_stopped, is_listening, is_unpolled, limit_is_over, limit_is_over_in, has_ended, stop, begin_stay, attempt_now, transmit, clean_up, take_answer, receive, transmit_and_receive, poll, end_state, enter, exchange_at}
-use Rattle.dhcp_history.specs.Client.{view_of}
+use Rattle.dhcp_history.specs.Machine.{View, Phase, Unpolled, Pausing, Listening, Resting, Stopped, PollEffect, is_stopped, is_listening, is_unpolled, limit_is_over, limit_is_over_in, has_ended, stop, begin_in, begin_stay, attempt_now, transmit, clean_up, take_answer, receive, transmit_and_receive, poll, end_state, enter, exchange_at}
+use Rattle.dhcp_history.specs.Client.{view_of, silent}
 use Rattle.dhcp_history.specs.Schedule.{HasNextAttempt}
 use Rattle.dhcp_history.specs.Run.{input_of, waiting_of, UnlessNoMemory, OnNoMemory, sent_by, handed_by, answer_by, HasPolled, HasReceived, HasDrawn, HasTransmitted, IsUnsent, IsSent, is_waiting, quiet_poll, HasPolledQuietly, IsShut}
 use Rattle.dhcp_history.specs.Release.{release_by, HasReleased}
@@ -82,52 +82,97 @@ module _ {PublicState State Exchange Answer Lease : Type 0} (p : Protocol Public
     quiet_busy b f e w = rw (b, f, e, w)
 
     pub quiet_waits : is_stopped view.phase ≡ false → limit_is_over p now view ≡ false → has_ended p now view ≡ false → is_waiting p now view ≡ true →
-        quiet_poll p now view ≡ Some (record { view = view; handed = None; left = Nothing; change = None; failed = false })
+        quiet_poll p now view ≡ Some (record { view = begin_stay p now view; handed = None; left = Nothing; change = None; failed = false })
     quiet_waits b f e w = rw (b, f, e, w)
 
-    -- a client that waits was polled, and does not listen
-    pub waits_shut : is_waiting p now view ≡ true → (is_unpolled view.phase ≡ false) × (is_listening view.phase ≡ false)
-    waits_shut w = go view.phase w
+    -- a polled client that waits does not listen
+    pub waits_shut : is_unpolled view.phase ≡ false → is_waiting p now view ≡ true → is_listening view.phase ≡ false
+    waits_shut polled w = go (is_listening view.phase) (rw polled at w)
       where
-        go : (phase : Phase) → not (is_unpolled phase || (is_listening phase || has_come now view.deadline)) ≡ true → (is_unpolled phase ≡ false) × (is_listening phase ≡ false)
-        go Unpolled h = absurd (cc h)
-        go Pausing h = (refl, refl)
-        go Listening h = absurd (cc h)
-        go Resting h = (refl, refl)
-        go Stopped h = (refl, refl)
+        go : (b : Bool) → not (b || has_come now view.deadline) ≡ true → b ≡ false
+        go true h = absurd (cc h)
+        go false h = refl
+
+    -- an unpolled one does not send
+    pub waits_silent : is_unpolled view.phase ≡ true → is_waiting p now view ≡ true → p.has_attempts view.state ≡ false
+    waits_silent fresh w = go (p.has_attempts view.state) (rw fresh at w)
+      where
+        go : (b : Bool) → not b ≡ true → b ≡ false
+        go true h = absurd (cc h)
+        go false h = refl
 
   -- a client whose attempt is due does not wait
-  pub due_busy : (now : ℕ) (client : Client State Exchange) (begun : Standing Exchange) (drawn : List ℕ) → (is_unpolled client.standing.phase ≡ false → begun ≡ client.standing) → has_come now begun.deadline ≡ true →
+  pub due_busy : (now : ℕ) (client : Client State Exchange) (begun : Standing Exchange) (drawn : List ℕ) {Same : Type 0} → (is_unpolled client.standing.phase ≡ false → (begun ≡ client.standing) × Same) →
+      (is_unpolled client.standing.phase ≡ true → p.has_attempts client.state ≡ false → (begun ≡ silent now client.standing.exchange) × Same) → has_come now begun.deadline ≡ true →
       is_waiting p now (view_of client drawn) ≡ false
-  due_busy now client begun drawn same due = go (is_unpolled client.standing.phase) refl
+  due_busy now client begun drawn same none due = go (is_unpolled client.standing.phase) refl
     where
       late : (a : Bool) → not (a || true) ≡ false
       late true = refl
       late false = refl
 
+      sends : is_unpolled client.standing.phase ≡ true → (b : Bool) → p.has_attempts client.state ≡ b → not b ≡ false
+      sends e true a = refl
+      sends e false a =
+          let never : has_come now None ≡ true = subst (λ (s : Standing Exchange). has_come now s.deadline ≡ true) (none e a).0 due in
+          absurd (cc never)
+
       go : (b : Bool) → is_unpolled client.standing.phase ≡ b → is_waiting p now (view_of client drawn) ≡ false
-      go true e = rw e
+      go true e = rw e (sends e (p.has_attempts client.state) refl)
       go false e =
-          let come : has_come now client.standing.deadline ≡ true = subst (λ (s : Standing Exchange). has_come now s.deadline ≡ true) (same e) due in
+          let come : has_come now client.standing.deadline ≡ true = subst (λ (s : Standing Exchange). has_come now s.deadline ≡ true) (same e).0 due in
           rw (e, come) (late (is_listening client.standing.phase))
+
+  begun_polled : (now : ℕ) (view : View State Exchange) → is_unpolled view.phase ≡ false → begin_stay p now view ≡ view
+  begun_polled now view = go view.phase
+    where
+      go : (phase : Phase) → is_unpolled phase ≡ false → begin_in p phase now view ≡ view
+      go Unpolled e = absurd (cc e)
+      go Pausing e = refl
+      go Listening e = refl
+      go Resting e = refl
+      go Stopped e = refl
+
+  begun_silent : (now : ℕ) (view : View State Exchange) → is_unpolled view.phase ≡ true → p.has_attempts view.state ≡ false →
+      begin_stay p now view ≡ record view { phase = Pausing; entered = now; deadline = None }
+  begun_silent now view = go view.phase
+    where
+      go : (phase : Phase) → is_unpolled phase ≡ true → p.has_attempts view.state ≡ false → begin_in p phase now view ≡ record view { phase = Pausing; entered = now; deadline = None }
+      go Unpolled e a = rw a
+      go Pausing e a = absurd (cc e)
+      go Listening e a = absurd (cc e)
+      go Resting e a = absurd (cc e)
+      go Stopped e a = absurd (cc e)
 
   -- a poll whose attempt is not due: the client waits, or the poll is not quiet
   pub early_quiet : (now : ℕ) (client new : Client State Exchange) (begun : Standing Exchange) (result : Result (Option PublicState) RunError) (drawn mid left : Option (List ℕ)) (before after : Option Shown) (failed failed' : ℕ) (words : List ℕ) →
       is_stopped client.standing.phase ≡ false → limit_is_over p now (view_of client words) ≡ false → has_ended p now (view_of client words) ≡ false →
-      (is_unpolled client.standing.phase ≡ false → begun ≡ client.standing) → (is_unpolled client.standing.phase ≡ false → mid ≡ drawn) → new.timeout_sec ≡ client.timeout_sec →
+      (is_unpolled client.standing.phase ≡ false → (begun ≡ client.standing) × (mid ≡ drawn)) →
+      (is_unpolled client.standing.phase ≡ true → p.has_attempts client.state ≡ false → (begun ≡ silent now client.standing.exchange) × (mid ≡ drawn)) → new.timeout_sec ≡ client.timeout_sec →
       (is_listening begun.phase ≡ false → IsShut result new client.state begun mid left before after failed failed') →
       IfSome (quiet_poll p now (view_of client words)) (λ once. HasPolledQuietly p once result (view_of new words) drawn left before after failed failed')
-  early_quiet now client new begun result drawn mid left before after failed failed' words b f e same undrawn timeout_sec shut = go (is_waiting p now (view_of client words)) refl
+  early_quiet now client new begun result drawn mid left before after failed failed' words b f e same none timeout shut = go (is_waiting p now (view_of client words)) refl (is_unpolled client.standing.phase) refl
     where
-      go : (w : Bool) → is_waiting p now (view_of client words) ≡ w → IfSome (quiet_poll p now (view_of client words)) (λ once. HasPolledQuietly p once result (view_of new words) drawn left before after failed failed')
-      go false w = rw (quiet_busy now (view_of client words) b f e w) tt
-      go true w =
-          let waits : (is_unpolled client.standing.phase ≡ false) × (is_listening client.standing.phase ≡ false) = waits_shut now (view_of client words) w in
-          let is : IsShut result new client.state begun mid left before after failed failed' = shut (rw (same waits.0) (waits.1)) in
-          rw (quiet_waits now (view_of client words) b f e w) (record {
+      go : (w : Bool) → is_waiting p now (view_of client words) ≡ w → (u : Bool) → is_unpolled client.standing.phase ≡ u →
+          IfSome (quiet_poll p now (view_of client words)) (λ once. HasPolledQuietly p once result (view_of new words) drawn left before after failed failed')
+      go false w u h = rw (quiet_busy now (view_of client words) b f e w) tt
+      go true w false h =
+          let waits : is_listening client.standing.phase ≡ false = waits_shut now (view_of client words) h w in
+          let is : IsShut result new client.state begun mid left before after failed failed' = shut (rw (same h).0 waits) in
+          rw (quiet_waits now (view_of client words) b f e w, begun_polled now (view_of client words) h) (record {
             answer = is.answer;
-            client = rw (is.state, is.standing, same waits.0, timeout_sec);
-            words = is.words ∙ undrawn waits.0;
+            client = rw (is.state, is.standing, (same h).0, timeout);
+            words = is.words ∙ (same h).1;
+            link = is.link;
+            faults = is.faults;
+          })
+      go true w true h =
+          let quiet : p.has_attempts client.state ≡ false = waits_silent now (view_of client words) h w in
+          let is : IsShut result new client.state begun mid left before after failed failed' = shut (rw (none h quiet).0) in
+          rw (quiet_waits now (view_of client words) b f e w, begun_silent now (view_of client words) h quiet) (record {
+            answer = is.answer;
+            client = rw (is.state, is.standing, (none h quiet).0, timeout);
+            words = is.words ∙ (none h quiet).1;
             link = is.link;
             faults = is.faults;
           })

@@ -7,7 +7,7 @@ use Rattle.dhcp_clock.specs.Wait.{half_wait}
 use Rattle.dhcp_clock.specs.Words.{next_of}
 use Rattle.dhcp_history.specs.declared.rules.AttemptStart.{AttemptStart}
 use Rattle.dhcp_history.specs.declared.rules.NewAttempt.{NewAttempt}
-use Rattle.dhcp_history.specs.Protocol.{Protocol, Lawful, Drawn, NextState, has_come}
+use Rattle.dhcp_history.specs.Protocol.{Protocol, Lawful, Drawn, NextState, has_come, pause_of}
 
 -- a lease: its renewal time and its lease time, in milliseconds
 pub record Lease : Type 0 where
@@ -145,17 +145,11 @@ wait_within (Requesting lease) count start moment a e h = absurd (cc e)
 wait_within (Bound lease since) count start moment a e h = absurd (cc a)
 wait_within (Renewing lease since) count start moment a e h = let same : since + lease.lasts ≡ moment = cc e in omega (arith, same, h)
 
-ended_draws_none : (state : State) (count : ℕ) (words : List ℕ) (now : ℕ) → has_come now (ending state) ≡ true → (pause state count words).words ≡ words
+ended_draws_none : (state : State) (count : ℕ) (words : List ℕ) (now : ℕ) → has_come now (ending state) ≡ true → (pause_of client state count words).words ≡ words
 ended_draws_none Selecting count words now h = absurd (cc h)
 ended_draws_none (Requesting lease) count words now h = refl
 ended_draws_none (Bound lease since) count words now h = refl
 ended_draws_none (Renewing lease since) count words now h = refl
-
-silent_draws_none : (state : State) (count : ℕ) (words : List ℕ) → has_attempts state ≡ false → (pause state count words).words ≡ words
-silent_draws_none Selecting count words h = absurd (cc h)
-silent_draws_none (Requesting lease) count words h = absurd (cc h)
-silent_draws_none (Bound lease since) count words h = refl
-silent_draws_none (Renewing lease since) count words h = absurd (cc h)
 
 rank_bound : (state : State) (packet : Bool) → rank state packet ≤ 6
 rank_bound Selecting false = omega arith
@@ -192,7 +186,6 @@ client_lawful = record {
   wait_positive = λ state count start words h. wait_positive state count start h;
   wait_within = λ state count start words moment a e h. wait_within state count start moment a e h;
   ended_draws_none = ended_draws_none;
-  silent_draws_none = silent_draws_none;
   rank = rank;
   rank_bound = rank_bound;
   rank_ended = λ state count after packet now h. rank_ended state count packet now h;

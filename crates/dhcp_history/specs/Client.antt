@@ -1,8 +1,8 @@
 -- A client, as the protocol sees it.
-use Rattle.std.specs.Prelude.{◌≡◌, ℕ, List, None}
+use Rattle.std.specs.Prelude.{ℕ, List, None}
 use Rattle.dhcp_history.specs.declared.client.Client.{Client}
 use Rattle.dhcp_history.specs.declared.client.Standing.{Standing}
-use Rattle.dhcp_history.specs.Machine.{View, Unpolled}
+use Rattle.dhcp_history.specs.Machine.{View, Unpolled, Pausing}
 
 -- a client that stands so in its state, with these words left
 abbrev pub view_with : {State Exchange : Type 0} → Client State Exchange → Standing Exchange →
@@ -25,3 +25,7 @@ view_of client words = view_with client client.standing words
 -- how a client stands that was not polled in its state yet
 abbrev pub unpolled : {Exchange : Type 0} → Exchange → Standing Exchange
 unpolled exchange = record { exchange = exchange; entered = 0; phase = Unpolled; deadline = None }
+
+-- and one that was polled now for the first time in a state in which it does not send
+abbrev pub silent : {Exchange : Type 0} → ℕ → Exchange → Standing Exchange
+silent now exchange = record { exchange = exchange; entered = now; phase = Pausing; deadline = None }

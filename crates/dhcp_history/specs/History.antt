@@ -2,7 +2,7 @@
 -- that a client spends in one state.
 use Rattle.std.specs.Prelude.{ℕ, suc, zero, ◌+◌, ◌*◌, Bool, true, false, not, ◌&&◌, ◌||◌, List, [], ◌∷◌, ◌++◌, length, flat_map, Option, Some, None, is_some, option_map, if◌then◌else◌}
 use Rattle.dhcp_history.specs.declared.rules.NewAttempt.{NewAttempt}
-use Rattle.dhcp_history.specs.Protocol.{Protocol, Drawn, NextState, has_come}
+use Rattle.dhcp_history.specs.Protocol.{Protocol, Drawn, NextState, has_come, pause_of}
 use Rattle.dhcp_history.specs.Script.{Input, Nothing, Arrival, Release, CleanUp, Event, TimedOut, SendRefused, Handed, Refused, Changed, Failed, Output, Script, after_call}
 
 -- whether the event is at or past the moment; no event is past none
@@ -455,7 +455,7 @@ module _ {PublicState Packet Message State Exchange Answer Lease : Type 0}
   -- where a stay stands that is entered at this moment: its first attempt is due after its pause
   abbrev pub first_progress : Entry State Exchange → ℕ → Progress Exchange
   first_progress entry moment =
-      let pause = p.pause entry.state entry.exchange entry.words in
+      let pause = pause_of p entry.state entry.exchange entry.words in
       record {
         last = NoneYet;
         due = first_due entry.state (moment + pause.value);
@@ -473,7 +473,7 @@ module _ {PublicState Packet Message State Exchange Answer Lease : Type 0}
 
   abbrev pub entry_pause : Setting State → Entry State Exchange → Event Packet → ℕ
   entry_pause setting entry event =
-      if cuts setting event then 0 else (p.pause entry.state entry.exchange entry.words).value
+      if cuts setting event then 0 else (pause_of p entry.state entry.exchange entry.words).value
 
   -- the stays from an entry on, the first of them entered at the first of these events; `fuel` is
   -- above the number of stays

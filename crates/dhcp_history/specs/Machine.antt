@@ -3,7 +3,7 @@ pub use Rattle.dhcp_history.specs.declared.client.Phase.{Phase}
 pub use Rattle.dhcp_history.specs.declared.client.Phase.TheVariants.{Unpolled, Pausing, Listening, Resting, Stopped}
 use Rattle.std.specs.Prelude.{ℕ, suc, zero, ◌+◌, Bool, true, false, ◌&&◌, ◌||◌, List, [], ◌∷◌, ◌++◌, Option, Some, None, if◌then◌else◌}
 use Rattle.dhcp_history.specs.declared.rules.NewAttempt.{NewAttempt}
-use Rattle.dhcp_history.specs.Protocol.{Protocol, Drawn, NextState, has_come}
+use Rattle.dhcp_history.specs.Protocol.{Protocol, Drawn, NextState, has_come, pause_of}
 use Rattle.dhcp_history.specs.Script.{Input, Nothing, Arrival, Release, CleanUp, Event, TimedOut, SendRefused, Handed, Refused, Changed, Failed, Output, Script, after_call}
 use Rattle.dhcp_history.specs.History.{first_due, limit_moment, reading_of, after_wait_if}
 
@@ -162,7 +162,7 @@ module _ {PublicState Packet Message State Exchange Answer Lease : Type 0}
   -- the first poll in a state draws its pause
   abbrev pub begin_in : Phase → ℕ → View State Exchange → View State Exchange
   begin_in Unpolled now view =
-      let pause = p.pause view.state view.exchange view.words in
+      let pause = pause_of p view.state view.exchange view.words in
       record view {
         phase = Pausing;
         entered = now;

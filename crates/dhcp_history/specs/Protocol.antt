@@ -1,6 +1,6 @@
 -- A DHCP protocol as a table of states (RFC 2131 section 4.4, RFC 8415 section 18.2): what a client
 -- sends in each state and when, which packets answer it, and which state follows.
-use Rattle.std.specs.Prelude.{ℕ, suc, ◌+◌, ◌≤◌, ◌<◌, ◌≡◌, Bool, true, false, ◌||◌, nat_le, List, Option, Some, None}
+use Rattle.std.specs.Prelude.{ℕ, suc, ◌+◌, ◌≤◌, ◌<◌, ◌≡◌, Bool, true, false, ◌||◌, nat_le, List, Option, Some, None, if◌then◌else◌}
 use Rattle.dhcp_history.specs.declared.rules.AttemptStart.{AttemptStart}
 use Rattle.dhcp_history.specs.declared.rules.NewAttempt.{NewAttempt}
 
@@ -22,7 +22,7 @@ pub record Protocol (PublicState Packet Message State Exchange Answer Lease : Ty
   pub public_state : State → PublicState
   -- whether the client sends in a state
   pub has_attempts : State → Bool
-  -- how long it waits before it sends for the first time
+  -- how long it waits before it sends for the first time, where it does
   pub pause : State → Exchange → List ℕ → Drawn ℕ
   -- an attempt: its message, how long an answer is awaited, and the exchange from then on
   pub attempt : State → Exchange → AttemptStart → List ℕ → Drawn (NewAttempt Exchange Message)
@@ -49,6 +49,13 @@ abbrev pub has_come : ℕ → Option ℕ → Bool
 has_come now None = false
 has_come now (Some moment) = nat_le moment now
 
+-- the pause of a state; where the client does not send, it draws none
+abbrev pub pause_of : {PublicState Packet Message State Exchange Answer Lease : Type 0} →
+    Protocol PublicState Packet Message State Exchange Answer Lease → State → Exchange → List ℕ →
+    Drawn ℕ
+pause_of p state exchange words =
+    if p.has_attempts state then p.pause state exchange words else record { value = 0; words = words }
+
 -- What the theory asks of a protocol. `rank` is how many changes of state one event can bring at
 -- most from a state on, where its packet is left or not.
 pub record Lawful {PublicState Packet Message State Exchange Answer Lease : Type 0}
@@ -65,10 +72,7 @@ pub record Lawful {PublicState Packet Message State Exchange Answer Lease : Type
       start.now + (p.attempt state exchange start words).value.wait ≤ moment
   -- a state whose ending moment has come draws no pause
   pub ended_draws_none : (state : State) (exchange : Exchange) (words : List ℕ) (now : ℕ) →
-      has_come now (p.ending_moment state) ≡ true → (p.pause state exchange words).words ≡ words
-  -- a state in which the client does not send draws no pause
-  pub silent_draws_none : (state : State) (exchange : Exchange) (words : List ℕ) →
-      p.has_attempts state ≡ false → (p.pause state exchange words).words ≡ words
+      has_come now (p.ending_moment state) ≡ true → (pause_of p state exchange words).words ≡ words
   -- the changes of one event come to an end
   pub rank : State → Bool → ℕ
   pub rank_bound : (state : State) (has_packet : Bool) → rank state has_packet ≤ 6

@@ -1,5 +1,5 @@
 -- What the calls of a client leave: its answer, the client, the words and the link.
-use Rattle.std.specs.Prelude.{◌≡◌, ◌⊎◌, ℕ, Bool, true, false, not, ◌||◌, List, [], ◌∷◌, ◌++◌, Option, Some, None, if◌then◌else◌, option_map, Result, Ok, Err, IfSome, IsSomeAnd}
+use Rattle.std.specs.Prelude.{◌≡◌, ◌⊎◌, ◌+◌, ℕ, Bool, true, false, not, ◌||◌, List, [], ◌∷◌, ◌++◌, Option, Some, None, if◌then◌else◌, option_map, Result, Ok, Err, IfSome, IsSomeAnd}
 use Rattle.dhcp_clock.specs.declared.link.Packet.{Packet}
 use Rattle.dhcp_clock.specs.declared.link.Handed.{Handed}
 use Rattle.dhcp_clock.specs.declared.link.Sent.{Sent}
@@ -9,10 +9,11 @@ use Rattle.dhcp_history.specs.declared.machine.RunError.{RunError}
 use Rattle.dhcp_history.specs.declared.machine.RunError.TheVariants as run
 use Rattle.dhcp_history.specs.declared.client.Client.{Client}
 use Rattle.dhcp_history.specs.declared.client.Standing.{Standing}
-use Rattle.dhcp_history.specs.Protocol.{Protocol, has_come}
+use Rattle.dhcp_history.specs.Protocol.{Protocol, Drawn, has_come}
 use Rattle.dhcp_history.specs.Script.{Input, Nothing, Arrival, Release, CleanUp}
+use Rattle.dhcp_history.specs.History.{first_due}
 use Rattle.dhcp_history.specs.Client.{view_of}
-use Rattle.dhcp_history.specs.Machine.{View, PollEffect, stop, end_state, attempt_now, transmit, is_unpolled, is_listening, is_stopped, limit_is_over, has_ended}
+use Rattle.dhcp_history.specs.Machine.{View, PollEffect, stop, begin_stay, end_state, attempt_now, transmit, is_unpolled, is_listening, is_stopped, limit_is_over, has_ended}
 
 -- 1. The link.
 
@@ -96,11 +97,12 @@ module _ {PublicState State Exchange Answer Lease : Type 0}
       Result (Option PublicState) RunError
   answer_of once = answer_by once.change once.failed
 
-  -- a client that neither sends nor listens: its pause, or the wait of a refused attempt, is not
-  -- over
+  -- A client that neither sends nor listens: it was not polled in a state in which it does not
+  -- send; or its pause, or the wait of a refused attempt, is not over.
   abbrev pub is_waiting : ℕ → View State Exchange → Bool
   is_waiting now view =
-      not (is_unpolled view.phase || (is_listening view.phase || has_come now view.deadline))
+      if is_unpolled view.phase then not (p.has_attempts view.state)
+      else not (is_listening view.phase || has_come now view.deadline)
 
   -- what a poll does that uses neither words nor link: the client has stopped or stops now, its
   -- state ends, or it waits
@@ -109,7 +111,7 @@ module _ {PublicState State Exchange Answer Lease : Type 0}
       if is_stopped view.phase || limit_is_over p now view then Some (stop Nothing view)
       else (if has_ended p now view then Some (end_state p now Nothing view)
       else (if is_waiting now view then Some (record {
-        view = view;
+        view = begin_stay p now view;
         handed = None;
         left = Nothing;
         change = None;
@@ -136,6 +138,12 @@ module _ {PublicState State Exchange Answer Lease : Type 0}
     pub client : view once.view.words ≡ once.view
     pub words : left ≡ Some once.view.words
     pub link : after ≡ Some (shown_after before once)
+
+  -- what the pause of a state leaves: the moment from which its first attempt is due, and the words
+  pub record HasDue (now : ℕ) (state : State) (pause : Drawn ℕ) (result : Option ℕ)
+      (left : Option (List ℕ)) : Type 0 where
+    pub due : result ≡ first_due p state (now + pause.value)
+    pub words : left ≡ Some pause.words
 
   -- what the packet leaves: the change, the client, the words and the link
   pub record HasReceived (once : PollEffect Packet Handed State Exchange)

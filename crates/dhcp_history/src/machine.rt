@@ -5,7 +5,7 @@ ghost use Rattle.std.specs.Prelude.{◌≡◌, ◌≤◌, ◌<◌, ◌+◌, ◌^
 ghost use Rattle.dhcp_clock.specs.declared.link.Handed.{Handed};
 ghost use Rattle.dhcp_clock.specs.Link.{Shown, HandsOver, with_message, without_packet};
 ghost use Rattle.dhcp_wire.specs.Fault.{HasCause};
-ghost use Rattle.dhcp_history.specs.Protocol.{has_come};
+ghost use Rattle.dhcp_history.specs.Protocol.{has_come, pause_of};
 ghost use Rattle.dhcp_history.specs.History.{limit_moment, after_wait_if};
 ghost use Rattle.dhcp_history.specs.Machine.{
   is_unpolled,
@@ -22,8 +22,8 @@ ghost use Rattle.dhcp_history.specs.Machine.{
   poll,
 };
 ghost use Rattle.dhcp_history.specs.Schedule.{HasNextAttempt};
-ghost use Rattle.dhcp_history.specs.Client.{view_of, view_with, unpolled};
-ghost use Rattle.dhcp_history.specs.Run.{input_of, sent_by, UsesLink, WhereKnown, UnlessNoMemory, OnNoMemory, OnTimeout, HasPolled, HasReceived, HasTransmitted, HasDrawn, quiet_poll, HasPolledQuietly, IsShut, NeedsMemory, IsUnsent, IsSent};
+ghost use Rattle.dhcp_history.specs.Client.{view_of, view_with, unpolled, silent};
+ghost use Rattle.dhcp_history.specs.Run.{input_of, sent_by, UsesLink, WhereKnown, UnlessNoMemory, OnNoMemory, OnTimeout, HasPolled, HasReceived, HasTransmitted, HasDrawn, HasDue, quiet_poll, HasPolledQuietly, IsShut, NeedsMemory, IsUnsent, IsSent};
 
 use crate::{AttemptStart, Client, NewAttempt, Phase, Rules, Standing};
 use dhcp_clock::{DhcpLink, Handed, Sent, Words};
@@ -157,6 +157,32 @@ fn end_state<R: Rules>(
     reported
 }
 
+// The moment from which the first attempt of a state is due, after its pause; none where the client
+// does not send, and then no word is drawn.
+fn first_due<R: Rules, W: Words>(
+    rules: &R,
+    client: &Client<R::State, R::Exchange>,
+    now: u64,
+    words: &mut W,
+) -> Option<u64>
+    requires { now < 2 ^ 60 }
+    ensures drawn { IfSome (W.left words.old) (λ drawn.
+        HasDue (R.protocol rules.now) now client.now.state
+        (pause_of (R.protocol rules.now) client.now.state client.now.standing.exchange drawn)
+        result (W.left words.new)) }
+    ensures armed { (R.protocol rules.now).has_attempts client.now.state ≡ true →
+        is_some result ≡ true }
+    ensures silent { (R.protocol rules.now).has_attempts client.now.state ≡ false →
+        (result ≡ None) × (W.left words.new ≡ W.left words.old) }
+{
+    if rules.has_attempts(&client.state) {
+        let pause = rules.pause(&client.state, client.standing.exchange, words);
+        Some(now + pause)
+    } else {
+        None
+    }
+}
+
 // Step 4: how the client stands once it was polled in its state; the first poll draws the pause.
 fn begin_stay<R: Rules, W: Words>(
     rules: &R,
@@ -170,9 +196,11 @@ fn begin_stay<R: Rules, W: Words>(
         (view_with client.now result) (W.left words.new)) }
     ensures listens { is_listening result.phase ≡ is_listening client.now.standing.phase }
     ensures open { is_listening result.phase ≡ true → result ≡ client.now.standing }
-    ensures polled { is_unpolled client.now.standing.phase ≡ false → result ≡ client.now.standing }
-    ensures undrawn { is_unpolled client.now.standing.phase ≡ false →
-        W.left words.new ≡ W.left words.old }
+    ensures polled { is_unpolled client.now.standing.phase ≡ false →
+        (result ≡ client.now.standing) × (W.left words.new ≡ W.left words.old) }
+    ensures silent { is_unpolled client.now.standing.phase ≡ true →
+        (R.protocol rules.now).has_attempts client.now.state ≡ false →
+        (result ≡ silent now client.now.standing.exchange) × (W.left words.new ≡ W.left words.old) }
     ensures armed { HasNextAttempt (R.protocol rules.now).has_attempts client.now →
         (R.protocol rules.now).has_attempts client.now.state ≡ true →
         is_some result.deadline ≡ true }
@@ -181,17 +209,11 @@ fn begin_stay<R: Rules, W: Words>(
     if client.standing.phase != Phase::Unpolled {
         return client.standing;
     }
-    let pause = rules.pause(&client.state, client.standing.exchange, words);
-    let deadline = if rules.has_attempts(&client.state) {
-        Some(now + pause)
-    } else {
-        None
-    };
     Standing {
         exchange: client.standing.exchange,
         entered: now,
         phase: Phase::Pausing,
-        deadline,
+        deadline: first_due(rules, client, now, words),
     }
 }
 

@@ -1,7 +1,7 @@
 //! When a client next does something without a packet.
 
 ghost use Rattle.std.specs.Prelude.{◌≡◌, ◌≤◌, ℕ, List, Bool, true, false};
-ghost use Rattle.dhcp_history.specs.Protocol.{Lawful, has_come};
+ghost use Rattle.dhcp_history.specs.Protocol.{has_come};
 ghost use Rattle.dhcp_history.specs.Script.{Nothing};
 ghost use Rattle.dhcp_history.specs.History.{limit_moment};
 ghost use Rattle.dhcp_history.specs.Machine.{is_stopped, poll};
@@ -48,7 +48,7 @@ fn next_moment<R: Rules>(rules: &R, client: &Client<R::State, R::Exchange>) -> O
 /// or begins a pause. It is none where the client has stopped, or nothing lies ahead in its state.
 pub fn next_poll<R: Rules>(rules: &R, client: &Client<R::State, R::Exchange>) -> Option<u64>
     ensures moment { result ≡ next_poll (R.protocol rules.now) client.now }
-    ensures before { Lawful (R.protocol rules.now) → (now : ℕ) (refuse : Bool) (drawn : List ℕ) →
+    ensures before { (now : ℕ) (refuse : Bool) (drawn : List ℕ) →
         is_stopped client.now.standing.phase ≡ false → client.now.last_moment ≤ now →
         has_come now result ≡ false →
         IsIdle (R.protocol rules.now) now (view_of client.now drawn)

@@ -78,7 +78,7 @@ pub returns-then-has_come-clause-quiet : goal.returns-then-has_come-clause-quiet
 returns-then-has_come-clause-quiet g c = λ drawn.
     let p = g.R.Rules.protocol c.args.rules.now in
     rw (quiet_busy p c.args.now (view_of c.args.client.now drawn) (sym c.is_stopped.ensures ∙ c.if-is_stopped.false) (sym (c.limit_is_over.ensures drawn) ∙ c.if-limit_is_over.false) (sym (c.has_ended.ensures drawn) ∙ c.if-has_ended.false)
-    (due_busy p c.args.now c.args.client.now c.begin_stay-begun.result drawn c.begin_stay-begun.ensures.polled (sym c.has_come.ensures ∙ c.if-has_come.true)))
+    (due_busy p c.args.now c.args.client.now c.begin_stay-begun.result drawn c.begin_stay-begun.ensures.polled c.begin_stay-begun.ensures.silent (sym c.has_come.ensures ∙ c.if-has_come.true)))
     tt
 
 pub returns-clause-quiet : goal.returns-clause-quiet
@@ -87,4 +87,4 @@ returns-clause-quiet g c = λ drawn.
     (g.W.Words.left c.args.words.now) (g.W.Words.left c.begin_stay-begun.new.words) (g.W.Words.left c.receive_early.new.words) (g.L.DhcpLink.shown c.args.link.now) (g.L.DhcpLink.shown c.receive_early.new.link)
     (g.L.DhcpLink.faults c.args.link.now) (g.L.DhcpLink.faults c.receive_early.new.link) drawn
     (sym c.is_stopped.ensures ∙ c.if-is_stopped.false) (sym (c.limit_is_over.ensures drawn) ∙ c.if-limit_is_over.false) (sym (c.has_ended.ensures drawn) ∙ c.if-has_ended.false)
-    c.begin_stay-begun.ensures.polled c.begin_stay-begun.ensures.undrawn c.receive_early.ensures.timeout c.receive_early.ensures.shut
+    c.begin_stay-begun.ensures.polled c.begin_stay-begun.ensures.silent c.receive_early.ensures.timeout c.receive_early.ensures.shut
