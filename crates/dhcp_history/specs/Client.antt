@@ -28,4 +28,5 @@ unpolled exchange = record { exchange = exchange; entered = 0; phase = Unpolled;
 
 -- and one that was polled now for the first time in a state in which it does not send
 abbrev pub silent : {Exchange : Type 0} → ℕ → Exchange → Standing Exchange
-silent now exchange = record { exchange = exchange; entered = now; phase = Pausing; deadline = None }
+silent now exchange =
+    record { exchange = exchange; entered = now; phase = Pausing; deadline = None }

@@ -54,7 +54,8 @@ abbrev pub pause_of : {PublicState Packet Message State Exchange Answer Lease : 
     Protocol PublicState Packet Message State Exchange Answer Lease → State → Exchange → List ℕ →
     Drawn ℕ
 pause_of p state exchange words =
-    if p.has_attempts state then p.pause state exchange words else record { value = 0; words = words }
+    if p.has_attempts state then p.pause state exchange words
+    else record { value = 0; words = words }
 
 -- What the theory asks of a protocol. `rank` is how many changes of state one event can bring at
 -- most from a state on, where its packet is left or not.

@@ -2,6 +2,7 @@
 //! and reports them. Both are defined once, for every family of client.
 #![tactic(auto)]
 
+mod attempt;
 mod client;
 mod event_loop;
 pub mod laws;

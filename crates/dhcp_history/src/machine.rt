@@ -2,9 +2,6 @@
 //! own, over any rules, words and link.
 
 ghost use Rattle.std.specs.Prelude.{◌≡◌, ◌≤◌, ◌<◌, ◌+◌, ◌^◌, ◌⊎◌, ◌&&◌, ◌||◌, ℕ, List, Bool, true, false, not, Option, Some, None, is_some, Ok, Err, OnOk, OnErr, IfOk, IfSome, IsSomeAnd};
-ghost use Rattle.dhcp_clock.specs.declared.link.Handed.{Handed};
-ghost use Rattle.dhcp_clock.specs.Link.{Shown, HandsOver, with_message, without_packet};
-ghost use Rattle.dhcp_wire.specs.Fault.{HasCause};
 ghost use Rattle.dhcp_history.specs.Protocol.{has_come, pause_of};
 ghost use Rattle.dhcp_history.specs.History.{limit_moment, after_wait_if};
 ghost use Rattle.dhcp_history.specs.Machine.{
@@ -25,9 +22,9 @@ ghost use Rattle.dhcp_history.specs.Schedule.{HasNextAttempt};
 ghost use Rattle.dhcp_history.specs.Client.{view_of, view_with, unpolled, silent};
 ghost use Rattle.dhcp_history.specs.Run.{input_of, sent_by, UsesLink, WhereKnown, UnlessNoMemory, OnNoMemory, OnTimeout, HasPolled, HasReceived, HasTransmitted, HasDrawn, HasDue, quiet_poll, HasPolledQuietly, IsShut, NeedsMemory, IsUnsent, IsSent};
 
-use crate::{AttemptStart, Client, NewAttempt, Phase, Rules, Standing};
-use dhcp_clock::{DhcpLink, Handed, Sent, Words};
-use std::alloc::AllocError;
+use crate::attempt::{receive, transmit};
+use crate::{Client, Phase, Rules, Standing};
+use dhcp_clock::{DhcpLink, Words};
 
 /// Why a poll has no answer.
 #[derive(Clone, Copy, Debug, PartialEq, Eq)]
@@ -36,18 +33,6 @@ pub enum RunError {
     TimedOut,
     /// Out of memory.
     OutOfMemory,
-}
-
-// Sends a message as its kind asks.
-pub(crate) fn send<L: DhcpLink>(link: &mut L, message: Handed) -> Sent
-    ensures hands_over { HandsOver message result (L.shown link.old) (L.shown link.new) }
-    ensures faults { HasCause (result ≡ Sent.Refused) (L.faults link.old) (L.faults link.new) }
-{
-    match message {
-        Handed::Frame(bytes) => link.send_frame(bytes),
-        Handed::Udp4(from, to, bytes) => link.send_udp4(from, to, bytes),
-        Handed::Udp6(from, index, bytes) => link.send_udp6(from, index, bytes),
-    }
 }
 
 // Whether there is such a moment, and it has come.
@@ -124,7 +109,11 @@ fn has_ended<R: Rules>(rules: &R, client: &Client<R::State, R::Exchange>, now: u
 }
 
 // The exchange of the next attempt, where one is made now.
-fn exchange_at<R: Rules>(rules: &R, standing: Standing<R::Exchange>, now: u64) -> R::Exchange
+pub(crate) fn exchange_at<R: Rules>(
+    rules: &R,
+    standing: Standing<R::Exchange>,
+    now: u64,
+) -> R::Exchange
     ensures { result ≡ after_wait_if (R.protocol rules.now)
         (is_listening standing.phase && has_come now standing.deadline) standing.exchange }
 {
@@ -215,111 +204,6 @@ fn begin_stay<R: Rules, W: Words>(
         phase: Phase::Pausing,
         deadline: first_due(rules, client, now, words),
     }
-}
-
-// Step 5: an attempt of a client that stands so once it was polled. When out of memory the client
-// is unchanged.
-fn transmit<R: Rules, W: Words, L: DhcpLink>(
-    rules: &R,
-    client: &mut Client<R::State, R::Exchange>,
-    begun: Standing<R::Exchange>,
-    now: u64,
-    words: &mut W,
-    link: &mut L,
-) -> Result<(), AllocError>
-    requires moment { now < 2 ^ 60 }
-    requires small { begun.entered < 2 ^ 60 }
-    ensures transmitted { OnOk result (WhereKnown
-        (W.left words.old) (L.shown link.old) (λ drawn before.
-        HasTransmitted (R.protocol rules.now) now (view_with client.old begun drawn)
-        (view_of client.new) (W.left words.new) before (L.shown link.new))) }
-    ensures state { client.new.state ≡ client.old.state }
-    ensures timeout { client.new.timeout_sec ≡ client.old.timeout_sec }
-    ensures moment { OnOk result (client.new.last_moment ≡ now) }
-    ensures unchanged { OnErr result (IsUnsent client.old client.new
-        (L.shown link.old) (L.shown link.new)) }
-    ensures quiet { OnErr result (IfSome (L.shown link.old)
-        (λ before. L.shown link.new ≡ Some before)) }
-    ensures sent { OnOk result (IfSome (L.shown link.old) (λ before. (message : Handed)
-        × (L.shown link.new ≡ Some (with_message message (sent_by before.refuses) before)))) }
-    ensures armed { OnOk result (is_some client.new.standing.deadline ≡ true) }
-    ensures listens { OnOk result (IfSome (L.shown link.old) (λ before.
-        is_listening client.new.standing.phase ≡ not before.refuses)) }
-    ensures later { L.faults link.old ≤ L.faults link.new }
-{
-    let start = AttemptStart {
-        is_first: begun.phase == Phase::Pausing,
-        entered: begun.entered,
-        now,
-    };
-    let exchange = exchange_at(rules, begun, now);
-    let NewAttempt {
-        wait,
-        message,
-        exchange,
-    } = rules.attempt(&client.state, exchange, start, words)?;
-    let phase = match send(link, message) {
-        Sent::Taken => Phase::Listening,
-        Sent::Refused => Phase::Resting,
-        Sent::NoMemory => return Err(AllocError),
-    };
-    client.standing = Standing {
-        exchange,
-        entered: begun.entered,
-        phase,
-        deadline: Some(now + wait),
-    };
-    client.last_moment = now;
-    Ok(())
-}
-
-// Steps 6 and 7: a client that listens takes the packet that waits. When out of memory the client
-// is unchanged, and the packet is lost.
-fn receive<R: Rules, W: Words, L: DhcpLink>(
-    rules: &R,
-    client: &mut Client<R::State, R::Exchange>,
-    now: u64,
-    words: &mut W,
-    link: &mut L,
-) -> Result<Option<R::PublicState>, AllocError>
-    requires { now < 2 ^ 60 }
-    ensures received { IfOk result (λ change. WhereKnown
-        (W.left words.old) (L.shown link.old) (λ drawn before.
-        HasReceived (R.protocol rules.now)
-        (receive (R.protocol rules.now) now (input_of before.waiting) None
-        (view_of client.old drawn))
-        change (view_of client.new) (W.left words.new) before (L.shown link.new))) }
-    ensures timeout { client.new.timeout_sec ≡ client.old.timeout_sec }
-    ensures moment { client.new.last_moment ≡ client.old.last_moment }
-    ensures state { OnErr result (client.new.state ≡ client.old.state) }
-    ensures standing { OnErr result (client.new.standing ≡ client.old.standing) }
-    ensures needed { OnErr result (NeedsMemory (R.needs_memory rules.now)
-        client.old (L.shown link.old)) }
-    ensures stays { ((client.new.standing ≡ client.old.standing)
-        × (client.new.state ≡ client.old.state))
-        ⊎ (is_unpolled client.new.standing.phase ≡ true) }
-    ensures shut { is_listening client.old.standing.phase ≡ false → IsShut result client.new
-        client.old.state client.old.standing (W.left words.old) (W.left words.new)
-        (L.shown link.old) (L.shown link.new) (L.faults link.old) (L.faults link.new) }
-    ensures packet { IfSome (L.shown link.old) (λ before.
-        (L.shown link.new ≡ Some before) ⊎ (L.shown link.new ≡ Some (without_packet before))) }
-    ensures later { L.faults link.old ≤ L.faults link.new }
-{
-    if client.standing.phase != Phase::Listening {
-        return Ok(None);
-    }
-    let packet = match link.receive() {
-        None => return Ok(None),
-        Some(packet) => packet,
-    };
-    let answer = match rules.reading(&client.state, client.standing.exchange, packet, words)? {
-        None => return Ok(None),
-        Some(answer) => answer,
-    };
-    let mut exchange = client.standing.exchange;
-    let reported = rules.after_answer(&mut client.state, answer, now, &mut exchange)?;
-    client.standing = unpolled(exchange);
-    Ok(Some(reported))
 }
 
 // A poll whose attempt is not due: the packet, for a client that stands so once it was polled.

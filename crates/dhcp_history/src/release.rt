@@ -1,12 +1,13 @@
 //! The release of a lease, and the clean-up.
 
-ghost use Rattle.std.specs.Prelude.{◌≡◌, ℕ, List, Err, OnErr, IfSome};
+ghost use Rattle.std.specs.Prelude.{◌≡◌, ℕ, List, is_some, if◌then◌else◌, Err, OnErr, IfOk, IfSome};
 ghost use Rattle.dhcp_wire.specs.Fault.{HasCause};
 ghost use Rattle.dhcp_history.specs.Machine.{clean_up};
 ghost use Rattle.dhcp_history.specs.Client.{view_of};
 ghost use Rattle.dhcp_history.specs.Release.{UnlessUnreleased, release_held, HasReleased};
 
-use crate::machine::{send, unpolled};
+use crate::attempt::send;
+use crate::machine::unpolled;
 use crate::{Client, Rules};
 use dhcp_clock::{DhcpLink, Sent};
 
@@ -42,6 +43,12 @@ pub fn release_held<R: Rules, L: DhcpLink>(
         (IfSome (L.shown link.old) (λ before. (drawn : List ℕ) →
         HasReleased (release_held (R.protocol rules.now) before.refuses (view_of client.old drawn))
         result (view_of client.new drawn) before (L.shown link.new))) }
+    ensures held { IfOk result (λ released.
+        released ≡ is_some ((R.protocol rules.now).held_lease client.old.state)) }
+    ensures cleaned { IfOk result (λ released. (drawn : List ℕ) →
+        view_of client.new drawn ≡ (if released
+        then clean_up (R.protocol rules.now) (view_of client.old drawn)
+        else view_of client.old drawn)) }
     ensures timeout { client.new.timeout_sec ≡ client.old.timeout_sec }
     ensures moment { client.new.last_moment ≡ client.old.last_moment }
     ensures state { OnErr result (client.new.state ≡ client.old.state) }
