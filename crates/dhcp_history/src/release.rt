@@ -1,6 +1,6 @@
 //! The release of a lease, and the clean-up.
 
-ghost use Rattle.std.specs.Prelude.{◌≡◌, ℕ, List, is_some, if◌then◌else◌, Err, OnErr, IfOk, IfSome};
+ghost use Rattle.std.specs.Prelude.{◌≡◌, ℕ, List, true, is_some, if◌then◌else◌, Err, OnErr, IfOk, IfSome};
 ghost use Rattle.dhcp_wire.specs.Fault.{HasCause};
 ghost use Rattle.dhcp_history.specs.Machine.{clean_up};
 ghost use Rattle.dhcp_history.specs.Client.{view_of};
@@ -45,6 +45,8 @@ pub fn release_held<R: Rules, L: DhcpLink>(
         result (view_of client.new drawn) before (L.shown link.new))) }
     ensures held { IfOk result (λ released.
         released ≡ is_some ((R.protocol rules.now).held_lease client.old.state)) }
+    ensures needed { result ≡ Err ReleaseError.OutOfMemory →
+        is_some ((R.protocol rules.now).held_lease client.old.state) ≡ true }
     ensures cleaned { IfOk result (λ released. (drawn : List ℕ) →
         view_of client.new drawn ≡ (if released
         then clean_up (R.protocol rules.now) (view_of client.old drawn)

@@ -1,6 +1,6 @@
 //! The rules of a protocol: one function for each column of its table of states.
 
-ghost use Rattle.std.specs.Prelude.{◌≡◌, ◌<◌, ◌^◌, Bool, false, None, Ok, option_map, IfOk, OnOk, OnErr};
+ghost use Rattle.std.specs.Prelude.{◌≡◌, ◌<◌, ◌^◌, Bool, true, false, is_some, None, Ok, option_map, IfOk, OnOk, OnErr};
 ghost use Rattle.dhcp_clock.specs.declared.link.Handed.{Handed};
 ghost use Rattle.dhcp_clock.specs.declared.link.Packet.{Packet};
 ghost use Rattle.dhcp_history.specs.Rules.{Draws, IsNext};
@@ -134,13 +134,15 @@ pub trait Rules {
         ensures { IsNext ((protocol self.now).after_clean_up exchange.old)
             state.new exchange.new };
 
-    /// The message that releases the lease that is held in a state, if one is held.
+    /// The message that releases the lease that is held in a state, if one is held. Without one
+    /// it is never out of memory.
     fn release_message(
         &self,
         state: &Self::State,
         exchange: Self::Exchange,
     ) -> Result<Option<Handed>, AllocError>
-        ensures { IfOk result (λ message.
+        ensures message { IfOk result (λ message.
             message ≡ option_map (λ lease. (protocol self.now).release_message lease exchange)
-            ((protocol self.now).held_lease state.now)) };
+            ((protocol self.now).held_lease state.now)) }
+        ensures needed { OnErr result (is_some ((protocol self.now).held_lease state.now) ≡ true) };
 }
