@@ -93,13 +93,13 @@ module _ {PublicState Packet Message State Exchange Answer Lease : Type 0} (p : 
   none_heard : (setting : Setting State) (exchange : Exchange) (listens : Bool) (words : List ℕ) (events : List (Event Packet)) → attempts_of (hear p setting exchange listens words events).acts ≡ []
   none_heard setting exchange listens words [] = refl
   none_heard setting exchange listens words (v ∷ vs) =
-      go (reading_if p listens setting exchange words v.input).value (none_heard setting exchange listens (reading_if p listens setting exchange words v.input).words vs)
+      go (reading_if p listens setting exchange words v.input).value (none_heard setting exchange listens (reading_if p listens setting exchange words v.input).left vs)
     where
       later : Heard Packet Message Answer
-      later = hear p setting exchange listens (reading_if p listens setting exchange words v.input).words vs
+      later = hear p setting exchange listens (reading_if p listens setting exchange words v.input).left vs
 
       go : (answer : Option Answer) → attempts_of later.acts ≡ [] →
-          attempts_of (answer_or answer (reading_if p listens setting exchange words v.input).words (refused_release p setting exchange v) (v ∷ vs) later).acts ≡ []
+          attempts_of (answer_or answer (reading_if p listens setting exchange words v.input).left (refused_release p setting exchange v) (v ∷ vs) later).acts ≡ []
       go None ih = rw (attempts-append (refused_release p setting exchange v) later.acts, none_denied setting exchange v, ih)
       go (Some answer) ih = none_denied setting exchange v
 

@@ -100,7 +100,7 @@ module _ {PublicState State Exchange Answer Lease : Type 0} (p : Protocol Public
         by_answer (Some answer) words = refl
 
         by_phase : (b : Bool) → is_listening view.phase ≡ b → IsPacket (receive p now (input_of packet) handed view).left
-        by_phase true e = rw e (let read = reading_of p view.state view.exchange view.words (input_of packet) in by_answer read.value read.words)
+        by_phase true e = rw e (let read = reading_of p view.state view.exchange view.words (input_of packet) in by_answer read.value read.left)
         by_phase false e = rw e (all_left packet)
 
     work_left : (view : View State Exchange) → IsPacket (transmit_and_receive p now refuse (input_of packet) view).left

@@ -4,7 +4,8 @@ use Rattle.std.specs.Prelude.{Option, Some, None, if◌then◌else◌, flat_map,
 use Rattle.std.proofs.lemmas.Bool.{leb-false, lt-leb, leb-true, le-leb}
 use Rattle.dhcp_history.specs.declared.rules.AttemptStart.{AttemptStart}
 use Rattle.dhcp_history.specs.declared.rules.NewAttempt.{NewAttempt}
-use Rattle.dhcp_history.specs.Protocol.{Protocol, Lawful, Drawn, NextState, has_come}
+use Rattle.dhcp_clock.specs.Words.{Drawn}
+use Rattle.dhcp_history.specs.Protocol.{Protocol, Lawful, NextState, has_come}
 use Rattle.dhcp_history.specs.Script.{Input, Event, Output, Changed, Handed, Refused, Failed, TimedOut}
 use Rattle.dhcp_history.specs.History.{before, from, is_at_or_past, ends, overruns, closes, cuts, LastAttempt, NoneYet, Open, Unsent, is_open, last_by, Progress, exchange_after, runs_out, Course, course, Entry, entry_of_next, Transition, transition, stays, after_packet, outputs, act_outputs, attempt_at, progress_after, closing_outputs, Setting, Finish, Unanswered, cut, limit_acts, Attempted, reading_of}
 use Rattle.dhcp_history.specs.Machine.{View, Phase, Unpolled, Pausing, Listening, Resting, Stopped, phase_by, PollEffect, is_listening, is_pausing, is_unpolled, is_stopped, is_wait_over, exchange_at, attempt_now, transmit, take_answer, receive, transmit_and_receive, handed_output, failed_output, replay_from}
@@ -149,13 +150,13 @@ module _ {PublicState Packet Message State Exchange Answer Lease : Type 0} (p : 
       -- nothing is due, and the packet doesn't answer
       rest_listens : is_at_or_past due v ≡ false → (reading_of p state exchange words v.input).value ≡ None →
           rest fuel (suc steps) (view_in Listening) (v ∷ vs) ≡
-          rest fuel (suc steps) (record (view_in Listening) { words = (reading_of p state exchange words v.input).words }) vs
+          rest fuel (suc steps) (record (view_in Listening) { words = (reading_of p state exchange words v.input).left }) vs
       rest_listens e none = rw (window_goes_on, from_miss (closes p setting) v vs lasts, goes_on p steps setting due exchange words v (before (closes p setting) vs) plain e none)
 
       -- nothing is due, and the packet answers
       rest_answered : (answer : Answer) → is_at_or_past due v ≡ false → (reading_of p state exchange words v.input).value ≡ Some answer →
           rest fuel (suc steps) (view_in Listening) (v ∷ vs) ≡
-          moved fuel timeout_sec v (p.after_answer state answer v.moment exchange) (reading_of p state exchange words v.input).words (after_packet (v ∷ vs))
+          moved fuel timeout_sec v (p.after_answer state answer v.moment exchange) (reading_of p state exchange words v.input).left (after_packet (v ∷ vs))
       rest_answered answer e some =
           rw (window_goes_on, from_miss (closes p setting) v vs lasts, is_answered p steps setting due exchange words v (before (closes p setting) vs) plain answer e some, before-from (closes p setting) vs)
 
@@ -193,13 +194,13 @@ module _ {PublicState Packet Message State Exchange Answer Lease : Type 0} (p : 
   tried_over : (now : ℕ) (refuse : Bool) (input : Input Packet) (view : View State Exchange) → is_listening view.phase ≡ true → has_come now view.deadline ≡ true →
       let attempt = p.attempt view.state (p.after_wait view.exchange) (record { is_first = is_pausing view.phase; entered = view.entered; now = now }) view.words in
       transmit_and_receive p now refuse input view ≡
-      receive p now input (Some attempt.value.message) (record view { phase = phase_by refuse; deadline = Some (now + attempt.value.wait); exchange = attempt.value.exchange; words = attempt.words })
+      receive p now input (Some attempt.value.message) (record view { phase = phase_by refuse; deadline = Some (now + attempt.value.wait); exchange = attempt.value.exchange; words = attempt.left })
   tried_over now refuse input view l e =
       let counts : exchange_at p now view ≡ p.after_wait view.exchange = rw (l, e) in
       tried_due now refuse input view e ∙
       ap (λ (exchange : Exchange).
       let attempt : Drawn (NewAttempt Exchange Message) = p.attempt view.state exchange (record { is_first = is_pausing view.phase; entered = view.entered; now = now }) view.words in
-      receive p now input (Some attempt.value.message) (record view { phase = phase_by refuse; deadline = Some (now + attempt.value.wait); exchange = attempt.value.exchange; words = attempt.words }))
+      receive p now input (Some attempt.value.message) (record view { phase = phase_by refuse; deadline = Some (now + attempt.value.wait); exchange = attempt.value.exchange; words = attempt.left }))
       counts
 
   taken_handed : (now : ℕ) (input : Input Packet) (handed : Option Message) (view : View State Exchange) → (receive p now input handed view).handed ≡ handed
@@ -210,7 +211,7 @@ module _ {PublicState Packet Message State Exchange Answer Lease : Type 0} (p : 
       by_answer (Some answer) words = refl
 
       by_phase : (b : Bool) → is_listening view.phase ≡ b → (receive p now input handed view).handed ≡ handed
-      by_phase true e = rw e (by_answer (reading_of p view.state view.exchange view.words input).value (reading_of p view.state view.exchange view.words input).words)
+      by_phase true e = rw e (by_answer (reading_of p view.state view.exchange view.words input).value (reading_of p view.state view.exchange view.words input).left)
       by_phase false e = rw e
 
   module _ (lawful : Lawful p) where
@@ -251,39 +252,39 @@ module _ {PublicState Packet Message State Exchange Answer Lease : Type 0} (p : 
                 rest fuel (suc steps) (view_at exchange due words Listening) (v ∷ vs) ≡
                 followed fuel v vs (receive p v.moment v.input handed (view_at exchange due words Listening)).change (receive p v.moment v.input handed (view_at exchange due words Listening))
             go None e = rw (rest_listens fuel steps state exchange timeout_sec entered due words v vs plain lasts waits e, e)
-                (later.begun fuel (suc steps) (record (view_at exchange due words Listening) { words = (reading_of p state exchange words v.input).words })
+                (later.begun fuel (suc steps) (record (view_at exchange due words Listening) { words = (reading_of p state exchange words v.input).left })
                 (record { polled = refl; works = refl; timely = begun.timely; armed = begun.armed }) enough enough_fuel)
             go (Some answer) e = rw (rest_answered fuel steps state exchange timeout_sec entered due words v vs plain lasts answer waits e, e)
 
         -- what an attempt that begins here leaves to be reported
         begins : (tries : p.has_attempts state ≡ true) (handed : Option Message) (exchange : Exchange) (first : Bool) (words : List ℕ) (refuse : Bool) →
             let attempt = p.attempt state exchange (record { is_first = first; entered = entered; now = v.moment }) words in
-            let progress : Progress Exchange = record { last = last_by refuse; due = Some (v.moment + attempt.value.wait); exchange = attempt.value.exchange; words = attempt.words } in
-            let once = receive p v.moment v.input handed (view_at attempt.value.exchange (Some (v.moment + attempt.value.wait)) attempt.words (phase_by refuse)) in
+            let progress : Progress Exchange = record { last = last_by refuse; due = Some (v.moment + attempt.value.wait); exchange = attempt.value.exchange; words = attempt.left } in
+            let once = receive p v.moment v.input handed (view_at attempt.value.exchange (Some (v.moment + attempt.value.wait)) attempt.left (phase_by refuse)) in
             reported fuel the_setting (course p (suc steps) the_setting progress (v ∷ before (closes p the_setting) vs)) (from (closes p the_setting) (v ∷ vs)) ≡ followed fuel v vs once.change once
         begins tries handed exchange first words true =
             let start : AttemptStart = record { is_first = first; entered = entered; now = v.moment } in
             let attempt : Drawn (NewAttempt Exchange Message) = p.attempt state exchange start words in
             rw (before_miss (closes p the_setting) v vs lasts) at
-            (taken_follows attempt.value.exchange (Some (v.moment + attempt.value.wait)) attempt.words handed Resting (not_due v.moment attempt.value.wait (lawful.wait_positive state exchange start words unended))
+            (taken_follows attempt.value.exchange (Some (v.moment + attempt.value.wait)) attempt.left handed Resting (not_due v.moment attempt.value.wait (lawful.wait_positive state exchange start words unended))
             (record { polled = refl; works = refl; timely = λ now e listening. absurd (cc listening); armed = λ now e. tries }))
         begins tries handed exchange first words false =
             let start : AttemptStart = record { is_first = first; entered = entered; now = v.moment } in
             let attempt : Drawn (NewAttempt Exchange Message) = p.attempt state exchange start words in
             rw (before_miss (closes p the_setting) v vs lasts) at
-            (taken_follows attempt.value.exchange (Some (v.moment + attempt.value.wait)) attempt.words handed Listening (not_due v.moment attempt.value.wait (lawful.wait_positive state exchange start words unended))
+            (taken_follows attempt.value.exchange (Some (v.moment + attempt.value.wait)) attempt.left handed Listening (not_due v.moment attempt.value.wait (lawful.wait_positive state exchange start words unended))
             (record { polled = refl; works = refl; timely = λ now e listening. due_by_end state exchange start words tries unended now e; armed = λ now e. tries }))
 
         -- an attempt that begins here is handed, and what follows it is reported
         handed_follows : (tries : p.has_attempts state ≡ true) (exchange : Exchange) (first : Bool) (words : List ℕ) →
             let attempt = p.attempt state exchange (record { is_first = first; entered = entered; now = v.moment }) words in
-            let progress : Progress Exchange = record { last = last_by v.refuse; due = Some (v.moment + attempt.value.wait); exchange = attempt.value.exchange; words = attempt.words } in
+            let progress : Progress Exchange = record { last = last_by v.refuse; due = Some (v.moment + attempt.value.wait); exchange = attempt.value.exchange; words = attempt.left } in
             Reports fuel v vs (record { event = v.number; report = if v.refuse then Refused attempt.value.message else Handed attempt.value.message } ∷
             reported fuel the_setting (course p (suc steps) the_setting progress (v ∷ before (closes p the_setting) vs)) (from (closes p the_setting) (v ∷ vs)))
-            (receive p v.moment v.input (Some attempt.value.message) (view_at attempt.value.exchange (Some (v.moment + attempt.value.wait)) attempt.words (phase_by v.refuse)))
+            (receive p v.moment v.input (Some attempt.value.message) (view_at attempt.value.exchange (Some (v.moment + attempt.value.wait)) attempt.left (phase_by v.refuse)))
         handed_follows tries exchange first words =
             let attempt : Drawn (NewAttempt Exchange Message) = p.attempt state exchange (record { is_first = first; entered = entered; now = v.moment }) words in
-            rw (taken_handed v.moment v.input (Some attempt.value.message) (view_at attempt.value.exchange (Some (v.moment + attempt.value.wait)) attempt.words (phase_by v.refuse)))
+            rw (taken_handed v.moment v.input (Some attempt.value.message) (view_at attempt.value.exchange (Some (v.moment + attempt.value.wait)) attempt.left (phase_by v.refuse)))
             (ap (λ (more : List (Output PublicState Message)). record { event = v.number; report = if v.refuse then Refused attempt.value.message else Handed attempt.value.message } ∷ more)
             (begins tries (Some attempt.value.message) exchange first words v.refuse))
 

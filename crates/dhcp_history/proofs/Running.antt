@@ -187,7 +187,7 @@ module _ {PublicState State Exchange Answer Lease : Type 0} (p : Protocol Public
       by_answer (Some answer) words = refl
 
       by_phase : (b : Bool) → is_listening view.phase ≡ b → receive p now input handed view ≡ record (receive p now input None view) { handed = handed }
-      by_phase true e = rw e (let read = reading_of p view.state view.exchange view.words input in by_answer read.value read.words)
+      by_phase true e = rw e (let read = reading_of p view.state view.exchange view.words input in by_answer read.value read.left)
       by_phase false e = rw e
 
   pub taken_succeeds : (now : ℕ) (input : Input Packet) (handed : Option Handed) (view : View State Exchange) → (receive p now input handed view).failed ≡ false
@@ -198,7 +198,7 @@ module _ {PublicState State Exchange Answer Lease : Type 0} (p : Protocol Public
       by_answer (Some answer) words = refl
 
       by_phase : (b : Bool) → is_listening view.phase ≡ b → (receive p now input handed view).failed ≡ false
-      by_phase true e = rw e (let read = reading_of p view.state view.exchange view.words input in by_answer read.value read.words)
+      by_phase true e = rw e (let read = reading_of p view.state view.exchange view.words input in by_answer read.value read.left)
       by_phase false e = rw e
 
   -- the answer of a poll that doesn't fail

@@ -108,10 +108,10 @@ module _ {PublicState Packet Message State Exchange Answer Lease : Type 0} (p : 
       (hear p setting exchange listens words ws).answer ≡ Some answer → Hearing setting exchange answer ws (hear p setting exchange listens words ws).rest
   hears setting exchange listens words answer [] e = absurd (cc e)
   hears setting exchange listens words answer (v ∷ vs) e =
-      go (reading_if p listens setting exchange words v.input).value refl (λ h. hears setting exchange listens (reading_if p listens setting exchange words v.input).words answer vs h)
+      go (reading_if p listens setting exchange words v.input).value refl (λ h. hears setting exchange listens (reading_if p listens setting exchange words v.input).left answer vs h)
     where
       later : Heard Packet Message Answer
-      later = hear p setting exchange listens (reading_if p listens setting exchange words v.input).words vs
+      later = hear p setting exchange listens (reading_if p listens setting exchange words v.input).left vs
 
       open_reads : (b : Bool) (a : Answer) → (reading_if p b setting exchange words v.input).value ≡ Some a → (reading_of p setting.state exchange words v.input).value ≡ Some a
       open_reads true a h = h

@@ -91,13 +91,13 @@ module _ {PublicState Packet Message State Exchange Answer Lease : Type 0} (p : 
 
     -- an open attempt hears the packet, which doesn't answer
     pub goes_on : is_at_or_past due v ≡ false → (reading_of p setting.state exchange words v.input).value ≡ None →
-        course p (suc fuel) setting (progress_with Open) (v ∷ vs) ≡ course p (suc fuel) setting (record (progress_with Open) { words = (reading_of p setting.state exchange words v.input).words }) vs
+        course p (suc fuel) setting (progress_with Open) (v ∷ vs) ≡ course p (suc fuel) setting (record (progress_with Open) { words = (reading_of p setting.state exchange words v.input).left }) vs
     goes_on e none = rw (course, before_miss (is_at_or_past due) v vs e, from_miss (is_at_or_past due) v vs e, none, plain.undenied setting exchange)
 
     -- an open attempt hears the packet, which answers
     pub is_answered : (answer : Answer) → is_at_or_past due v ≡ false → (reading_of p setting.state exchange words v.input).value ≡ Some answer →
         course p (suc fuel) setting (progress_with Open) (v ∷ vs) ≡
-        record { acts = []; finish = record { outcome = AnsweredBy answer; rest = v ∷ vs; exchange = exchange; after_wait = exchange; words = (reading_of p setting.state exchange words v.input).words } }
+        record { acts = []; finish = record { outcome = AnsweredBy answer; rest = v ∷ vs; exchange = exchange; after_wait = exchange; words = (reading_of p setting.state exchange words v.input).left } }
     is_answered answer e some = rw (course, before_miss (is_at_or_past due) v vs e, from_miss (is_at_or_past due) v vs e, some, plain.undenied setting exchange, before-from (is_at_or_past due) vs)
 
   -- acts that were heard first are acts of the course
@@ -112,11 +112,11 @@ module _ {PublicState Packet Message State Exchange Answer Lease : Type 0} (p : 
       go false = simp append_assoc
 
   -- a release is no packet
-  reads_nothing : (listens : Bool) (setting : Setting State) (exchange : Exchange) (words : List ℕ) → reading_if p listens setting exchange words Release ≡ record { value = None; words = words }
+  reads_nothing : (listens : Bool) (setting : Setting State) (exchange : Exchange) (words : List ℕ) → reading_if p listens setting exchange words Release ≡ record { value = None; left = words }
   reads_nothing true setting exchange words = refl
   reads_nothing false setting exchange words = refl
 
-  reads_nothing_called : (listens : Bool) (setting : Setting State) (exchange : Exchange) (words : List ℕ) → reading_if p listens setting exchange words Nothing ≡ record { value = None; words = words }
+  reads_nothing_called : (listens : Bool) (setting : Setting State) (exchange : Exchange) (words : List ℕ) → reading_if p listens setting exchange words Nothing ≡ record { value = None; left = words }
   reads_nothing_called true setting exchange words = refl
   reads_nothing_called false setting exchange words = refl
 

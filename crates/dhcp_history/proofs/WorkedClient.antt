@@ -7,7 +7,8 @@ use Rattle.dhcp_clock.specs.Wait.{half_wait}
 use Rattle.dhcp_clock.specs.Words.{next_of}
 use Rattle.dhcp_history.specs.declared.rules.AttemptStart.{AttemptStart}
 use Rattle.dhcp_history.specs.declared.rules.NewAttempt.{NewAttempt}
-use Rattle.dhcp_history.specs.Protocol.{Protocol, Lawful, Drawn, NextState, has_come, pause_of}
+use Rattle.dhcp_clock.specs.Words.{Drawn}
+use Rattle.dhcp_history.specs.Protocol.{Protocol, Lawful, NextState, has_come, pause_of}
 
 -- a lease: its renewal time and its lease time, in milliseconds
 pub record Lease : Type 0 where
@@ -41,10 +42,10 @@ has_attempts (Renewing lease since) = true
 
 -- only a client that looks for a server waits before it sends: up to a second, by a random word
 abbrev pub pause : State → ℕ → List ℕ → Drawn ℕ
-pause Selecting count words = record { value = next_of words % 1000; words = drop 1 words }
-pause (Requesting lease) count words = record { value = 0; words = words }
-pause (Bound lease since) count words = record { value = 0; words = words }
-pause (Renewing lease since) count words = record { value = 0; words = words }
+pause Selecting count words = record { value = next_of words % 1000; left = drop 1 words }
+pause (Requesting lease) count words = record { value = 0; left = words }
+pause (Bound lease since) count words = record { value = 0; left = words }
+pause (Renewing lease since) count words = record { value = 0; left = words }
 
 abbrev pub sends : State → ℕ → ℕ → NewAttempt ℕ Message
 sends Selecting count now = record { wait = 4000; message = Discover count; exchange = count }
@@ -109,10 +110,10 @@ client = record {
   public_state = λ state. state;
   has_attempts = has_attempts;
   pause = pause;
-  attempt = λ state count start words. record { value = sends state count start.now; words = words };
+  attempt = λ state count start words. record { value = sends state count start.now; left = words };
   after_wait = λ count. count + 1;
   is_last_attempt = is_last;
-  reading = λ state count packet words. record { value = reads state packet; words = words };
+  reading = λ state count packet words. record { value = reads state packet; left = words };
   ending_moment = ending;
   after_answer = λ state answer now count. answers state answer now;
   after_end = λ state count. record { state = ends_in state; exchange = 0 };
@@ -145,7 +146,7 @@ wait_within (Requesting lease) count start moment a e h = absurd (cc e)
 wait_within (Bound lease since) count start moment a e h = absurd (cc a)
 wait_within (Renewing lease since) count start moment a e h = let same : since + lease.lasts ≡ moment = cc e in omega (arith, same, h)
 
-ended_draws_none : (state : State) (count : ℕ) (words : List ℕ) (now : ℕ) → has_come now (ending state) ≡ true → (pause_of client state count words).words ≡ words
+ended_draws_none : (state : State) (count : ℕ) (words : List ℕ) (now : ℕ) → has_come now (ending state) ≡ true → (pause_of client state count words).left ≡ words
 ended_draws_none Selecting count words now h = absurd (cc h)
 ended_draws_none (Requesting lease) count words now h = refl
 ended_draws_none (Bound lease since) count words now h = refl

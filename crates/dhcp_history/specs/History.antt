@@ -2,7 +2,8 @@
 -- that a client spends in one state.
 use Rattle.std.specs.Prelude.{ℕ, suc, zero, ◌+◌, ◌*◌, Bool, true, false, not, ◌&&◌, ◌||◌, List, [], ◌∷◌, ◌++◌, length, flat_map, Option, Some, None, is_some, option_map, if◌then◌else◌}
 use Rattle.dhcp_history.specs.declared.rules.NewAttempt.{NewAttempt}
-use Rattle.dhcp_history.specs.Protocol.{Protocol, Drawn, NextState, has_come, pause_of}
+use Rattle.dhcp_clock.specs.Words.{Drawn}
+use Rattle.dhcp_history.specs.Protocol.{Protocol, NextState, has_come, pause_of}
 use Rattle.dhcp_history.specs.Script.{Input, Nothing, Arrival, Release, CleanUp, Event, TimedOut, SendRefused, Handed, Refused, Changed, Failed, Output, Script, after_call}
 
 -- whether the event is at or past the moment; no event is past none
@@ -233,15 +234,15 @@ module _ {PublicState Packet Message State Exchange Answer Lease : Type 0}
   -- only a packet answers, and draws words
   abbrev pub reading_of : State → Exchange → List ℕ → Input Packet → Drawn (Option Answer)
   reading_of state exchange words (Arrival packet) = p.reading state exchange packet words
-  reading_of state exchange words Nothing = record { value = None; words = words }
-  reading_of state exchange words Release = record { value = None; words = words }
-  reading_of state exchange words CleanUp = record { value = None; words = words }
+  reading_of state exchange words Nothing = record { value = None; left = words }
+  reading_of state exchange words Release = record { value = None; left = words }
+  reading_of state exchange words CleanUp = record { value = None; left = words }
 
   -- an open attempt reads the packet, a refused one or none does not
   abbrev pub reading_if : Bool → Setting State → Exchange → List ℕ → Input Packet →
       Drawn (Option Answer)
   reading_if true setting exchange words input = reading_of setting.state exchange words input
-  reading_if false setting exchange words input = record { value = None; words = words }
+  reading_if false setting exchange words input = record { value = None; left = words }
 
   -- what the packets of these events answer to the last attempt, which is open or not
   abbrev pub hear : Setting State → Exchange → Bool → List ℕ → List (Event Packet) →
@@ -250,8 +251,8 @@ module _ {PublicState Packet Message State Exchange Answer Lease : Type 0}
       record { answer = None; rest = []; words = words; acts = [] }
   hear setting exchange listens words (event ∷ events) =
       let read = reading_if listens setting exchange words event.input in
-      answer_or read.value read.words (refused_release setting exchange event) (event ∷ events)
-      (hear setting exchange listens read.words events)
+      answer_or read.value read.left (refused_release setting exchange event) (event ∷ events)
+      (hear setting exchange listens read.left events)
 
   -- 3. The attempts of a stay.
 
@@ -291,7 +292,7 @@ module _ {PublicState Packet Message State Exchange Answer Lease : Type 0}
     last = last_by event.refuse;
     due = Some (event.moment + (new_attempt_at setting progress event.moment).value.wait);
     exchange = (new_attempt_at setting progress event.moment).value.exchange;
-    words = (new_attempt_at setting progress event.moment).words;
+    words = (new_attempt_at setting progress event.moment).left;
   }
 
   -- At the first event at or past the due moment the stay ends, where its last attempt was the last
@@ -460,7 +461,7 @@ module _ {PublicState Packet Message State Exchange Answer Lease : Type 0}
         last = NoneYet;
         due = first_due entry.state (moment + pause.value);
         exchange = entry.exchange;
-        words = pause.words;
+        words = pause.left;
       }
 
   -- a stay that is cut at its entry draws nothing

@@ -3,7 +3,8 @@ pub use Rattle.dhcp_history.specs.declared.client.Phase.{Phase}
 pub use Rattle.dhcp_history.specs.declared.client.Phase.TheVariants.{Unpolled, Pausing, Listening, Resting, Stopped}
 use Rattle.std.specs.Prelude.{ℕ, suc, zero, ◌+◌, Bool, true, false, ◌&&◌, ◌||◌, List, [], ◌∷◌, ◌++◌, Option, Some, None, if◌then◌else◌}
 use Rattle.dhcp_history.specs.declared.rules.NewAttempt.{NewAttempt}
-use Rattle.dhcp_history.specs.Protocol.{Protocol, Drawn, NextState, has_come, pause_of}
+use Rattle.dhcp_clock.specs.Words.{Drawn}
+use Rattle.dhcp_history.specs.Protocol.{Protocol, NextState, has_come, pause_of}
 use Rattle.dhcp_history.specs.Script.{Input, Nothing, Arrival, Release, CleanUp, Event, TimedOut, SendRefused, Handed, Refused, Changed, Failed, Output, Script, after_call}
 use Rattle.dhcp_history.specs.History.{first_due, limit_moment, reading_of, after_wait_if}
 
@@ -167,7 +168,7 @@ module _ {PublicState Packet Message State Exchange Answer Lease : Type 0}
         phase = Pausing;
         entered = now;
         deadline = first_due p view.state (now + pause.value);
-        words = pause.words;
+        words = pause.left;
       }
   begin_in _ now view = view
 
@@ -187,7 +188,7 @@ module _ {PublicState Packet Message State Exchange Answer Lease : Type 0}
         phase = phase_by refuse;
         deadline = Some (now + attempt.value.wait);
         exchange = attempt.value.exchange;
-        words = attempt.words;
+        words = attempt.left;
       }
 
   -- the client has taken the input, which answers this or nothing
@@ -216,7 +217,7 @@ module _ {PublicState Packet Message State Exchange Answer Lease : Type 0}
   receive now input handed view =
       if is_listening view.phase
       then (let read = reading_of p view.state view.exchange view.words input in
-      take_answer now handed view read.value read.words)
+      take_answer now handed view read.value read.left)
       else record { view = view; handed = handed; left = input; change = None; failed = false }
 
   -- an attempt is made where one is due, and then the packet is taken

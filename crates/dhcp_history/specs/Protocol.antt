@@ -1,13 +1,9 @@
 -- A DHCP protocol as a table of states (RFC 2131 section 4.4, RFC 8415 section 18.2): what a client
 -- sends in each state and when, which packets answer it, and which state follows.
 use Rattle.std.specs.Prelude.{ℕ, suc, ◌+◌, ◌≤◌, ◌<◌, ◌≡◌, Bool, true, false, ◌||◌, nat_le, List, Option, Some, None, if◌then◌else◌}
+use Rattle.dhcp_clock.specs.Words.{Drawn}
 use Rattle.dhcp_history.specs.declared.rules.AttemptStart.{AttemptStart}
 use Rattle.dhcp_history.specs.declared.rules.NewAttempt.{NewAttempt}
-
--- a value that was made with random words, and the words that are left
-pub record Drawn (A : Type 0) : Type 0 where
-  pub value : A
-  pub words : List ℕ
 
 -- the state that comes next, and the exchange with which it begins
 pub record NextState (State Exchange : Type 0) : Type 0 where
@@ -55,7 +51,7 @@ abbrev pub pause_of : {PublicState Packet Message State Exchange Answer Lease : 
     Drawn ℕ
 pause_of p state exchange words =
     if p.has_attempts state then p.pause state exchange words
-    else record { value = 0; words = words }
+    else record { value = 0; left = words }
 
 -- What the theory asks of a protocol. `rank` is how many changes of state one event can bring at
 -- most from a state on, where its packet is left or not.
@@ -73,7 +69,7 @@ pub record Lawful {PublicState Packet Message State Exchange Answer Lease : Type
       start.now + (p.attempt state exchange start words).value.wait ≤ moment
   -- a state whose ending moment has come draws no pause
   pub ended_draws_none : (state : State) (exchange : Exchange) (words : List ℕ) (now : ℕ) →
-      has_come now (p.ending_moment state) ≡ true → (pause_of p state exchange words).words ≡ words
+      has_come now (p.ending_moment state) ≡ true → (pause_of p state exchange words).left ≡ words
   -- the changes of one event come to an end
   pub rank : State → Bool → ℕ
   pub rank_bound : (state : State) (has_packet : Bool) → rank state has_packet ≤ 6

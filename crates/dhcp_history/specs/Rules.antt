@@ -1,13 +1,16 @@
 -- What the rules of a protocol answer.
 use Rattle.std.specs.Prelude.{◌≡◌, ℕ, List, Option, Some, None}
-use Rattle.dhcp_history.specs.Protocol.{Drawn, NextState}
+use Rattle.dhcp_clock.specs.Words.{Drawn}
+use Rattle.dhcp_history.specs.Protocol.{NextState}
 
--- The step made this value of a source that had these words, and those are left. A source that does
--- not tell its words may give any.
-abbrev pub Draws : {A : Type 0} → (List ℕ → Drawn A) → Option (List ℕ) → A → Option (List ℕ) →
+-- This value was drawn, by this definition, from a source that exposed the words `before`, and
+-- exposes the words `after`. A source that exposes none may give any words, and exposes none
+-- afterwards.
+abbrev pub GivesDrawn : {A : Type 0} → (List ℕ → Drawn A) → Option (List ℕ) → A → Option (List ℕ) →
     Type 0
-Draws step None value left = Unit {0}
-Draws step (Some words) value left = (value ≡ (step words).value) × (left ≡ Some (step words).words)
+GivesDrawn draws None value after = after ≡ None
+GivesDrawn draws (Some words) value after =
+    (value ≡ (draws words).value) × (after ≡ Some (draws words).left)
 
 -- this state and exchange are what comes next
 pub record IsNext {State Exchange : Type 0} (next : NextState State Exchange)

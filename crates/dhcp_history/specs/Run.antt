@@ -9,7 +9,8 @@ use Rattle.dhcp_history.specs.declared.machine.RunError.{RunError}
 use Rattle.dhcp_history.specs.declared.machine.RunError.TheVariants as run
 use Rattle.dhcp_history.specs.declared.client.Client.{Client}
 use Rattle.dhcp_history.specs.declared.client.Standing.{Standing}
-use Rattle.dhcp_history.specs.Protocol.{Protocol, Drawn, has_come}
+use Rattle.dhcp_clock.specs.Words.{Drawn}
+use Rattle.dhcp_history.specs.Protocol.{Protocol, has_come}
 use Rattle.dhcp_history.specs.Script.{Input, Nothing, Arrival, Release, CleanUp}
 use Rattle.dhcp_history.specs.History.{first_due}
 use Rattle.dhcp_history.specs.Client.{view_of}
@@ -143,7 +144,7 @@ module _ {PublicState State Exchange Answer Lease : Type 0}
   pub record HasDue (now : ℕ) (state : State) (pause : Drawn ℕ) (result : Option ℕ)
       (left : Option (List ℕ)) : Type 0 where
     pub due : result ≡ first_due p state (now + pause.value)
-    pub words : left ≡ Some pause.words
+    pub words : left ≡ Some pause.left
 
   -- what the packet leaves: the change, the client, the words and the link
   pub record HasReceived (once : PollEffect Packet Handed State Exchange)

@@ -3,7 +3,7 @@
 ghost use Rattle.std.specs.Prelude.{◌≡◌, ◌<◌, ◌^◌, Bool, true, false, is_some, None, Ok, option_map, IfOk, OnOk, OnErr};
 ghost use Rattle.dhcp_clock.specs.declared.link.Handed.{Handed};
 ghost use Rattle.dhcp_clock.specs.declared.link.Packet.{Packet};
-ghost use Rattle.dhcp_history.specs.Rules.{Draws, IsNext};
+ghost use Rattle.dhcp_history.specs.Rules.{GivesDrawn, IsNext};
 ghost use Rattle.dhcp_history.specs.Protocol.{Protocol};
 
 use dhcp_clock::{Handed, Packet, Words};
@@ -76,7 +76,7 @@ pub trait Rules {
 
     /// How long the client waits in a state before it sends for the first time.
     fn pause<W: Words>(&self, state: &Self::State, exchange: Self::Exchange, words: &mut W) -> u64
-        ensures drawn { Draws ((protocol self.now).pause state.now exchange)
+        ensures drawn { GivesDrawn ((protocol self.now).pause state.now exchange)
             (W.left words.old) result (W.left words.new) }
         ensures below { result < 2 ^ 62 };
 
@@ -89,7 +89,7 @@ pub trait Rules {
         words: &mut W,
     ) -> Result<NewAttempt<Self::Exchange, Handed>, AllocError>
         ensures drawn { IfOk result (λ attempt.
-            Draws ((protocol self.now).attempt state.now exchange start)
+            GivesDrawn ((protocol self.now).attempt state.now exchange start)
             (W.left words.old) attempt (W.left words.new)) }
         ensures below { IfOk result (λ attempt. attempt.wait < 2 ^ 62) };
 
@@ -102,7 +102,7 @@ pub trait Rules {
         words: &mut W,
     ) -> Result<Option<Self::Answer>, AllocError>
         ensures drawn { IfOk result (λ answer.
-            Draws ((protocol self.now).reading state.now exchange packet)
+            GivesDrawn ((protocol self.now).reading state.now exchange packet)
             (W.left words.old) answer (W.left words.new)) }
         ensures free { needs_memory self.now state.now exchange packet ≡ false → result ≡ Ok None };
 
