@@ -265,16 +265,6 @@ module _ {PublicState Packet Message State Exchange Answer Lease : Type 0} (p : 
       go Resting = refl
       go Stopped = refl
 
-  pub begun_exchange : (now : ℕ) (view : View State Exchange) → (begin_stay p now view).exchange ≡ view.exchange
-  begun_exchange now view = go view.phase
-    where
-      go : (phase : Phase) → (begin_in p phase now view).exchange ≡ view.exchange
-      go Unpolled = refl
-      go Pausing = refl
-      go Listening = refl
-      go Resting = refl
-      go Stopped = refl
-
   -- the stays that are entered at an event are reported by what a client in the first one's state is still to report
   pub stay_reported : (fuel : ℕ) (setting : Setting State) (run : Course Packet Message Exchange Answer) (late : List (Event Packet)) (entry paused : ℕ) →
       outputs p (record { setting = setting; entry = entry; pause = paused; acts = run.acts ++ (transition p setting run.finish late).acts; closing = (transition p setting run.finish late).closing }

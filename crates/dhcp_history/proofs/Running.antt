@@ -206,18 +206,6 @@ module _ {PublicState State Exchange Answer Lease : Type 0} (p : Protocol Public
   answer_same None = refl
   answer_same (Some next) = refl
 
-  -- a poll of a client whose next attempt isn't due
-  pub polled_early : (now : ℕ) (refuse : Bool) (input : Input Packet) (first : View State Exchange) (change : Option PublicState) (view : List ℕ → View State Exchange) (left : Option (List ℕ)) (before : Shown) (after : Option Shown) →
-      has_come now first.deadline ≡ false → HasReceived p (receive p now input None first) change view left before after →
-      HasPolled p (transmit_and_receive p now refuse input first) (Ok change) view left before after
-  polled_early now refuse input first change view left before after early h =
-      rw early (record {
-        answer = ap (λ (c : Option PublicState). Ok c) h.change ∙ (answer_same (receive p now input None first).change ∙ ap (λ (f : Bool). answer_by p (receive p now input None first).change f) (sym (taken_succeeds now input None first)));
-        client = h.client;
-        words = h.words;
-        link = h.link;
-      })
-
   -- and of one whose next attempt is due
   pub polled_due : (now : ℕ) (waiting : Option Packet) (first mid : View State Exchange) (change : Option PublicState) (view : List ℕ → View State Exchange) (left : Option (List ℕ)) (before : Shown) (after : Option Shown) →
       has_come now first.deadline ≡ true → mid ≡ transmit p now before.refuses first →
@@ -258,18 +246,6 @@ module _ {PublicState State Exchange Answer Lease : Type 0} (p : Protocol Public
             polled_due now before.waiting (first words) (second last.words) change third drawn'' before shown'' (due words) a.client
             (at_told (λ (mid : Shown). HasReceived p (receive p now (input_of mid.waiting) None (second last.words)) change third drawn'' mid shown'') shown' sent a.link
             (at_told (λ (words' : List ℕ). IfSome shown' (λ mid. HasReceived p (receive p now (input_of mid.waiting) None (second words')) change third drawn'' mid shown'')) drawn' last.words a.words takes))
-
-    pub work_early : (change : Option PublicState) → ((words : List ℕ) → has_come now (first words).deadline ≡ false) →
-        IfSome drawn (λ words. IfSome shown (λ before. HasReceived p (receive p now (input_of before.waiting) None (first words)) change third drawn'' before shown'')) →
-        IfSome drawn (λ words. IfSome shown (λ before. HasPolled p (transmit_and_receive p now before.refuses (input_of before.waiting) (first words)) (Ok change) third drawn'' before shown''))
-    work_early change early takes = go drawn shown takes
-      where
-        go : (drawn₀ : Option (List ℕ)) (shown₀ : Option Shown) →
-            IfSome drawn₀ (λ words. IfSome shown₀ (λ before. HasReceived p (receive p now (input_of before.waiting) None (first words)) change third drawn'' before shown'')) →
-            IfSome drawn₀ (λ words. IfSome shown₀ (λ before. HasPolled p (transmit_and_receive p now before.refuses (input_of before.waiting) (first words)) (Ok change) third drawn'' before shown''))
-        go None shown₀ t = tt
-        go (Some words) None t = tt
-        go (Some words) (Some before) t = polled_early now before.refuses (input_of before.waiting) (first words) change third drawn'' before shown'' (early words) t
 
     -- the poll of a client that isn't at the end of its state, which is `first` before and `second` once it is polled
     pub poll_works : (result : Result (Option PublicState) RunError) → ((words : List ℕ) → is_stopped (first words).phase ≡ false) → ((words : List ℕ) → limit_is_over p now (first words) ≡ false) →
