@@ -1,0 +1,102 @@
+use crate::Repeater;
+use dhcp_clock::{Handed, MemLink, Packet, PacketKind, WordList};
+use dhcp_history::{
+    Client, Event, Input, Output, Phase, Report, Standing, clean_up, next_poll, release_held,
+    replay, run,
+};
+use dhcp_wire::Bytes;
+use std::alloc::Global;
+use std::test::Fail;
+
+// A client that was not polled yet, with no time limit.
+fn client() -> Client<Option<u64>, u32> {
+    Client {
+        state: None,
+        timeout_sec: 0,
+        standing: Standing {
+            exchange: 0,
+            entered: 0,
+            phase: Phase::Unpolled,
+            deadline: None,
+        },
+        last_moment: 0,
+    }
+}
+
+// An empty frame.
+fn packet(alloc: Global) -> Packet {
+    Packet {
+        kind: PacketKind::Frame,
+        bytes: Bytes::new(alloc),
+    }
+}
+
+// What a report is: 1 handed, 2 refused, 3 holding, 4 asking, 5 an error.
+fn kind(output: Output<bool, Handed>) -> u32 {
+    match output.report {
+        Report::Handed(_) => 1,
+        Report::Refused(_) => 2,
+        Report::Changed(true) => 3,
+        Report::Changed(false) => 4,
+        Report::Failed(_) => 5,
+    }
+}
+
+#[test]
+fn a_client_asks_holds_and_asks_again(rt: HostRuntime) -> Result<(), Fail> {
+    let alloc = rt.alloc();
+    let rules = Repeater { alloc };
+    let mut client = client();
+    let mut words = WordList::new(vec![in alloc; 500, 0]?);
+    let mut link = MemLink::new(alloc);
+    assert_eq!(rt; next_poll(&rules, &client), Some(0));
+    assert_eq!(rt;
+        run(&rules, &mut client, 10, &mut words, &mut link),
+        Ok(None)
+    );
+    assert_eq!(rt; next_poll(&rules, &client), Some(1510));
+    link.load(Some(packet(alloc)));
+    assert_eq!(rt;
+        run(&rules, &mut client, 100, &mut words, &mut link),
+        Ok(Some(true))
+    );
+    assert_eq!(rt; next_poll(&rules, &client), Some(5100));
+    assert_eq!(rt; release_held(&rules, &mut client, &mut link), Ok(true));
+    clean_up(&rules, &mut client);
+    assert_eq!(rt; next_poll(&rules, &client), Some(100));
+    Ok(())
+}
+
+#[test]
+fn a_replay_reports_each_event(rt: HostRuntime) -> Result<(), Fail> {
+    let alloc = rt.alloc();
+    let rules = Repeater { alloc };
+    let mut client = client();
+    let mut words = WordList::new(Vec::new(alloc));
+    let first = Event {
+        number: 1,
+        moment: 0,
+        refuse: true,
+        input: Input::Nothing,
+    };
+    let second = Event {
+        number: 2,
+        moment: 1000,
+        refuse: false,
+        input: Input::Arrival(packet(alloc)),
+    };
+    let third = Event {
+        number: 3,
+        moment: 6000,
+        refuse: false,
+        input: Input::CleanUp,
+    };
+    let events = vec![in alloc; first, second, third]?;
+    let outputs = replay(alloc, &rules, &mut client, &mut words, events)?;
+    let mut kinds = Vec::new(alloc);
+    for output in outputs {
+        kinds.push(kind(output))?;
+    }
+    assert_eq!(rt; kinds.as_slice(), [2, 1, 3, 1].as_slice());
+    Ok(())
+}
