@@ -1,5 +1,5 @@
-//! Does one thing so many times, for a clock beside it: `<what> <times>`, with bytes as a line of hex
-//! on standard input. It prints how many bytes were read and written in all.
+//! Does one thing so many times, for a clock beside it: `<what> <times>`, with bytes as a line of
+//! hex on standard input. It prints how many bytes were read and written in all.
 //!
 //! `read` reads a message, `message` reads and writes it, `lease` reads it and its lease, `moved`
 //! does so and moves its options into the lease, `discover` builds and writes a Discover, and

@@ -48,14 +48,24 @@ impl Rules for Repeater {
       has_attempts = λ state. is_none state;
       pause = λ state count words. record { value = 0; left = words };
       attempt = λ state count start words. record {
-        value = record { wait = 1000 + next_of words % 1000; message = Frame (1 ∷ []); exchange = count };
+        value = record {
+          wait = 1000 + next_of words % 1000;
+          message = Frame (1 ∷ []);
+          exchange = count;
+        };
         left = drop 1 words;
       };
       after_wait = λ count. count;
       is_last_attempt = λ state count. false;
-      reading = λ state count packet words. record { value = if is_none state then Some 7 else None; left = words };
+      reading = λ state count packet words. record {
+        value = if is_none state then Some 7 else None;
+        left = words;
+      };
       ending_moment = λ state. state;
-      after_answer = λ state answer now count. record { state = Some (now + 5000); exchange = count };
+      after_answer = λ state answer now count. record {
+        state = Some (now + 5000);
+        exchange = count;
+      };
       after_end = λ state count. record { state = None; exchange = count };
       after_clean_up = λ count. record { state = None; exchange = count };
       held_lease = λ state. state;
