@@ -6,7 +6,7 @@ use Rattle.std.specs.declared.net.Ipv4Addr.{Ipv4Addr}
 use Rattle.std.proofs.lemmas.Bool.{le-leb}
 use Rattle.std.proofs.lemmas.List.{take_all, drop_all}
 use Rattle.std.proofs.lemmas.Option.{none-some, same_Some}
-use Rattle.dhcp_wire.specs.Field.{Read, ◌>>=◌, bytes_at, number_at, address_at, terminated_text_at}
+use Rattle.dhcp_wire.specs.Field.{Read, ◌>>=◌, bytes_at, number_at, address_at, text_of, text_at, terminated_text_at}
 use Rattle.dhcp_wire.proofs.FieldLaws.{bytes_at_cut, bytes_at-append}
 use Rattle.dhcp_wire.specs.Value.{text_in}
 
@@ -47,6 +47,10 @@ bytes_at-whole bytes = rw (le-leb (length bytes) (length bytes) (omega arith), t
 -- a text in a field that is the whole value
 pub whole_field : (n : ℕ) (value : List ℕ) → n ≡ length value → terminated_text_at n value ≡ option_map (λ text. (text, [])) (text_in value)
 whole_field n value is = rw (is, bytes_at-whole value) refl
+
+-- a text that is the whole value
+pub whole_text : (n : ℕ) (value : List ℕ) → n ≡ length value → text_at n value ≡ option_map (λ text. (text, [])) (text_of value)
+whole_text n value is = rw (is, bytes_at-whole value) refl
 
 -- at most n bytes follow what is read, if anything is
 abbrev pub Within : {A : Type 0} → ℕ → Read A → Type 0

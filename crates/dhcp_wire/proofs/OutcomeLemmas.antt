@@ -14,3 +14,13 @@ Makes-none_if_refused view (Err e) (Some y) (inr is) = cc
 Makes-none_if_refused {X = X} view (Err e) None (inr is) =
     let kind : InvalidDhcpMessage ≡ e.kind = cc in
     subst (λ kind. Makes {X = Option X} (option_map view) (none_if_refusal e kind) None) kind refl
+
+-- a value that is given is what was read
+pub given_read : {A E : Type 0} (read : Option A) (kind : E) (x : A) → ok_or read kind ≡ Ok x → read ≡ Some x
+given_read None kind x is = cc
+given_read (Some y) kind x is = cc
+
+-- where none was read there is a refusal, of this kind
+pub refused_read : {A E : Type 0} (read : Option A) (kind e : E) → ok_or read kind ≡ Err e → (read ≡ None) × (e ≡ kind)
+refused_read None kind e is = (refl, cc)
+refused_read (Some y) kind e is = cc

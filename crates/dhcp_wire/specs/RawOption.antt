@@ -92,6 +92,11 @@ abbrev pub after_options : OptionFormat → List ℕ → List ℕ
 after_options format bytes =
     drop (length (flat_map (written_raw_option format) (raw_options format bytes))) bytes
 
+-- the options of a list that they fill: none where something remains after the last
+unfoldable pub filling_options : OptionFormat → List ℕ → Option (List RawOptionParts)
+filling_options format bytes =
+    if length (after_options format bytes) == 0 then Some (raw_options format bytes) else None
+
 -- a number that fits the width of a code, and of a length
 abbrev pub FitsWidth : OptionFormat → ℕ → Type 0
 FitsWidth format n = n < 2 ^ (8 * byte_len (width_of format))

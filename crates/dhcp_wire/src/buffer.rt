@@ -1,15 +1,20 @@
 //! Reading fields from the front of a slice.
 
-ghost use Rattle.std.specs.Prelude.{◌≡◌, ◌↔◌, ℕ, ◌==◌, List, [], length, position, IsTrue, option_copied, string_bytes};
-ghost use Rattle.std.specs.Int.{w8, w16, w32};
-ghost use Rattle.dhcp_wire.specs.Outcome.{Reads, ReadsField, ReadsText};
-ghost use Rattle.dhcp_wire.specs.Field as Field;
-ghost use Rattle.dhcp_wire.specs.Field.{bytes_at, number_at, address_at, terminated_text_at};
+#[cfg(test)]
+mod tests;
 
-use crate::{DhcpError, FixedText};
+ghost use Rattle.std.specs.Prelude.{◌≡◌, ◌↔◌, ℕ, ◌==◌, List, [], drop, length, position, ok_or, IsTrue, MatchResult, option_copied, string_bytes};
+ghost use Rattle.dhcp_wire.specs.Error.{no_memory};
+ghost use Rattle.std.specs.Int.{w8, w16, w32, w128};
+ghost use Rattle.dhcp_wire.specs.Outcome.{Answers, Reads, ReadsField, ReadsText};
+ghost use Rattle.dhcp_wire.specs.Field as Field;
+ghost use Rattle.dhcp_wire.specs.Field.{bytes_at, number_at, address_at, ipv6_address_at, text_at, terminated_text_at};
+ghost use Rattle.dhcp_wire.specs.Value as values;
+
+use crate::{DhcpError, ErrorKind, FixedText};
 use std::alloc::Global;
 use std::marker::Model;
-use std::net::Ipv4Addr;
+use std::net::{Ipv4Addr, Ipv6Addr};
 
 /// Reads fields from a slice, from its front on. Contracts see it as the bytes that are left.
 #[derive(Debug, Drop)]
@@ -51,6 +56,35 @@ impl<'a> Buffer<'a> {
         ensures position { self.new ≡ self.old }
     {
         self.left
+    }
+
+    /// The next two bytes as a number, the more significant first. `InvalidDhcpMessage` if and only
+    /// if fewer are left. The position does not move.
+    pub fn peek_u16_be(&self) -> Result<u16, DhcpError>
+        ensures { Answers (λ number. number) result
+            (ok_or (values.number_in w16 self.now) ErrorKind.InvalidDhcpMessage) }
+    {
+        Buffer::new(self.left).get_u16_be()
+    }
+
+    /// The two bytes after the next `offset` bytes as a number, the more significant first.
+    /// `InvalidDhcpMessage` if and only if fewer than `offset` and two bytes are left. The position
+    /// does not move.
+    pub fn peek_u16_be_offset(&self, offset: usize) -> Result<u16, DhcpError>
+        ensures { Answers (λ number. number) result
+            (ok_or (values.number_in w16 (drop offset self.now)) ErrorKind.InvalidDhcpMessage) }
+    {
+        let offset = offset.min(self.left.len());
+        Buffer::new(&self.left[offset..]).get_u16_be()
+    }
+
+    /// The next `len` bytes. `InvalidDhcpMessage` if and only if fewer are left. The position does
+    /// not move.
+    pub fn peek_bytes(&self, len: usize) -> Result<&'a [u8], DhcpError>
+        ensures { Answers (λ bytes. bytes.now) result
+            (ok_or (values.bytes_in len self.now) ErrorKind.InvalidDhcpMessage) }
+    {
+        Buffer::new(self.left).get_bytes(len)
     }
 
     /// The next `len` bytes. `InvalidDhcpMessage` if and only if fewer are left; the position then
@@ -96,6 +130,15 @@ impl<'a> Buffer<'a> {
         Ok(u32::from_be_bytes([bytes[0], bytes[1], bytes[2], bytes[3]]))
     }
 
+    /// A number of sixteen bytes, the most significant first. `InvalidDhcpMessage` if and only if
+    /// fewer are left; the position then does not move.
+    #[tactic(auto, unfolding(crate::specs::Field::bytes_at))]
+    pub fn get_u128_be(&mut self) -> Result<u128, DhcpError>
+        ensures { Reads (λ number. number) result self.old self.new (number_at w128 self.old) }
+    {
+        Ok(u128::from_be_bytes(self.get_sixteen()?))
+    }
+
     /// An address of four bytes. `InvalidDhcpMessage` if and only if fewer are left; the position
     /// then does not move.
     #[tactic(auto, unfolding(crate::specs::Field::bytes_at))]
@@ -104,6 +147,26 @@ impl<'a> Buffer<'a> {
     {
         let bytes = self.get_bytes(4)?;
         Ok(Ipv4Addr::new(bytes[0], bytes[1], bytes[2], bytes[3]))
+    }
+
+    /// An address of sixteen bytes. `InvalidDhcpMessage` if and only if fewer are left; the
+    /// position then does not move.
+    pub fn get_ipv6(&mut self) -> Result<Ipv6Addr, DhcpError>
+        ensures { Reads (λ address. address) result self.old self.new (ipv6_address_at self.old) }
+    {
+        Ok(Ipv6Addr::from(self.get_sixteen()?))
+    }
+
+    // Sixteen bytes.
+    #[tactic(auto, unfolding(crate::specs::Field::bytes_at))]
+    fn get_sixteen(&mut self) -> Result<[u8; 16], DhcpError>
+        ensures { Reads (λ bytes. bytes) result self.old self.new (bytes_at 16 self.old) }
+    {
+        let Some((bytes, left)) = self.left.split_first_chunk::<16>() else {
+            return Err(DhcpError::invalid_message(FixedText::Short));
+        };
+        self.left = left;
+        Ok(*bytes)
     }
 
     /// The text in a field of `fix_size` bytes, before its first zero byte. `InvalidDhcpMessage` if
@@ -118,13 +181,8 @@ impl<'a> Buffer<'a> {
             (terminated_text_at fix_size self.old) }
     {
         let start = self.left;
-        match String::from_str(alloc, self.get_str_with_null(fix_size)?) {
-            Ok(text) => Ok(text),
-            Err(error) => {
-                self.left = start;
-                Err(DhcpError::from(error))
-            }
-        }
+        let text = self.get_str_with_null(fix_size)?;
+        self.copied_after(alloc, start, text)
     }
 
     /// The text in a field of `fix_size` bytes, in place: as `get_string_with_null`, and does not
@@ -140,6 +198,59 @@ impl<'a> Buffer<'a> {
         let (field, left) = self.left.split_at(fix_size);
         self.left = left;
         match utf8_of(before_zero(field)) {
+            Some(text) => Ok(text),
+            None => Err(DhcpError::invalid_message(FixedText::NotUtf8)),
+        }
+    }
+
+    // A copy of a text that was read; out of memory puts the position back to where the read began.
+    fn copied_after(
+        &mut self,
+        alloc: Global,
+        start: &'a [u8],
+        text: &str,
+    ) -> Result<String, DhcpError>
+        ensures { MatchResult result
+            (λ copy. (string_bytes copy ≡ text.now) × (self.new ≡ self.old))
+            (λ e. (e ≡ no_memory) × (self.new ≡ start.now)) }
+    {
+        match String::from_str(alloc, text) {
+            Ok(copy) => Ok(copy),
+            Err(error) => {
+                self.left = start;
+                Err(DhcpError::from(error))
+            }
+        }
+    }
+
+    /// The text of the next `size` bytes, zero bytes and all. `InvalidDhcpMessage` if and only if
+    /// fewer bytes are left, and then the position does not move, or they are not UTF-8, and then
+    /// they are skipped. Out of memory leaves the position.
+    pub fn get_string_without_null(
+        &mut self,
+        alloc: Global,
+        size: usize,
+    ) -> Result<String, DhcpError>
+        ensures { ReadsText string_bytes result self.old self.new size (text_at size self.old) }
+    {
+        let start = self.left;
+        let text = self.get_str_without_null(size)?;
+        self.copied_after(alloc, start, text)
+    }
+
+    /// The text of the next `size` bytes, in place: as `get_string_without_null`, and does not
+    /// allocate.
+    #[tactic(auto, unfolding(crate::specs::Field::bytes_at))]
+    pub fn get_str_without_null(&mut self, size: usize) -> Result<&'a str, DhcpError>
+        ensures { ReadsField (λ text. text.now) result self.old self.new size
+            (text_at size self.old) }
+    {
+        if self.left.len() < size {
+            return Err(DhcpError::invalid_message(FixedText::Short));
+        }
+        let (field, left) = self.left.split_at(size);
+        self.left = left;
+        match utf8_of(field) {
             Some(text) => Ok(text),
             None => Err(DhcpError::invalid_message(FixedText::NotUtf8)),
         }

@@ -3,12 +3,13 @@
 
 ghost use Rattle.std.specs.Prelude.{◌≡◌, ok_or};
 ghost use Rattle.std.specs.Int.{w8, w16, w32};
+ghost use Rattle.dhcp_wire.specs.Field.{text_of};
 ghost use Rattle.dhcp_wire.specs.Outcome.{Answers, Gives, Makes};
 ghost use Rattle.dhcp_wire.specs.Value as values;
 
 use crate::{Buffer, DhcpError, ErrorKind, Sequence, Text};
 use std::alloc::Global;
-use std::net::Ipv4Addr;
+use std::net::{Ipv4Addr, Ipv6Addr};
 
 /// The number of the first byte. `InvalidDhcpMessage` if and only if there is none.
 pub fn u8_in(value: &[u8]) -> Result<u8, DhcpError>
@@ -66,5 +67,38 @@ pub fn text_in(alloc: Global, value: &[u8]) -> Result<Text, DhcpError>
         (ok_or (values.text_in value.now) ErrorKind.InvalidDhcpMessage) }
 {
     let text = Buffer::new(value).get_string_with_null(alloc, value.len())?;
+    Ok(Text::from(text))
+}
+
+/// The address of the first sixteen bytes. `InvalidDhcpMessage` if and only if there are fewer.
+pub fn ipv6_address_in(value: &[u8]) -> Result<Ipv6Addr, DhcpError>
+    ensures { Answers (λ address. address) result
+        (ok_or (values.ipv6_address_in value.now) ErrorKind.InvalidDhcpMessage) }
+{
+    Buffer::new(value).get_ipv6()
+}
+
+/// An address for each whole group of sixteen bytes; up to fifteen bytes after the last are
+/// ignored. Out of memory is the only error.
+#[tactic(auto, using(crate::proofs::AddressLemmas::first_group, crate::proofs::AddressLemmas::no_group))]
+pub fn ipv6_addresses_in(alloc: Global, value: &[u8]) -> Result<Sequence<Ipv6Addr>, DhcpError>
+    ensures { Makes (λ addresses. addresses) result (values.ipv6_addresses_in value.now) }
+{
+    let mut addresses = Sequence::new(alloc);
+    let mut rest = value;
+    while let Some((octets, later)) = rest.split_first_chunk::<16>() {
+        addresses.push(Ipv6Addr::from(*octets))?;
+        rest = later;
+    }
+    Ok(addresses)
+}
+
+/// The text of all the bytes, zero bytes too. `InvalidDhcpMessage` if and only if it is not UTF-8.
+#[tactic(auto, using(crate::proofs::FieldLemmas::whole_text))]
+pub fn whole_text_in(alloc: Global, value: &[u8]) -> Result<Text, DhcpError>
+    ensures { Gives (λ text. text) result
+        (ok_or (text_of value.now) ErrorKind.InvalidDhcpMessage) }
+{
+    let text = Buffer::new(value).get_string_without_null(alloc, value.len())?;
     Ok(Text::from(text))
 }
