@@ -3,6 +3,7 @@
 #![tactic(auto)]
 
 mod hex_text;
+pub mod laws;
 mod line;
 mod memory;
 mod standard;
