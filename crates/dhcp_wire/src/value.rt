@@ -80,7 +80,7 @@ pub fn ipv6_address_in(value: &[u8]) -> Result<Ipv6Addr, DhcpError>
 
 /// An address for each whole group of sixteen bytes; up to fifteen bytes after the last are
 /// ignored. Out of memory is the only error.
-#[tactic(auto, using(crate::proofs::AddressLemmas::first_group, crate::proofs::AddressLemmas::no_group))]
+#[tactic(auto, using(crate::proofs::AddressLemmas::groups))]
 pub fn ipv6_addresses_in(alloc: Global, value: &[u8]) -> Result<Sequence<Ipv6Addr>, DhcpError>
     ensures { Makes (λ addresses. addresses) result (values.ipv6_addresses_in value.now) }
 {
