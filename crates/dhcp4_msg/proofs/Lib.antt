@@ -10,3 +10,4 @@ pub mod RouteLemmas
 pub mod SlotLemmas
 pub mod ValueLemmas
 pub mod ViewLemmas
+pub use Rattle.dhcp4_msg.proofs.ValueLemmas.{text_len}

@@ -88,7 +88,7 @@ impl DhcpV4Message {
 
     /// The type that option 53 says, RFC 2132 section 9.6: none if and only if there is no option
     /// 53.
-    #[tactic(auto, unfolding(crate::specs::Options::message_type, crate::specs::OptionCode::number_of))]
+    #[tactic(auto, unfolding(crate::specs::message_type, crate::specs::number_of))]
     pub fn message_type(&self) -> Option<DhcpV4MessageType>
         ensures value { result ≡ options.message_type self.now.options }
         ensures none { (result ≡ None) ↔ (map.get self.now.options 53 ≡ None) }

@@ -37,7 +37,7 @@ impl TryFrom<u8> for DhcpV4MessageType {
     ghost try_from_gives = { λ number outcome.
         Answers (λ kind. kind) outcome (ok_or (type_of number) NotSupported) };
 
-    #[tactic(auto, unfolding(crate::specs::MessageType::type_of, crate::specs::MessageType::type_number))]
+    #[tactic(auto, unfolding(crate::specs::type_of, crate::specs::type_number))]
     fn try_from(d: u8) -> Result<Self, DhcpError> {
         match d {
             1 => Ok(DhcpV4MessageType::Discovery),

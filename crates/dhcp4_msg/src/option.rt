@@ -219,7 +219,7 @@ impl DhcpV4Option {
     }
 
     // How many bytes the written value has.
-    #[tactic(auto, unfolding(crate::specs::Value::written_value), using(crate::proofs::ValueLemmas::text_len))]
+    #[tactic(auto, unfolding(crate::specs::written_value), using(crate::proofs::text_len))]
     fn value_len(&self) -> usize
         ensures { result ≡ length (written_value self.now) }
     {
@@ -249,7 +249,7 @@ impl DhcpV4Option {
 
     /// Writes the option: its code, the length of its value, and the value; Pad and End are a code
     /// alone. Out of memory is the only error; some of the bytes are then written.
-    #[tactic(auto, unfolding(crate::specs::Value::written_option, crate::specs::Value::written_value, crate::specs::Value::fits,))]
+    #[tactic(auto, unfolding(crate::specs::written_option, crate::specs::written_value, crate::specs::fits))]
     pub fn emit(&self, buf: &mut BufferMut) -> Result<(), DhcpError>
         requires { IsTrue (fits self.now) }
         ensures { Emits result buf.old buf.new (written_option self.now) }
@@ -258,8 +258,7 @@ impl DhcpV4Option {
             DhcpV4Option::Pad => buf.write_u8(PAD),
             DhcpV4Option::End => buf.write_u8(END),
             option => {
-                buf.write_u8(u8::from(option.code()))?;
-                buf.write_u8(option.value_len() as u8)?;
+                buf.write_bytes(&[u8::from(option.code()), option.value_len() as u8])?;
                 option.emit_value(buf)
             }
         }

@@ -62,7 +62,7 @@ pub enum DhcpV4OptionCode {
 impl From<u8> for DhcpV4OptionCode {
     ghost from_gives = { λ number code. code ≡ code_of number };
 
-    #[tactic(auto, unfolding(crate::specs::OptionCode::code_of, crate::specs::OptionCode::number_of))]
+    #[tactic(auto, unfolding(crate::specs::code_of, crate::specs::number_of))]
     fn from(d: u8) -> Self {
         match d {
             0 => DhcpV4OptionCode::Pad,

@@ -51,6 +51,9 @@ pub(crate) const PAD: u8 = 0;
 
 pub(crate) const END: u8 = 255;
 
+// How many options a usual message has at most: room for these is made before they are read.
+const USUAL_OPTIONS: usize = 16;
+
 // The code of the option in which some servers send routes.
 const PRIVATE_ROUTES: u8 = 249;
 
@@ -118,6 +121,16 @@ impl DhcpV4Options {
         }
     }
 
+    // No options, with room for so many.
+    fn with_capacity(alloc: Global, capacity: usize) -> Result<Self, DhcpError>
+        ensures { Makes (λ options. options) result map.empty }
+    {
+        Ok(DhcpV4Options {
+            kept: Vec::with_capacity(alloc, capacity)?,
+            places: [None; 256],
+        })
+    }
+
     /// The option of that code, if it is kept: it is of that code, and can be written.
     #[tactic(auto, unfolding(crate::specs::OptionCode::number_of))]
     pub fn get(&self, code: DhcpV4OptionCode) -> Option<&DhcpV4Option>
@@ -181,7 +194,7 @@ impl DhcpV4Options {
     /// A copy of the routes of option 121, RFC 3442; where it is absent the routes that fill the
     /// value of option 249 exactly, in which some servers send them. Out of memory is the only
     /// error.
-    #[tactic(auto, unfolding(crate::specs::Options::classless_routes, crate::specs::OptionCode::number_of))]
+    #[tactic(auto, unfolding(crate::specs::classless_routes, crate::specs::number_of))]
     pub fn classless_routes(
         &self,
         alloc: Global,
@@ -236,7 +249,8 @@ impl DhcpV4Options {
     pub fn parse(alloc: Global, raw: &[u8]) -> Result<Self, DhcpError>
         ensures { Makes (λ options. options) result (read_options raw.now) }
     {
-        let mut options = DhcpV4Options::new(alloc);
+        let room = raw.len().min(USUAL_OPTIONS);
+        let mut options = DhcpV4Options::with_capacity(alloc, room)?;
         let mut rest = raw;
         while let Some((raw, later)) = OptionFormat::DhcpV4.raw_option_at(rest) {
             options.keep(alloc, raw)?;

@@ -5,7 +5,7 @@ use Rattle.dhcp4_msg.proofs.OptionsLemmas.{entered_more, entered_end, read_optio
 use Rattle.dhcp4_msg.proofs.options.DhcpV4Options.parse.Goals as goal
 
 pub loop-raw-init : goal.loop-raw-init
-loop-raw-init c = rw c.new-options.ensures (read_options-entered _)
+loop-raw-init c = rw c.in_ok-options.ensures (read_options-entered _)
 
 pub loop-raw-smaller : goal.loop-raw-smaller
 loop-raw-smaller c = rw c.counted_after-rest.ensures (counted_after-shorter DhcpV4 _ _ _ c.in-Some.ensures.found)
