@@ -320,11 +320,11 @@ pub(crate) fn numbers_of(alloc: Global, asked: &[DhcpV4OptionCode]) -> Result<Ve
 fn codes_of(alloc: Global, numbers: &[u8]) -> Result<Sequence<DhcpV4OptionCode>, DhcpError>
     ensures { Makes (λ codes. codes) result (map code_of numbers.now) }
 {
-    let mut codes = Sequence::new(alloc);
+    let mut codes = Vec::with_capacity(alloc, numbers.len())?;
     for number in numbers {
         codes.push(DhcpV4OptionCode::from(*number))?;
     }
-    Ok(codes)
+    Ok(Sequence::from(codes))
 }
 
 // The codes of these numbers in rising order, each once.

@@ -199,7 +199,7 @@ fn message_of(
     message.xid = xid;
     message.ciaddr = row.ciaddr;
     message.chaddr = hardware_address(config.src_mac);
-    message.options = options_of(alloc, config, row)?;
+    add_options(&mut message.options, alloc, config, row)?;
     Ok(message)
 }
 
@@ -212,21 +212,23 @@ fn hardware_address(mac: [u8; 6]) -> [u8; 16]
     field
 }
 
-// The options of a row.
+// Adds the options of a row.
 #[tactic(auto, using(crate::proofs::OptionLemmas::fitting))]
-fn options_of(alloc: Global, config: &DhcpV4Config, row: Row) -> Result<DhcpV4Options, DhcpError>
+fn add_options(
+    options: &mut DhcpV4Options,
+    alloc: Global,
+    config: &DhcpV4Config,
+    row: Row,
+) -> Result<(), DhcpError>
     requires { IsTrue (is_within_limits config.now) }
-    ensures { Makes (λ options. options) result
-        (table.with_options map.empty (table.options_of config.now row)) }
+    ensures { Adds result options.old options.new (table.options_of config.now row) }
 {
-    let mut options = DhcpV4Options::new(alloc);
-    add_host_name(&mut options, config.host_name.try_clone(alloc)?)?;
-    add_requested(&mut options, row.requested)?;
+    add_host_name(options, config.host_name.try_clone(alloc)?)?;
+    add_requested(options, row.requested)?;
     options.insert(DhcpV4Option::MessageType(row.message_type))?;
-    add_server(&mut options, row.server)?;
+    add_server(options, row.server)?;
     options.insert(DhcpV4Option::ParameterRequestList(config.request_opts.try_clone(alloc)?))?;
-    options.insert(DhcpV4Option::ClientIdentifier(config.client_id.try_clone(alloc)?))?;
-    Ok(options)
+    options.insert(DhcpV4Option::ClientIdentifier(config.client_id.try_clone(alloc)?))
 }
 
 // Adds option 12, if there is a host name.

@@ -4,4 +4,4 @@ use Rattle.dhcp4_msg.specs.OptionCode.{code_of}
 use Rattle.dhcp4_lease.proofs.config.codes_of.Given as goal
 
 abbrev pub invariant-loop-number : goal.invariant-loop-number
-invariant-loop-number l = l.codes ≡ map code_of (take l.number-index l.numbers)
+invariant-loop-number l = l.codes.items ≡ map code_of (take l.number-index l.numbers)

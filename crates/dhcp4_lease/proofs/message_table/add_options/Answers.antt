@@ -2,7 +2,7 @@
 use Rattle.std.proofs.Common.{ap, ◌∙◌}
 use Rattle.dhcp4_lease.specs.Config.{Config}
 use Rattle.dhcp4_lease.proofs.OptionLemmas.{requests_fit, client_fits}
-use Rattle.dhcp4_lease.proofs.message_table.options_of.Goals as goal
+use Rattle.dhcp4_lease.proofs.message_table.add_options.Goals as goal
 
 pub insert-requires-2 : goal.insert-requires-2
 insert-requires-2 c =
