@@ -5,6 +5,7 @@ pub mod OffsetLemmas
 pub mod OptionsLaw
 pub mod OptionsLemmas
 pub mod RangeLemmas
+pub mod RiseLemmas
 pub mod RisingLemmas
 pub mod RouteLemmas
 pub mod SlotLemmas

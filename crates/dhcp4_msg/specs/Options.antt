@@ -1,6 +1,6 @@
 -- Options as a map from their numbers, RFC 2132: how they are read from a list, how they are
 -- written, and how they are kept.
-use Rattle.std.specs.Prelude.{◌≡◌, ℕ, ◌<◌, Bool, ◌==◌, List, [], ◌∷◌, ◌++◌, length, reverse, position, Option, Some, None, IsTrue, is_some, option_map, slice_get, slice_index_or, if◌then◌else◌}
+use Rattle.std.specs.Prelude.{◌≡◌, ℕ, ◌<◌, ◌≤◌, ◌+◌, Bool, ◌==◌, List, [], ◌∷◌, ◌++◌, length, reverse, position, Option, Some, None, IsTrue, is_some, option_map, slice_get, slice_index_or, if◌then◌else◌}
 use Rattle.std.specs.Ordering.{nat_cmp}
 use Rattle.std.specs.List.{All, count_by, flat_map, filter_map}
 use Rattle.std.specs.Option.{option_or}
@@ -84,6 +84,12 @@ message_type options = said_by type_said options 53
 -- send them
 unfoldable pub classless_routes : OptionMap → Option (List DhcpV4ClasslessRoute)
 classless_routes options = option_or (map.get options 121) (map.get options 249) >>= routes_said
+
+-- options by rising numbers, from this number on
+abbrev pub RiseFrom : ℕ → List DhcpV4Option → Type 0
+RiseFrom least [] = Unit {0}
+RiseFrom least (option ∷ options) =
+    (least ≤ option_number option) × RiseFrom (option_number option + 1) options
 
 -- ---- how they are kept: in a list, with the place of the option of each number
 

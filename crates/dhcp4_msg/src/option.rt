@@ -249,7 +249,7 @@ impl DhcpV4Option {
 
     /// Writes the option: its code, the length of its value, and the value; Pad and End are a code
     /// alone. Out of memory is the only error; some of the bytes are then written.
-    #[tactic(auto, unfolding(crate::specs::written_option, crate::specs::written_value, crate::specs::fits))]
+    #[tactic(auto, unfolding(crate::specs::written_option, crate::specs::fits))]
     pub fn emit(&self, buf: &mut BufferMut) -> Result<(), DhcpError>
         requires { IsTrue (fits self.now) }
         ensures { Emits result buf.old buf.new (written_option self.now) }

@@ -1,7 +1,7 @@
 //! The options of a message, by their numbers.
 
 ghost use Rattle.std.specs.Prelude.{◌≡◌, ◌≤◌, ◌<◌, ◌==◌, ◌&&◌, length, OnOk, IfErr, MatchResult, IfSome, IsTrue, option_copied, option_map, slice_set, vec_items};
-ghost use Rattle.std.specs.List.{flat_map};
+ghost use Rattle.std.specs.List.{All, flat_map};
 ghost use Rattle.std.specs.Option.{option_eq};
 ghost use Rattle.std.specs.Cmp.{on_per, on_equiv, and_per, and_equiv, nat_eq_equiv, partial_equiv_from_equiv};
 ghost use Rattle.std.specs.Cmp.Lexicographic.{pointwise, lists_per, lists_equiv};
@@ -26,6 +26,7 @@ ghost use Rattle.dhcp4_msg.specs.Value.{
   written_option,
 };
 ghost use Rattle.dhcp4_msg.specs.Options.{
+  RiseFrom,
   classless_routes,
   entry_of,
   parts_of,
@@ -51,8 +52,11 @@ pub(crate) const PAD: u8 = 0;
 
 pub(crate) const END: u8 = 255;
 
-// How many options a usual message has at most: room for these is made before they are read.
-const USUAL_OPTIONS: usize = 16;
+// How many bytes most options have at least: room for so many options is made before they are read.
+const USUAL_OPTION_LEN: usize = 4;
+
+// How many options are kept at most: one for each code.
+const MOST_OPTIONS: usize = 256;
 
 // The code of the option in which some servers send routes.
 const PRIVATE_ROUTES: u8 = 249;
@@ -249,7 +253,7 @@ impl DhcpV4Options {
     pub fn parse(alloc: Global, raw: &[u8]) -> Result<Self, DhcpError>
         ensures { Makes (λ options. options) result (read_options raw.now) }
     {
-        let room = raw.len().min(USUAL_OPTIONS);
+        let room = (raw.len() / USUAL_OPTION_LEN).min(MOST_OPTIONS);
         let mut options = DhcpV4Options::with_capacity(alloc, room)?;
         let mut rest = raw;
         while let Some((raw, later)) = OptionFormat::DhcpV4.raw_option_at(rest) {
@@ -338,9 +342,19 @@ impl DhcpV4Options {
         Ok(())
     }
 
-    // Writes the options that are kept, by rising number; the walk over the table ends with the
-    // last of them.
+    // Writes the options that are kept, by rising number, as most senders keep them.
     fn emit_kept(&self, buf: &mut BufferMut) -> Result<(), DhcpError>
+        ensures { Emits result buf.old buf.new (flat_map written_option (map.values self.now)) }
+    {
+        if are_rising(self.kept.as_slice()) {
+            emit_all(self.kept.as_slice(), buf)
+        } else {
+            self.emit_by_place(buf)
+        }
+    }
+
+    // Writes them number by number; the walk over the table ends with the last of them.
+    fn emit_by_place(&self, buf: &mut BufferMut) -> Result<(), DhcpError>
         ensures { Emits result buf.old buf.new (flat_map written_option (map.values self.now)) }
     {
         let mut left = self.kept.len();
@@ -355,6 +369,32 @@ impl DhcpV4Options {
         }
         Ok(())
     }
+}
+
+// Whether the numbers of the options rise.
+fn are_rising(options: &[DhcpV4Option]) -> bool
+    ensures { IsTrue result → RiseFrom 0 options.now }
+{
+    let mut least = 0;
+    for option in options {
+        let number = u16::from(u8::from(option.code()));
+        if number < least {
+            return false;
+        }
+        least = number + 1;
+    }
+    true
+}
+
+// Writes options one after the other.
+fn emit_all(options: &[DhcpV4Option], buf: &mut BufferMut) -> Result<(), DhcpError>
+    requires { All (λ option. IsTrue (fits option)) options.now }
+    ensures { Emits result buf.old buf.new (flat_map written_option options.now) }
+{
+    for option in options {
+        option.emit(buf)?;
+    }
+    Ok(())
 }
 
 // Puts the option in place of the one that stands there.
