@@ -52,11 +52,8 @@ pub(crate) const PAD: u8 = 0;
 
 pub(crate) const END: u8 = 255;
 
-// How many bytes most options have at least: room for so many options is made before they are read.
-const USUAL_OPTION_LEN: usize = 4;
-
-// How many options are kept at most: one for each code.
-const MOST_OPTIONS: usize = 256;
+// How many options a usual message has at most: room for these is made before they are read.
+const USUAL_OPTIONS: usize = 16;
 
 // The code of the option in which some servers send routes.
 const PRIVATE_ROUTES: u8 = 249;
@@ -253,7 +250,7 @@ impl DhcpV4Options {
     pub fn parse(alloc: Global, raw: &[u8]) -> Result<Self, DhcpError>
         ensures { Makes (λ options. options) result (read_options raw.now) }
     {
-        let room = (raw.len() / USUAL_OPTION_LEN).min(MOST_OPTIONS);
+        let room = raw.len().min(USUAL_OPTIONS);
         let mut options = DhcpV4Options::with_capacity(alloc, room)?;
         let mut rest = raw;
         while let Some((raw, later)) = OptionFormat::DhcpV4.raw_option_at(rest) {
