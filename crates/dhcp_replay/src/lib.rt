@@ -20,4 +20,4 @@ pub use thin_printer::print_thin_outputs;
 pub use thin_reader::read_thin_script;
 pub use thin_run::replay_thin;
 pub use thin_script::{ThinEvent, ThinScript};
-pub use tool::{Status, replay_tool};
+pub use tool::{Status, replay_tool, status_without_words};

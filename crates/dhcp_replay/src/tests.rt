@@ -5,8 +5,8 @@ use dhcp_wire::{Bytes, Sequence};
 use std::net::Ipv4Addr;
 use std::test::Fail;
 
-const THREE_EVENTS: &[u8] =
-    b"dhcp4 0\nmac 020000000001\nwords 12345678ffffffff\nat none\nat payload 0a0b\nat payload -\nend\n";
+const THREE_EVENTS: &[u8] = b"dhcp4 0\nmac 020000000001\nwords 12345678ffffffff\n\
+    at none\nat payload 0a0b\nat payload -\nend\n";
 
 #[test]
 fn a_thin_text_is_read(rt: HostRuntime) -> Result<(), Fail> {
@@ -79,8 +79,9 @@ fn outputs_are_printed_line_by_line(rt: HostRuntime) -> Result<(), Fail> {
         outputs.push(ThinOutput { event, what })?;
     }
     let text = print_thin_outputs(rt.alloc(), outputs.as_slice())?;
-    let want =
-        "1 handed payload 000aff\n20 state selecting\n300 state done 192.0.2.10 192.0.2.1 255.255.255.255 300 525 4294967295\n301 handed payload -\nok\n";
+    let want = "1 handed payload 000aff\n20 state selecting\n\
+        300 state done 192.0.2.10 192.0.2.1 255.255.255.255 300 525 4294967295\n\
+        301 handed payload -\nok\n";
     assert_eq!(rt; text.as_slice(), want.as_bytes());
     Ok(())
 }

@@ -1,13 +1,14 @@
 //! The program: a thin script comes in, and what its history reports goes out.
 
 ghost use Rattle.std.specs.Prelude.{◌≡◌, ◌≢◌, ◌≤◌, ◌<◌, ◌⊎◌, ◌↔◌, Some, IfSome, IsTrue, length, map, string_bytes};
+ghost use Rattle.std.specs.IoError.{error_kind};
 ghost use Rattle.dhcp_wire.specs.Error.{no_memory};
 ghost use Rattle.dhcp_wire.specs.Fault.{Rose};
 ghost use Rattle.dhcp_stream.specs.Stream.{behind};
 ghost use Rattle.dhcp_stream.specs.Whole.{HasGone, TakesFront, most_bytes};
 ghost use Rattle.dhcp_replay.specs.ThinText.{IsThinScript, script_text};
 ghost use Rattle.dhcp_replay.specs.Tool.{status_number, AsksForRun, IsTextOf, IsNoText, printed, HasRead, HasReadTooMany, AnswersText, AnswersSource, GivesText};
-ghost use Rattle.dhcp_replay.specs.declared.tool.Status.TheVariants.{NoMemory};
+ghost use Rattle.dhcp_replay.specs.declared.tool.Status.TheVariants.{NoMemory, WrongWords};
 ghost use Rattle.dhcp_replay.specs.declared.thin_script.ThinScript.{ThinScript};
 
 use crate::{
@@ -15,6 +16,8 @@ use crate::{
 };
 use dhcp_wire::{Bytes, DhcpError};
 use std::alloc::Global;
+use std::io;
+use std::io::ErrorKind;
 
 /// How a run of the program ends, with the number of its exit status.
 #[derive(Clone, Copy, Debug, PartialEq, Eq)]
@@ -40,6 +43,18 @@ impl From<Status> for u8 {
 
     fn from(status: Status) -> u8 {
         status as u8
+    }
+}
+
+/// The status where the words of the command line cannot be read, by the error of `env::args`: out
+/// of memory, and for every other error wrong words, since a word that is not UTF-8 is no `run`.
+pub fn status_without_words(error: &io::Error) -> Status
+    ensures memory { error_kind error.now ≡ ErrorKind.OutOfMemory → result ≡ NoMemory }
+    ensures other { error_kind error.now ≢ ErrorKind.OutOfMemory → result ≡ WrongWords }
+{
+    match error.kind() {
+        ErrorKind::OutOfMemory => Status::NoMemory,
+        _ => Status::WrongWords,
     }
 }
 

@@ -1,7 +1,9 @@
 //! Whole runs of the program over memory.
 
-use crate::{MemSink, MemSource, replay_tool};
+use crate::{MemSink, MemSource, replay_tool, status_without_words};
 use std::alloc::{AllocError, Global};
+use std::env;
+use std::env::{Env, FillError};
 use std::test::Fail;
 
 // Options of an Offer and of an Ack: type, server 192.0.2.1, lease time 600, renewal time 300,
@@ -149,5 +151,39 @@ fn more_than_the_limit_is_too_long(rt: HostRuntime) -> Result<(), Fail> {
     let (status, taken) = run(alloc, &["run"], input.as_slice(), &[], &[])?;
     assert_eq!(rt; status, 6);
     assert!(rt; taken.is_empty());
+    Ok(())
+}
+
+// A command line whose one word is the byte 0xff, which is not UTF-8.
+#[derive(Drop)]
+struct OtherBytes;
+
+impl Env for OtherBytes {
+    fn arg(&self, i: usize, buf: &mut [u8]) -> Result<usize, FillError> {
+        match buf {
+            _ if i > 0 => Err(FillError::NotPresent),
+            [] => Err(FillError::TooLong),
+            [first, ..] => {
+                *first = 0xff;
+                Ok(1)
+            }
+        }
+    }
+
+    fn var(&self, _name: &str, _buf: &mut [u8]) -> Result<usize, FillError> {
+        Err(FillError::NotPresent)
+    }
+
+    fn var_at(&self, _i: usize, _buf: &mut [u8]) -> Result<usize, FillError> {
+        Err(FillError::NotPresent)
+    }
+}
+
+#[test]
+fn a_word_that_is_not_utf_8_is_a_wrong_word(rt: HostRuntime) -> Result<(), Fail> {
+    let Err(error) = env::args(&(OtherBytes, rt.alloc())) else {
+        return Err(Fail::from("the word was read"));
+    };
+    assert_eq!(rt; u8::from(status_without_words(&error)), 1);
     Ok(())
 }
