@@ -22,8 +22,8 @@ use crate::{AttemptStart, Client, NewAttempt, Phase, Rules, Standing};
 use dhcp_clock::{DhcpLink, Handed, Sent, Words};
 use std::alloc::AllocError;
 
-// Sends a message as its kind asks.
-pub(crate) fn send<L: DhcpLink>(link: &mut L, message: Handed) -> Sent
+/// Hands a message to a link as its kind asks: a frame, or a payload over IPv4 or IPv6.
+pub fn send<L: DhcpLink>(link: &mut L, message: Handed) -> Sent
     ensures hands_over { HandsOver message result (L.shown link.old) (L.shown link.new) }
     ensures faults { HasCause (result ≡ Sent.Refused) (L.faults link.old) (L.faults link.new) }
 {

@@ -12,6 +12,7 @@ mod rules;
 mod schedule;
 mod script;
 
+pub use attempt::send;
 pub use client::{Client, Phase, Standing};
 pub use event_loop::{replay, run_event};
 pub use machine::{RunError, run};
