@@ -5,6 +5,7 @@ use Rattle.dhcp_clock.specs.declared.link.Handed.{Handed}
 use Rattle.dhcp_clock.specs.declared.link.Sent.{Sent}
 use Rattle.dhcp_clock.specs.declared.link.Sent.TheVariants.{Taken, Refused}
 use Rattle.dhcp_clock.specs.Link.{Shown, with_message}
+use Rattle.dhcp_wire.specs.Fault.{Rose}
 use Rattle.dhcp_history.specs.declared.machine.RunError.{RunError}
 use Rattle.dhcp_history.specs.declared.machine.RunError.TheVariants as run
 use Rattle.dhcp_history.specs.declared.client.Client.{Client}
@@ -176,6 +177,14 @@ module _ {PublicState State Exchange Answer Lease : Type 0}
         view_of client (transmit p now shown.refuses (first words)).words ≡
         transmit p now shown.refuses (first words)))
     pub link : IfSome before (λ shown. IsSomeAnd after (λ later. HasHanded Taken shown later))
+
+-- What stands after a poll that returns no change: the state is as it was; and nothing is due yet, or
+-- an attempt is open, or the link refused the message of this poll and failed.
+pub record IsStill {State Exchange : Type 0} (now : ℕ) (old new : Client State Exchange)
+    (failed failed' : ℕ) : Type 0 where
+  pub state : new.state ≡ old.state
+  pub cause : (has_come now new.standing.deadline ≡ false) ⊎
+      ((is_listening new.standing.phase ≡ true) ⊎ Rose failed failed')
 
 -- the client is as this view, with these words left
 pub record HasDrawn {State Exchange : Type 0} (is : View State Exchange)

@@ -3,7 +3,7 @@
 ghost use Rattle.std.specs.Prelude.{◌≡◌, ◌≤◌, ◌<◌, ◌^◌, ◌⊎◌, true, false, not, Some, None, is_some, Ok, OnOk, OnErr, IfOk, IfSome};
 ghost use Rattle.dhcp_clock.specs.declared.link.Handed.{Handed};
 ghost use Rattle.dhcp_clock.specs.Link.{HandsOver, with_message, without_packet};
-ghost use Rattle.dhcp_wire.specs.Fault.{HasCause};
+ghost use Rattle.dhcp_wire.specs.Fault.{HasCause, Rose};
 ghost use Rattle.dhcp_history.specs.Machine.{is_unpolled, is_listening, receive};
 ghost use Rattle.dhcp_history.specs.Client.{view_of, view_with};
 ghost use Rattle.dhcp_history.specs.Run.{
@@ -62,6 +62,8 @@ pub(crate) fn transmit<R: Rules, W: Words, L: DhcpLink>(
     ensures armed { OnOk result (is_some client.new.standing.deadline ≡ true) }
     ensures listens { OnOk result (IfSome (L.shown link.old) (λ before.
         is_listening client.new.standing.phase ≡ not before.refuses)) }
+    ensures cause { OnOk result ((is_listening client.new.standing.phase ≡ true)
+        ⊎ Rose (L.faults link.old) (L.faults link.new)) }
     ensures later { L.faults link.old ≤ L.faults link.new }
 {
     let start = AttemptStart {
@@ -112,6 +114,10 @@ pub(crate) fn receive<R: Rules, W: Words, L: DhcpLink>(
     ensures standing { OnErr result (client.new.standing ≡ client.old.standing) }
     ensures needed { OnErr result (NeedsMemory (R.needs_memory rules.now)
         client.old (L.shown link.old)) }
+    ensures still { result ≡ Ok None → (client.new.standing ≡ client.old.standing)
+        × (client.new.state ≡ client.old.state) }
+    ensures reported { IfOk result (λ change. IfSome change (λ reported.
+        reported ≡ (R.protocol rules.now).public_state client.new.state)) }
     ensures stays { ((client.new.standing ≡ client.old.standing)
         × (client.new.state ≡ client.old.state))
         ⊎ (is_unpolled client.new.standing.phase ≡ true) }

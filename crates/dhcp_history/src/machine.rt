@@ -20,7 +20,7 @@ ghost use Rattle.dhcp_history.specs.Machine.{
 };
 ghost use Rattle.dhcp_history.specs.Schedule.{HasNextAttempt};
 ghost use Rattle.dhcp_history.specs.Client.{view_of, view_with, unpolled, silent};
-ghost use Rattle.dhcp_history.specs.Run.{input_of, sent_by, UsesLink, WhereKnown, UnlessNoMemory, OnNoMemory, OnTimeout, HasPolled, HasReceived, HasTransmitted, HasDrawn, HasDue, quiet_poll, HasPolledQuietly, IsShut, NeedsMemory, IsUnsent, IsSent};
+ghost use Rattle.dhcp_history.specs.Run.{input_of, sent_by, UsesLink, WhereKnown, UnlessNoMemory, OnNoMemory, OnTimeout, HasPolled, HasReceived, HasTransmitted, HasDrawn, HasDue, quiet_poll, HasPolledQuietly, IsShut, IsStill, NeedsMemory, IsUnsent, IsSent};
 
 use crate::attempt::{receive, transmit};
 use crate::{Client, Phase, Rules, Standing};
@@ -229,6 +229,10 @@ fn receive_early<R: Rules, W: Words, L: DhcpLink>(
         client.old.state begun
         (W.left words.old) (W.left words.new) (L.shown link.old) (L.shown link.new)
         (L.faults link.old) (L.faults link.new) }
+    ensures still { result ≡ Ok None → IsStill now client.old client.new
+        (L.faults link.old) (L.faults link.new) }
+    ensures reported { IfOk result (λ change. IfSome change (λ reported.
+        reported ≡ (R.protocol rules.now).public_state client.new.state)) }
     ensures timeout { client.new.timeout_sec ≡ client.old.timeout_sec }
     ensures moment { UnlessNoMemory result (client.new.last_moment ≡ now) }
     ensures in_time { OnTimeout result ⊥ }
@@ -273,6 +277,10 @@ fn transmit_due<R: Rules, W: Words, L: DhcpLink>(
         (transmit_and_receive (R.protocol rules.now) now before.refuses (input_of before.waiting)
         (view_with client.old begun drawn))
         result (view_of client.new) (W.left words.new) before (L.shown link.new))) }
+    ensures still { result ≡ Ok None → IsStill now client.old client.new
+        (L.faults link.old) (L.faults link.new) }
+    ensures reported { IfOk result (λ change. IfSome change (λ reported.
+        reported ≡ (R.protocol rules.now).public_state client.new.state)) }
     ensures timeout { client.new.timeout_sec ≡ client.old.timeout_sec }
     ensures moment { UnlessNoMemory result (client.new.last_moment ≡ now) }
     ensures in_time { OnTimeout result ⊥ }
@@ -325,6 +333,10 @@ pub fn run<R: Rules, W: Words, L: DhcpLink>(
     ensures cause { OnTimeout result ((drawn : List ℕ) →
         (is_stopped client.old.standing.phase ||
         limit_is_over (R.protocol rules.now) now (view_of client.old drawn)) ≡ true) }
+    ensures still { result ≡ Ok None → IsStill now client.old client.new
+        (L.faults link.old) (L.faults link.new) }
+    ensures reported { IfOk result (λ change. IfSome change (λ reported.
+        reported ≡ (R.protocol rules.now).public_state client.new.state)) }
     ensures timeout { client.new.timeout_sec ≡ client.old.timeout_sec }
     ensures armed { HasNextAttempt (R.protocol rules.now).has_attempts client.old →
         HasNextAttempt (R.protocol rules.now).has_attempts client.new }
