@@ -8,6 +8,7 @@ ghost use Rattle.dhcp_history.specs.Script.{Script, Release, input_after_call};
 ghost use Rattle.dhcp_history.specs.History.{history, outputs};
 ghost use Rattle.dhcp_history.specs.Machine.{poll, handed_output, first_view};
 ghost use Rattle.dhcp_history.specs.Client.{view_of};
+ghost use Rattle.dhcp_history.specs.Schedule.{HasNextAttempt};
 ghost use Rattle.dhcp_history.specs.Run.{input_of};
 ghost use Rattle.dhcp_history.specs.EventLoop.{
   release_outputs,
@@ -162,6 +163,8 @@ fn poll_once<R: Rules, W: Words>(
         link.new.shown.waiting)) }
     ensures refuses { link.new.shown.refuses ≡ link.old.shown.refuses }
     ensures empty { link.new.shown.handed ≡ [] }
+    ensures armed { HasNextAttempt (R.protocol rules.now).has_attempts client.old →
+        HasNextAttempt (R.protocol rules.now).has_attempts client.new }
 {
     let polled = run(rules, client, at.moment, words, link);
     let handed = take_message(link);
@@ -180,10 +183,12 @@ fn poll_event<R: Rules, W: Words>(
     requires moment { at.moment < 2 ^ 60 }
     requires empty { link.old.shown.handed ≡ [] }
     requires refuses { link.old.shown.refuses ≡ at.refuse }
-    ensures { OnOk result (IfSome (W.left words.old) (λ drawn.
+    ensures reported { OnOk result (IfSome (W.left words.old) (λ drawn.
         HasReported (polls_at (R.protocol rules.now) 7
         (event_of at (input_of link.old.shown.waiting)) (view_of client.old drawn))
         outputs.old.items outputs.new.items (view_of client.new) (W.left words.new))) }
+    ensures armed { HasNextAttempt (R.protocol rules.now).has_attempts client.old →
+        HasNextAttempt (R.protocol rules.now).has_attempts client.new }
 {
     for _ in 0..7u32 {
         if !poll_once(rules, client, words, link, at, outputs)? {
@@ -207,6 +212,8 @@ fn release_event<R: Rules>(
         HasCalled (call_at (R.protocol rules.now) (event_of at Release) (view_of client.old drawn))
         outputs.old.items outputs.new.items (view_of client.new drawn)) }
     ensures link { OnOk result (link.new.shown ≡ link.old.shown) }
+    ensures armed { HasNextAttempt (R.protocol rules.now).has_attempts client.old →
+        HasNextAttempt (R.protocol rules.now).has_attempts client.new }
 {
     let released = release_held(rules, client, link);
     let handed = take_message(link);
@@ -231,6 +238,8 @@ fn call_event<R: Rules>(
     ensures empty { OnOk result (link.new.shown.handed ≡ []) }
     ensures refuses { OnOk result (link.new.shown.refuses ≡ at.refuse) }
     ensures packet { OnOk result (input_of link.new.shown.waiting ≡ input_after_call input) }
+    ensures armed { HasNextAttempt (R.protocol rules.now).has_attempts client.old →
+        HasNextAttempt (R.protocol rules.now).has_attempts client.new }
 {
     match input {
         Input::Nothing => Ok(()),
@@ -257,9 +266,11 @@ pub fn run_event<R: Rules, W: Words>(
     outputs: &mut Vec<Output<R::PublicState, Handed>>,
 ) -> Result<(), AllocError>
     requires { event.moment < 2 ^ 60 }
-    ensures { OnOk result (IfSome (W.left words.old) (λ drawn.
+    ensures reported { OnOk result (IfSome (W.left words.old) (λ drawn.
         HasReported (event_at (R.protocol rules.now) event (view_of client.old drawn))
         outputs.old.items outputs.new.items (view_of client.new) (W.left words.new))) }
+    ensures armed { HasNextAttempt (R.protocol rules.now).has_attempts client.old →
+        HasNextAttempt (R.protocol rules.now).has_attempts client.new }
 {
     let at = EventHead {
         number: event.number,
@@ -281,9 +292,11 @@ fn run_events<R: Rules, W: Words>(
     events: Vec<Event<Packet>>,
 ) -> Result<Vec<Output<R::PublicState, Handed>>, AllocError>
     requires { All (λ event. event.moment < 2 ^ 60) events.items }
-    ensures { IfOk result (λ reported. IfSome (W.left words.old) (λ drawn.
+    ensures reported { IfOk result (λ reported. IfSome (W.left words.old) (λ drawn.
         HasReported (events_at (R.protocol rules.now) (view_of client.old drawn) events.items)
         [] reported.items (view_of client.new) (W.left words.new))) }
+    ensures armed { HasNextAttempt (R.protocol rules.now).has_attempts client.old →
+        HasNextAttempt (R.protocol rules.now).has_attempts client.new }
 {
     let mut outputs = Vec::new(alloc);
     for event in events {
@@ -309,6 +322,8 @@ pub fn replay<R: Rules, W: Words>(
         Lawful (R.protocol rules.now) → (script : Script Packet R.State R.Exchange) →
         view_of client.old drawn ≡ first_view script → script.events ≡ events.items →
         reported.items ≡ outputs (R.protocol rules.now) (history (R.protocol rules.now) script))) }
+    ensures armed { HasNextAttempt (R.protocol rules.now).has_attempts client.old →
+        HasNextAttempt (R.protocol rules.now).has_attempts client.new }
 {
     run_events(alloc, rules, client, words, events)
 }

@@ -4,6 +4,7 @@ ghost use Rattle.std.specs.Prelude.{◌≡◌, ℕ, List, true, is_some, if◌th
 ghost use Rattle.dhcp_wire.specs.Fault.{HasCause};
 ghost use Rattle.dhcp_history.specs.Machine.{clean_up};
 ghost use Rattle.dhcp_history.specs.Client.{view_of};
+ghost use Rattle.dhcp_history.specs.Schedule.{HasNextAttempt};
 ghost use Rattle.dhcp_history.specs.Release.{UnlessUnreleased, release_held, HasReleased};
 
 use crate::attempt::send;
@@ -26,6 +27,7 @@ pub fn clean_up<R: Rules>(rules: &R, client: &mut Client<R::State, R::Exchange>)
         view_of client.new drawn ≡ clean_up (R.protocol rules.now) (view_of client.old drawn) }
     ensures timeout { client.new.timeout_sec ≡ client.old.timeout_sec }
     ensures moment { client.new.last_moment ≡ client.old.last_moment }
+    ensures armed { HasNextAttempt (R.protocol rules.now).has_attempts client.new }
 {
     let mut exchange = client.standing.exchange;
     rules.after_clean_up(&mut client.state, &mut exchange);
@@ -55,6 +57,8 @@ pub fn release_held<R: Rules, L: DhcpLink>(
     ensures moment { client.new.last_moment ≡ client.old.last_moment }
     ensures state { OnErr result (client.new.state ≡ client.old.state) }
     ensures standing { OnErr result (client.new.standing ≡ client.old.standing) }
+    ensures armed { HasNextAttempt (R.protocol rules.now).has_attempts client.old →
+        HasNextAttempt (R.protocol rules.now).has_attempts client.new }
     ensures faults { HasCause (result ≡ Err ReleaseError.Refused)
         (L.faults link.old) (L.faults link.new) }
 {

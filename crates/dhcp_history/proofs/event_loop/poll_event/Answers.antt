@@ -5,8 +5,8 @@ use Rattle.dhcp_history.specs.EventLoop.{event_of}
 use Rattle.dhcp_history.proofs.Looping.{loop_goes_on, loop_stops, loop_ends}
 use Rattle.dhcp_history.proofs.event_loop.poll_event.Goals as goal
 
-pub returns-then-not-branch : goal.returns-then-not-branch
-returns-then-not-branch g c =
+pub returns-then-not-branch-clause-reported : goal.returns-then-not-branch-clause-reported
+returns-then-not-branch-clause-reported g c =
     let left = g.W.Words.left in
     loop_stops (g.R.Rules.protocol c.args.rules.now) (event_of c.args.at (input_of c.args.link.now.shown.waiting)) (left c.args.words.now) (left c.loop.words) (left c.poll_once.new.words)
     (view_of c.args.client.now) (view_of c.loop.client) (view_of c.poll_once.new.client) (7 - c.loop.counter) c.loop.link.shown.waiting c.poll_once.new.link.shown.waiting c.loop.link.shown.refuses
@@ -23,10 +23,11 @@ loop-preserved g c =
           c.args.outputs.now.items c.loop.outputs.items c.poll_once.new.outputs.items c.in_ok-poll_once.field-0 (omega arith) c.loop.invariant.refuses c.loop.invariant.so_far c.in_ok-poll_once.ensures.polled c.if-not-branch.false);
       empty = c.poll_once.ensures.empty;
       refuses = c.poll_once.ensures.refuses ∙ c.loop.invariant.refuses;
+      armed = λ first. c.poll_once.ensures.armed (c.loop.invariant.armed first);
     }
 
-pub returns : goal.returns
-returns g c =
+pub returns-clause-reported : goal.returns-clause-reported
+returns-clause-reported g c =
     let left = g.W.Words.left in
     loop_ends (g.R.Rules.protocol c.args.rules.now) (event_of c.args.at (input_of c.args.link.now.shown.waiting)) (left c.args.words.now) (left c.loop.words) (view_of c.args.client.now) (view_of c.loop.client)
     (7 - c.loop.counter) c.loop.link.shown.waiting c.args.outputs.now.items c.loop.outputs.items (omega arith) (λ drawn. refl) c.loop.invariant.so_far

@@ -1,6 +1,7 @@
 use Rattle.std.proofs.Common.{◌≡◌, ◌-◌, []}
 use Rattle.std.specs.Prelude.{IfSome, IsSomeAnd}
 use Rattle.dhcp_history.specs.Client.{view_of}
+use Rattle.dhcp_history.specs.Schedule.{HasNextAttempt}
 use Rattle.dhcp_history.specs.Run.{input_of}
 use Rattle.dhcp_history.specs.EventLoop.{event_of, polls_at, MakesUp}
 use Rattle.dhcp_history.proofs.event_loop.poll_event.Given as goal
@@ -16,4 +17,5 @@ invariant-loop g l =
           (polls_at p 7 (event_of l.at (input_of l.fn.link.shown.waiting)) (view_of l.fn.client first)) l.outputs.items l.fn.outputs.items));
       empty : l.link.shown.handed ≡ [];
       refuses : l.link.shown.refuses ≡ l.at.refuse;
+      armed : HasNextAttempt p.has_attempts l.fn.client → HasNextAttempt p.has_attempts l.client;
     }

@@ -21,7 +21,8 @@ loop-event-preserved g c =
           (subst (λ (events : List (Event Packet)). IfSome (left c.args.words.now) (λ words. IsSomeAnd (left c.loop-event.words) (λ drawn.
           MakesUp (events_at p (view_of c.loop-event.client drawn) events) (events_at p (view_of c.args.client.now words) whole) c.loop-event.outputs.items [])))
           c.in-Some.ensures.steps.0 c.loop-event.invariant.so_far)
-          c.in_ok-run_event.ensures;
+          c.in_ok-run_event.ensures.reported;
+      armed = λ first. c.run_event.ensures.armed (c.loop-event.invariant.armed first);
       moments = All-tail (λ (event : Event Packet). event.moment < 2 ^ 60) c.in-Some.event rest
           (subst (λ (events : List (Event Packet)). All (λ (event : Event Packet). event.moment < 2 ^ 60) events) c.in-Some.ensures.steps.0 c.loop-event.invariant.moments);
     }
