@@ -1,5 +1,5 @@
 -- Messages of a client that read back as they are written.
-use Rattle.std.specs.Prelude.{◌≡◌, ℕ, ◌<◌, ◌^◌, length, Some, IfSome}
+use Rattle.std.specs.Prelude.{◌≡◌, ℕ, ◌<◌, ◌≤◌, ◌^◌, length, Some, IfSome}
 use Rattle.std.specs.Net.Addr.{IsIpv4Addr}
 use Rattle.std.specs.Str.{IsUtf8}
 use Rattle.dhcp4_msg.specs.Laws.{read_back}
@@ -26,3 +26,8 @@ RowReadsBack config row =
     (id : ℕ) → id < 2 ^ 32 →
     let message = table_message id config row in
     read_message (written_message message) ≡ Some (read_back message)
+
+-- The message of a row, with any transaction id, has at most 1,027 bytes.
+abbrev pub RowIsShort : Config → Row → Type 0
+RowIsShort config row =
+    (id : ℕ) → length (written_message (table_message id config row)) ≤ 1027

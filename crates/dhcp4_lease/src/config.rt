@@ -138,6 +138,13 @@ impl DhcpV4Config {
             && self.request_opts.len() <= 255
     }
 
+    /// The MAC address from which the client sends.
+    pub fn iface_mac(&self) -> [u8; 6]
+        ensures { result ≡ self.now.src_mac }
+    {
+        self.src_mac
+    }
+
     /// A copy. Out of memory is the only error.
     pub fn try_clone(&self, alloc: Global) -> Result<Self, DhcpError>
         ensures { Makes (λ config. config) result self.now }

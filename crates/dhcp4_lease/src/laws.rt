@@ -4,7 +4,7 @@ ghost use Rattle.std.specs.Prelude.{◌≡◌, ℕ, List, None, IsTrue, IsSome, 
 ghost use Rattle.std.specs.Net.Addr.{IsIpv4Addr};
 ghost use Rattle.dhcp4_msg.specs.Options.{OptionMap, said_by};
 ghost use Rattle.dhcp4_lease.specs.Config.{is_within_limits};
-ghost use Rattle.dhcp4_lease.specs.Laws.{IsTyped, RowReadsBack};
+ghost use Rattle.dhcp4_lease.specs.Laws.{IsTyped, RowIsShort, RowReadsBack};
 ghost use Rattle.dhcp4_lease.specs.Lease.{read_times};
 ghost use Rattle.dhcp4_msg.specs.Value.{seconds_said};
 ghost use Rattle.dhcp4_lease.specs.MessageTable as table;
@@ -35,6 +35,27 @@ pub fn built_messages_read_back(config: &DhcpV4Config, lease: &DhcpV4Lease)
     is_typed(config);
     has_addresses(lease);
     messages_read_back();
+}
+
+/// The Discover of a configuration within its limits has at most 1,027 bytes, whatever the
+/// transaction id.
+pub fn discovery_is_short(config: &DhcpV4Config)
+    requires { IsTrue (is_within_limits config.now) }
+    ensures { RowIsShort config.now table.discover }
+{
+    is_typed(config);
+}
+
+/// So have its other messages.
+pub fn requests_are_short(config: &DhcpV4Config, lease: &DhcpV4Lease)
+    requires { IsTrue (is_within_limits config.now) }
+    ensures request { RowIsShort config.now (table.request lease.now) }
+    ensures reboot { RowIsShort config.now (table.reboot lease.now) }
+    ensures extend { RowIsShort config.now (table.extend lease.now) }
+    ensures release { RowIsShort config.now (table.release lease.now) }
+{
+    is_typed(config);
+    has_addresses(lease);
 }
 
 // What the types of a configuration keep.

@@ -10,7 +10,9 @@ mod message_table;
 mod tests;
 
 pub use config::DhcpV4Config;
-pub use laws::{built_messages_read_back, usual_times_are_in_order};
+pub use laws::{
+    built_messages_read_back, discovery_is_short, requests_are_short, usual_times_are_in_order,
+};
 pub use lease::DhcpV4Lease;
 pub use message_table::{
     new_discovery, new_rebind, new_reboot_request, new_release, new_renew, new_request,
