@@ -1,1 +1,5 @@
+pub mod Answer
+pub mod BoundLease
+pub mod Message
+pub mod Rules
 pub mod State

@@ -2,10 +2,16 @@
 //! dhcp4_lease, and are named here too.
 #![tactic(auto)]
 
+mod answer;
+mod bound_lease;
+mod client_state;
+mod message;
+mod rules;
 mod state;
 
 pub use dhcp4_lease::{
-    DhcpV4Config, DhcpV4Lease, built_messages_read_back, laws, new_discovery, new_rebind,
-    new_reboot_request, new_release, new_renew, new_request, usual_times_are_in_order,
+    DhcpV4Config, DhcpV4Lease, built_messages_read_back, discovery_is_short, new_discovery,
+    new_rebind, new_reboot_request, new_release, new_renew, new_request, requests_are_short,
+    usual_times_are_in_order,
 };
-pub use state::DhcpV4State;
+pub use state::{DhcpV4State, ReportedState};

@@ -1,0 +1,94 @@
+-- What a packet answers to an open attempt, RFC 2131 sections 3.1 and 4.4: it is carried as the
+-- state awaits, to port 68; it has the transaction id of the attempt; and it is of the awaited
+-- type, or a refusal.
+use Rattle.std.specs.Prelude.{ℕ, ◌==◌, ◌&&◌, ◌||◌, Bool, true, false, List, Option, Some, None, option_map, if◌then◌else◌}
+use Rattle.std.specs.Option.{option_map_or}
+use Rattle.dhcp_wire.specs.Field.{◌>>=◌}
+use Rattle.dhcp_clock.specs.declared.link.Packet.{Packet}
+use Rattle.dhcp_clock.specs.declared.link.PacketKind.{PacketKind}
+use Rattle.dhcp_clock.specs.declared.link.PacketKind.TheVariants as carriers
+use Rattle.dhcp_clock.specs.Words.{Drawn, undrawn}
+use Rattle.dhcp_frame.specs.View.{read_frame}
+use Rattle.dhcp_frame.specs.declared.frame.Frame.{Frame}
+use Rattle.dhcp4_msg.specs.declared.message.DhcpV4Message.{DhcpV4Message}
+use Rattle.dhcp4_msg.specs.declared.message_type.DhcpV4MessageType.{DhcpV4MessageType}
+use Rattle.dhcp4_msg.specs.declared.message_type.DhcpV4MessageType.TheVariants.{Offer, Ack, Nack}
+use Rattle.dhcp4_msg.specs.Message.{read_message}
+use Rattle.dhcp4_msg.specs.MessageType.{type_number}
+use Rattle.dhcp4_msg.specs.Options.{message_type}
+use Rattle.dhcp4_lease.specs.Lease.{read_lease}
+use Rattle.dhcp4_client.specs.declared.answer.Answer.{Answer}
+use Rattle.dhcp4_client.specs.declared.answer.Answer.TheVariants.{Granted, Refused}
+use Rattle.dhcp4_client.specs.declared.answer.Awaited.{Awaited}
+use Rattle.dhcp4_client.specs.declared.client_state.ClientState.{ClientState}
+use Rattle.dhcp4_client.specs.declared.client_state.ClientState.TheVariants.{InitReboot, Selecting, Rebooting, Done, Renewing, Rebinding}
+
+-- an Ack or a Nack, carried so
+abbrev pub ack_in : PacketKind → Awaited
+ack_in carrier = record { carrier = carrier; grant = Ack; may_refuse = true }
+
+-- what a state awaits
+abbrev pub awaited : ClientState → Option Awaited
+awaited InitReboot =
+    Some (record { carrier = carriers.Frame; grant = Offer; may_refuse = false })
+awaited (Selecting offer) = Some (ack_in carriers.Frame)
+awaited (Rebooting held) = Some (ack_in carriers.Frame)
+awaited (Done bound) = None
+awaited (Renewing bound) = Some (ack_in carriers.Payload)
+awaited (Rebinding bound) = Some (ack_in carriers.Frame)
+
+-- the payload of a frame to the port of a client
+abbrev pub payload_to_client : Frame → Option (List ℕ)
+payload_to_client frame = if frame.dst_port == 68 then Some frame.payload else None
+
+abbrev pub framed_payload : List ℕ → Option (List ℕ)
+framed_payload bytes = read_frame bytes >>= payload_to_client
+
+-- the payload of a packet that is carried so
+abbrev pub payload_by : PacketKind → PacketKind → List ℕ → Option (List ℕ)
+payload_by carriers.Frame carriers.Frame bytes = framed_payload bytes
+payload_by carriers.Frame carriers.Payload bytes = None
+payload_by carriers.Payload carriers.Frame bytes = None
+payload_by carriers.Payload carriers.Payload bytes = Some bytes
+
+abbrev pub payload_in : PacketKind → Packet → Option (List ℕ)
+payload_in carrier packet = payload_by carrier packet.kind packet.bytes
+
+-- whether a message is of this type
+abbrev pub is_of_type : DhcpV4MessageType → DhcpV4Message → Bool
+is_of_type kind message =
+    option_map_or (λ found. type_number found == type_number kind)
+    (message_type message.options) false
+
+-- whether a message refuses a request, where it may
+abbrev pub is_refusal : Awaited → DhcpV4Message → Bool
+is_refusal awaited message = awaited.may_refuse && is_of_type Nack message
+
+-- whether a message has the transaction id, and the type that is awaited or that of a refusal
+abbrev pub concerns : Awaited → ℕ → DhcpV4Message → Bool
+concerns awaited xid message =
+    (message.xid == xid) && (is_of_type awaited.grant message || is_refusal awaited message)
+
+-- the message of a packet that concerns an attempt with this transaction id
+abbrev pub concerning : Awaited → ℕ → DhcpV4Message → Option DhcpV4Message
+concerning awaited xid message = if concerns awaited xid message then Some message else None
+
+abbrev pub message_for : Option Awaited → ℕ → Packet → Option DhcpV4Message
+message_for None xid packet = None
+message_for (Some awaited) xid packet =
+    payload_in awaited.carrier packet >>= read_message >>= concerning awaited xid
+
+-- what such a message answers: a refusal, or the lease that it grants, for whose times words may be
+-- drawn
+abbrev pub answer_of : Awaited → DhcpV4Message → List ℕ → Drawn (Option Answer)
+answer_of awaited message words =
+    if is_of_type awaited.grant message
+    then (let lease = read_lease message words in
+    record { value = option_map Granted lease.value; left = lease.left })
+    else undrawn (Some Refused) words
+
+-- what a packet answers whose message this is, if one is awaited
+abbrev pub reading_of : Option Awaited → Option DhcpV4Message → List ℕ → Drawn (Option Answer)
+reading_of None message words = undrawn None words
+reading_of (Some awaited) None words = undrawn None words
+reading_of (Some awaited) (Some message) words = answer_of awaited message words

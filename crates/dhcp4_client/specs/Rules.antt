@@ -1,0 +1,197 @@
+-- The table of states, RFC 2131 section 4.4: one function for each column, every state named.
+use Rattle.std.specs.Prelude.{ℕ, ◌+◌, ◌-◌, ◌^◌, ◌==◌, min, nat_le, Bool, true, false, List, drop, Option, Some, None, is_some, if◌then◌else◌}
+use Rattle.dhcp_clock.specs.declared.link.Packet.{Packet}
+use Rattle.dhcp_clock.specs.declared.link.Handed.{Handed}
+use Rattle.dhcp_clock.specs.Wait.{draw, discovery_wait, half_wait}
+use Rattle.dhcp_clock.specs.Words.{Drawn, next_of, undrawn}
+use Rattle.dhcp_history.specs.declared.rules.AttemptStart.{AttemptStart}
+use Rattle.dhcp_history.specs.declared.rules.NewAttempt.{NewAttempt}
+use Rattle.dhcp_history.specs.Protocol.{Protocol, NextState}
+use Rattle.dhcp4_lease.specs.Config.{Config}
+use Rattle.dhcp4_lease.specs.Lease.{Lease}
+use Rattle.dhcp4_client.specs.declared.answer.Answer.{Answer}
+use Rattle.dhcp4_client.specs.declared.answer.Answer.TheVariants.{Granted, Refused}
+use Rattle.dhcp4_client.specs.declared.client_state.ClientState.{ClientState}
+use Rattle.dhcp4_client.specs.declared.client_state.ClientState.TheVariants.{InitReboot, Selecting, Rebooting, Done, Renewing, Rebinding}
+use Rattle.dhcp4_client.specs.declared.client_state.Exchange.{Exchange}
+use Rattle.dhcp4_client.specs.Answer.{awaited, message_for, reading_of}
+use Rattle.dhcp4_client.specs.BoundLease.{renewal, rebinding, expiry}
+use Rattle.dhcp4_client.specs.Message.{attempt_message, held_release}
+use Rattle.dhcp4_client.specs.State.{PlainState, done, init_reboot, selecting, renewing, rebinding as rebinds}
+
+-- what the client reports of a state
+abbrev pub public_state : ClientState → PlainState
+public_state InitReboot = init_reboot
+public_state (Selecting offer) = selecting
+public_state (Rebooting held) = selecting
+public_state (Done bound) = done bound.lease
+public_state (Renewing bound) = renewing
+public_state (Rebinding bound) = rebinds
+
+-- whether it sends
+abbrev pub has_attempts : ClientState → Bool
+has_attempts InitReboot = true
+has_attempts (Selecting offer) = true
+has_attempts (Rebooting held) = true
+has_attempts (Done bound) = false
+has_attempts (Renewing bound) = true
+has_attempts (Rebinding bound) = true
+
+-- whether its time limit counts
+abbrev pub has_time_limit : ClientState → Bool
+has_time_limit InitReboot = true
+has_time_limit (Selecting offer) = true
+has_time_limit (Rebooting held) = true
+has_time_limit (Done bound) = false
+has_time_limit (Renewing bound) = true
+has_time_limit (Rebinding bound) = true
+
+-- the moment at which a state ends: T1, T2 or the end of its lease
+abbrev pub ending_moment : ClientState → Option ℕ
+ending_moment InitReboot = None
+ending_moment (Selecting offer) = None
+ending_moment (Rebooting held) = None
+ending_moment (Done bound) = Some (renewal bound)
+ending_moment (Renewing bound) = Some (rebinding bound)
+ending_moment (Rebinding bound) = Some (expiry bound)
+
+-- Before its first Discover a client waits up to 200 milliseconds, so that clients that start at
+-- once do not send at once (RFC 2131, section 4.4.1, asks for 1 to 10 seconds). One that has tried
+-- before does not.
+abbrev pub first_pause : Exchange → List ℕ → Drawn ℕ
+first_pause exchange words =
+    if exchange.retry_count == 0
+    then record { value = draw 0 200 (next_of words); left = drop 1 words }
+    else undrawn 0 words
+
+abbrev pub pause : ClientState → Exchange → List ℕ → Drawn ℕ
+pause InitReboot exchange words = first_pause exchange words
+pause (Selecting offer) exchange words = undrawn 0 words
+pause (Rebooting held) exchange words = undrawn 0 words
+pause (Done bound) exchange words = undrawn 0 words
+pause (Renewing bound) exchange words = undrawn 0 words
+pause (Rebinding bound) exchange words = undrawn 0 words
+
+-- the wait of a client without an address, RFC 2131 section 4.1
+abbrev pub growing_wait : Exchange → List ℕ → Drawn ℕ
+growing_wait exchange words = record {
+  value = discovery_wait exchange.retry_count (next_of words);
+  left = drop 1 words;
+}
+
+-- How long an answer is awaited. BOUND sends nothing; it stands here as the others that have a
+-- lease: half of the time to their end, RFC 2131 section 4.4.5.
+abbrev pub wait : ClientState → Exchange → ℕ → List ℕ → Drawn ℕ
+wait InitReboot exchange now words = growing_wait exchange words
+wait (Selecting offer) exchange now words = growing_wait exchange words
+wait (Rebooting held) exchange now words = growing_wait exchange words
+wait (Done bound) exchange now words = undrawn (half_wait (renewal bound - now)) words
+wait (Renewing bound) exchange now words = undrawn (half_wait (rebinding bound - now)) words
+wait (Rebinding bound) exchange now words = undrawn (half_wait (expiry bound - now)) words
+
+-- an attempt: its wait is drawn, and its message is that of the state
+abbrev pub attempt : Config → ClientState → Exchange → AttemptStart → List ℕ →
+    Drawn (NewAttempt Exchange Handed)
+attempt config state exchange start words =
+    let wait = wait state exchange start.now words in
+    record {
+      value = record {
+        wait = wait.value;
+        message = attempt_message exchange.xid config state;
+        exchange = exchange;
+      };
+      left = wait.left;
+    }
+
+-- the retry count rises with each attempt that went without an answer
+abbrev pub after_wait : Exchange → Exchange
+after_wait exchange =
+    record exchange { retry_count = min (exchange.retry_count + 1) (2 ^ 32 - 1) }
+
+-- a lease that was held before is requested four times
+abbrev pub is_last_attempt : ClientState → Exchange → Bool
+is_last_attempt InitReboot exchange = false
+is_last_attempt (Selecting offer) exchange = false
+is_last_attempt (Rebooting held) exchange = nat_le 3 exchange.retry_count
+is_last_attempt (Done bound) exchange = false
+is_last_attempt (Renewing bound) exchange = false
+is_last_attempt (Rebinding bound) exchange = false
+
+-- what a packet answers
+abbrev pub reading : ClientState → Exchange → Packet → List ℕ → Drawn (Option Answer)
+reading state exchange packet words =
+    reading_of (awaited state) (message_for (awaited state) exchange.xid packet) words
+
+-- Reading a packet may need memory only if its carrier and its transaction id are those of the
+-- attempt, and its type is one that may answer.
+abbrev pub needs_memory : ClientState → Exchange → Packet → Bool
+needs_memory state exchange packet = is_some (message_for (awaited state) exchange.xid packet)
+
+-- the next state, with the retry count as it is
+abbrev pub entering : ClientState → Exchange → NextState ClientState Exchange
+entering state exchange = record { state = state; exchange = exchange }
+
+-- the next state, with a new retry count
+abbrev pub starting : ClientState → Exchange → NextState ClientState Exchange
+starting state exchange = entering state (record exchange { retry_count = 0 })
+
+-- BOUND from this moment on
+abbrev pub bound_from : ℕ → Lease → Exchange → NextState ClientState Exchange
+bound_from now lease exchange =
+    starting (Done (record { lease = lease; since = now })) exchange
+
+-- the state after a lease was offered or granted; BOUND awaits none
+abbrev pub after_grant : ClientState → Lease → ℕ → Exchange → NextState ClientState Exchange
+after_grant InitReboot offer now exchange = entering (Selecting offer) exchange
+after_grant (Selecting offer) lease now exchange = bound_from now lease exchange
+after_grant (Rebooting held) lease now exchange = bound_from now lease exchange
+after_grant (Done bound) lease now exchange = bound_from now lease exchange
+after_grant (Renewing bound) lease now exchange = bound_from now lease exchange
+after_grant (Rebinding bound) lease now exchange = bound_from now lease exchange
+
+-- the state after an answer; a refusal leads back to the start
+abbrev pub after_answer : ClientState → Answer → ℕ → Exchange → NextState ClientState Exchange
+after_answer state (Granted lease) now exchange = after_grant state lease now exchange
+after_answer state Refused now exchange = entering InitReboot exchange
+
+-- the state after the end of one
+abbrev pub after_end : ClientState → Exchange → NextState ClientState Exchange
+after_end InitReboot exchange = entering InitReboot exchange
+after_end (Selecting offer) exchange = entering InitReboot exchange
+after_end (Rebooting held) exchange = entering InitReboot exchange
+after_end (Done bound) exchange = entering (Renewing bound) exchange
+after_end (Renewing bound) exchange = starting (Rebinding bound) exchange
+after_end (Rebinding bound) exchange = entering InitReboot exchange
+
+-- the state after a clean-up
+abbrev pub after_clean_up : Exchange → NextState ClientState Exchange
+after_clean_up exchange = entering InitReboot exchange
+
+-- the lease that is held
+abbrev pub held_lease : ClientState → Option Lease
+held_lease InitReboot = None
+held_lease (Selecting offer) = None
+held_lease (Rebooting held) = Some held
+held_lease (Done bound) = Some bound.lease
+held_lease (Renewing bound) = Some bound.lease
+held_lease (Rebinding bound) = Some bound.lease
+
+-- the protocol of a client with this configuration
+abbrev pub protocol :
+    Config → Protocol PlainState Packet Handed ClientState Exchange Answer Lease
+protocol config = record {
+  public_state = public_state;
+  has_attempts = has_attempts;
+  pause = pause;
+  attempt = attempt config;
+  after_wait = after_wait;
+  is_last_attempt = is_last_attempt;
+  reading = reading;
+  ending_moment = ending_moment;
+  after_answer = after_answer;
+  after_end = after_end;
+  after_clean_up = after_clean_up;
+  held_lease = held_lease;
+  release_message = λ lease exchange. held_release exchange.xid config lease;
+  has_time_limit = has_time_limit;
+}

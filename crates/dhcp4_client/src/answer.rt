@@ -1,0 +1,168 @@
+//! A packet as the awaited answer, RFC 2131 sections 3.1 and 4.4. It is tested in the bytes that it
+//! was received in: its carrier and its port, its transaction id, its type; only a packet that may
+//! answer is copied.
+
+ghost use Rattle.std.specs.Prelude.{◌≡◌, IfOk, None, Ok, Some, false, is_some};
+ghost use Rattle.dhcp_wire.specs.Outcome.{Finds};
+ghost use Rattle.dhcp_history.specs.Rules.{GivesDrawn};
+ghost use Rattle.dhcp4_lease.specs.Lease.{read_lease};
+ghost use Rattle.dhcp4_client.specs.Answer as answers;
+
+use crate::client_state::ClientState;
+use crate::message::CLIENT_PORT;
+use dhcp_clock::{Packet, PacketKind, Words};
+use dhcp_frame::FrameView;
+use dhcp_wire::{DhcpError, none_if_refused};
+use dhcp4_lease::DhcpV4Lease;
+use dhcp4_msg::{DhcpV4MessageType, DhcpV4View};
+use std::alloc::Global;
+
+/// What a packet answers.
+#[derive(Drop)]
+pub enum Answer {
+    /// A server offers or grants this lease.
+    Granted(DhcpV4Lease),
+    /// A server refuses the request.
+    Refused,
+}
+
+/// What an open attempt awaits.
+#[derive(Clone, Copy, Debug, PartialEq, Eq)]
+pub struct Awaited {
+    /// Whether the answer comes in a frame or as a payload.
+    pub carrier: PacketKind,
+    /// The type of the message that offers or grants a lease.
+    pub grant: DhcpV4MessageType,
+    /// Whether a Nack refuses the request.
+    pub may_refuse: bool,
+}
+
+impl Awaited {
+    /// What a state awaits.
+    pub fn in_state(state: &ClientState) -> Option<Awaited>
+        ensures { result ≡ answers.awaited state.now }
+    {
+        match state {
+            ClientState::InitReboot => Some(Awaited {
+                carrier: PacketKind::Frame,
+                grant: DhcpV4MessageType::Offer,
+                may_refuse: false,
+            }),
+            ClientState::Selecting(_) => Some(Awaited::ack_in(PacketKind::Frame)),
+            ClientState::Rebooting(_) => Some(Awaited::ack_in(PacketKind::Frame)),
+            ClientState::Done(_) => None,
+            ClientState::Renewing(_) => Some(Awaited::ack_in(PacketKind::Payload)),
+            ClientState::Rebinding(_) => Some(Awaited::ack_in(PacketKind::Frame)),
+        }
+    }
+
+    // An Ack or a Nack, carried so.
+    fn ack_in(carrier: PacketKind) -> Awaited
+        ensures { result ≡ answers.ack_in carrier }
+    {
+        Awaited {
+            carrier,
+            grant: DhcpV4MessageType::Ack,
+            may_refuse: true,
+        }
+    }
+}
+
+/// What a packet answers to an attempt with this transaction id, if it answers. Out of memory is
+/// the only error, and comes only of a packet that may answer.
+pub fn read_answer<W: Words>(
+    alloc: Global,
+    awaited: Awaited,
+    xid: u32,
+    packet: &Packet,
+    words: &mut W,
+) -> Result<Option<Answer>, DhcpError>
+    ensures drawn { IfOk result (λ answer. GivesDrawn
+        (answers.reading_of (Some awaited) (answers.message_for (Some awaited) xid packet.now))
+        (W.left words.old) answer (W.left words.new)) }
+    ensures free { is_some (answers.message_for (Some awaited) xid packet.now) ≡ false →
+        result ≡ Ok None }
+{
+    let Some(payload) = payload_in(awaited.carrier, packet) else {
+        return Ok(None);
+    };
+    let Some(view) = DhcpV4View::new(payload) else {
+        return Ok(None);
+    };
+    if !concerns(awaited, xid, &view) {
+        return Ok(None);
+    }
+    answer_of(alloc, awaited, &view, words)
+}
+
+// The payload of a packet that is carried so, to the port of a client.
+fn payload_in(carrier: PacketKind, packet: &Packet) -> Option<&[u8]>
+    ensures { Finds (λ bytes. bytes.now) result (answers.payload_in carrier packet.now) }
+{
+    let bytes = packet.bytes.as_slice();
+    match (carrier, packet.kind) {
+        (PacketKind::Frame, PacketKind::Frame) => payload_of_frame(bytes),
+        (PacketKind::Payload, PacketKind::Payload) => Some(bytes),
+        (PacketKind::Frame, PacketKind::Payload) => None,
+        (PacketKind::Payload, PacketKind::Frame) => None,
+    }
+}
+
+// The payload of a frame to the port of a client.
+fn payload_of_frame(bytes: &[u8]) -> Option<&[u8]>
+    ensures { Finds (λ bytes. bytes.now) result (answers.framed_payload bytes.now) }
+{
+    let frame = FrameView::new(bytes)?;
+    if frame.dst_port() == CLIENT_PORT {
+        Some(frame.payload())
+    } else {
+        None
+    }
+}
+
+// Whether a message has the transaction id, and the type that is awaited or that of a refusal.
+fn concerns(awaited: Awaited, xid: u32, message: &DhcpV4View) -> bool
+    ensures { result ≡ answers.concerns awaited xid message.now }
+{
+    message.xid() == xid
+        && (is_of_type(awaited.grant, message)
+            || (awaited.may_refuse && is_of_type(DhcpV4MessageType::Nack, message)))
+}
+
+// Whether a message is of this type.
+#[tactic(auto, unfolding(dhcp4_msg::specs::MessageType::type_number))]
+fn is_of_type(kind: DhcpV4MessageType, message: &DhcpV4View) -> bool
+    ensures { result ≡ answers.is_of_type kind message.now }
+{
+    message.message_type() == Some(kind)
+}
+
+// What a message answers that may answer: a refusal, or the lease that it grants.
+fn answer_of<W: Words>(
+    alloc: Global,
+    awaited: Awaited,
+    message: &DhcpV4View,
+    words: &mut W,
+) -> Result<Option<Answer>, DhcpError>
+    ensures { IfOk result (λ answer. GivesDrawn (answers.answer_of awaited message.now)
+        (W.left words.old) answer (W.left words.new)) }
+{
+    if !is_of_type(awaited.grant, message) {
+        return Ok(Some(Answer::Refused));
+    }
+    let lease = lease_of(alloc, message, words)?;
+    Ok(lease.map(Answer::Granted))
+}
+
+// The lease that a message grants, if it grants one.
+fn lease_of<W: Words>(
+    alloc: Global,
+    message: &DhcpV4View,
+    words: &mut W,
+) -> Result<Option<DhcpV4Lease>, DhcpError>
+    ensures { IfOk result (λ lease. GivesDrawn (read_lease message.now)
+        (W.left words.old) lease (W.left words.new)) }
+{
+    let message = message.to_message(alloc)?;
+    none_if_refused(DhcpV4Lease::from_message(alloc, message, words))
+}

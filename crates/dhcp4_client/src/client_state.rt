@@ -1,0 +1,50 @@
+//! The states of a client with what each rests on, RFC 2131 figure 5.
+
+ghost use Rattle.std.specs.Prelude.{◌≡◌};
+ghost use Rattle.dhcp_wire.specs.Outcome.{Finds};
+ghost use Rattle.dhcp4_client.specs.Rules as table;
+
+use crate::bound_lease::BoundLease;
+use dhcp4_lease::DhcpV4Lease;
+
+/// What a client is in, with what that rests on.
+#[derive(Drop)]
+pub enum ClientState {
+    /// INIT: it searches for servers.
+    InitReboot,
+    /// REQUESTING: it requests the lease of this offer.
+    Selecting(DhcpV4Lease),
+    /// REBOOTING: it requests this lease, which it held before.
+    Rebooting(DhcpV4Lease),
+    /// BOUND: T1 of this lease is still to come.
+    Done(BoundLease),
+    /// RENEWING: T1 of this lease is past, and T2 is still to come.
+    Renewing(BoundLease),
+    /// REBINDING: T2 of this lease is past, and its end is still to come.
+    Rebinding(BoundLease),
+}
+
+impl ClientState {
+    /// The lease that is held.
+    pub fn held_lease(&self) -> Option<&DhcpV4Lease>
+        ensures { Finds (λ lease. lease.now) result (table.held_lease self.now) }
+    {
+        match self {
+            ClientState::InitReboot => None,
+            ClientState::Selecting(_) => None,
+            ClientState::Rebooting(held) => Some(held),
+            ClientState::Done(bound) => Some(bound.lease()),
+            ClientState::Renewing(bound) => Some(bound.lease()),
+            ClientState::Rebinding(bound) => Some(bound.lease()),
+        }
+    }
+}
+
+/// What a client keeps from one attempt to the next.
+#[derive(Clone, Copy, Debug, PartialEq, Eq)]
+pub struct Exchange {
+    /// The transaction id, which the client drew at its start.
+    pub xid: u32,
+    /// How many attempts that the link took went without an answer.
+    pub retry_count: u32,
+}

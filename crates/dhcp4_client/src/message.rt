@@ -1,0 +1,231 @@
+//! What a client hands to its link, RFC 2131 section 4.1 and table 5: each message with its
+//! carrier.
+
+ghost use Rattle.std.specs.Prelude.{◌≡◌, ◌≤◌, IfOk, IsTrue, length, option_copied};
+ghost use Rattle.dhcp_wire.specs.Outcome.{Makes};
+ghost use Rattle.dhcp_frame.specs.Write.{frame_bytes, most_payload};
+ghost use Rattle.dhcp4_msg.specs.Message.{written_message};
+ghost use Rattle.dhcp4_lease.specs.Config.{is_within_limits};
+ghost use Rattle.dhcp4_lease.specs.Laws.{RowIsShort};
+ghost use Rattle.dhcp4_lease.specs.MessageTable as table;
+ghost use Rattle.dhcp4_client.specs.Message as messages;
+
+use crate::client_state::ClientState;
+use dhcp_clock::Handed;
+use dhcp_frame::{Frame, write_frame};
+use dhcp_wire::{BROADCAST_MAC_ADDRESS, BufferMut, Bytes, DhcpError};
+use dhcp4_lease::{
+    DhcpV4Config, DhcpV4Lease, discovery_is_short, new_discovery, new_rebind, new_reboot_request,
+    new_release, new_renew, new_request, requests_are_short,
+};
+use dhcp4_msg::DhcpV4Message;
+use std::alloc::Global;
+use std::net::Ipv4Addr;
+
+// The UDP ports of a client and of a server, RFC 2131 section 4.1.
+pub const CLIENT_PORT: u16 = 68;
+
+const SERVER_PORT: u16 = 67;
+
+/// What is handed to the link at an attempt in a state. Out of memory is the only error.
+pub fn attempt_message(
+    alloc: Global,
+    xid: u32,
+    config: &DhcpV4Config,
+    state: &ClientState,
+) -> Result<Handed, DhcpError>
+    requires { IsTrue (is_within_limits config.now) }
+    ensures { Makes (λ message. message) result
+        (messages.attempt_message xid config.now state.now) }
+{
+    let payload = payload_of(alloc, xid, config, state)?;
+    carried(alloc, config, state, payload)
+}
+
+/// The release of a lease by a client that holds this one or none. Out of memory is the only error.
+pub fn release_message(
+    alloc: Global,
+    xid: u32,
+    config: &DhcpV4Config,
+    held: Option<&DhcpV4Lease>,
+    lease: &DhcpV4Lease,
+) -> Result<Handed, DhcpError>
+    requires { IsTrue (is_within_limits config.now) }
+    ensures { Makes (λ message. message) result
+        (messages.release_message xid config.now (option_copied held.entry) lease.now) }
+{
+    let payload = release_bytes(alloc, xid, config, lease)?;
+    match held {
+        Some(held) if !config.is_proxy => Ok(to_server(held, payload)),
+        Some(_) => framed_release(alloc, config, lease, payload),
+        None => framed_release(alloc, config, lease, payload),
+    }
+}
+
+// The release of a lease in a frame, from its address to its server, with this payload.
+fn framed_release(
+    alloc: Global,
+    config: &DhcpV4Config,
+    lease: &DhcpV4Lease,
+    payload: Bytes,
+) -> Result<Handed, DhcpError>
+    requires { length payload ≤ most_payload }
+    ensures { Makes (λ message. message) result
+        (Handed.Frame (frame_bytes (messages.release_frame config.now lease.now payload))) }
+{
+    framed(
+        alloc,
+        config,
+        lease.srv_mac,
+        lease.yiaddr,
+        lease.siaddr,
+        payload,
+    )
+}
+
+// The bytes of the release of a lease.
+fn release_bytes(
+    alloc: Global,
+    xid: u32,
+    config: &DhcpV4Config,
+    lease: &DhcpV4Lease,
+) -> Result<Bytes, DhcpError>
+    requires { IsTrue (is_within_limits config.now) }
+    ensures bytes { Makes (λ bytes. bytes) result
+        (messages.release_bytes xid config.now lease.now) }
+    ensures short { IfOk result (λ bytes. length bytes ≤ most_payload) }
+{
+    requests_are_short(config, lease);
+    let message = new_release(alloc, xid, config, lease)?;
+    written(alloc, &message)
+}
+
+// The bytes of the message of a state.
+fn payload_of(
+    alloc: Global,
+    xid: u32,
+    config: &DhcpV4Config,
+    state: &ClientState,
+) -> Result<Bytes, DhcpError>
+    requires { IsTrue (is_within_limits config.now) }
+    ensures bytes { Makes (λ bytes. bytes) result
+        (messages.message_bytes xid config.now (messages.row state.now)) }
+    ensures short { IfOk result (λ bytes. length bytes ≤ most_payload) }
+{
+    has_short_message(config, state);
+    let message = message_of(alloc, xid, config, state)?;
+    written(alloc, &message)
+}
+
+// The message of a state.
+fn message_of(
+    alloc: Global,
+    xid: u32,
+    config: &DhcpV4Config,
+    state: &ClientState,
+) -> Result<DhcpV4Message, DhcpError>
+    requires { IsTrue (is_within_limits config.now) }
+    ensures { Makes (λ message. message) result
+        (table.table_message xid config.now (messages.row state.now)) }
+{
+    match state {
+        ClientState::InitReboot => new_discovery(alloc, xid, config),
+        ClientState::Selecting(offer) => new_request(alloc, xid, config, offer),
+        ClientState::Rebooting(held) => new_reboot_request(alloc, xid, config, held),
+        ClientState::Done(bound) => new_renew(alloc, xid, config, bound.lease()),
+        ClientState::Renewing(bound) => new_renew(alloc, xid, config, bound.lease()),
+        ClientState::Rebinding(bound) => new_rebind(alloc, xid, config, bound.lease()),
+    }
+}
+
+// The message of each state is short.
+fn has_short_message(config: &DhcpV4Config, state: &ClientState)
+    requires { IsTrue (is_within_limits config.now) }
+    ensures { RowIsShort config.now (messages.row state.now) }
+{
+    match state {
+        ClientState::InitReboot => discovery_is_short(config),
+        ClientState::Selecting(offer) => requests_are_short(config, offer),
+        ClientState::Rebooting(held) => requests_are_short(config, held),
+        ClientState::Done(bound) => requests_are_short(config, bound.lease()),
+        ClientState::Renewing(bound) => requests_are_short(config, bound.lease()),
+        ClientState::Rebinding(bound) => requests_are_short(config, bound.lease()),
+    }
+}
+
+// The bytes of a message.
+fn written(alloc: Global, message: &DhcpV4Message) -> Result<Bytes, DhcpError>
+    ensures { Makes (λ bytes. bytes) result (written_message message.now) }
+{
+    let mut buffer = BufferMut::new(alloc);
+    message.emit(&mut buffer)?;
+    Ok(buffer.into_bytes())
+}
+
+// A payload from the address of a lease to its server.
+fn to_server(lease: &DhcpV4Lease, payload: Bytes) -> Handed
+    ensures { result ≡ messages.to_server lease.now payload }
+{
+    Handed::Udp4(lease.yiaddr, lease.siaddr, payload)
+}
+
+// How a payload is carried in a state.
+fn carried(
+    alloc: Global,
+    config: &DhcpV4Config,
+    state: &ClientState,
+    payload: Bytes,
+) -> Result<Handed, DhcpError>
+    requires { length payload ≤ most_payload }
+    ensures { Makes (λ message. message) result (messages.carried config.now state.now payload) }
+{
+    match state {
+        ClientState::InitReboot => broadcast(alloc, config, payload),
+        ClientState::Selecting(_) => broadcast(alloc, config, payload),
+        ClientState::Rebooting(_) => broadcast(alloc, config, payload),
+        ClientState::Done(bound) => Ok(to_server(bound.lease(), payload)),
+        ClientState::Renewing(bound) => Ok(to_server(bound.lease(), payload)),
+        ClientState::Rebinding(_) => broadcast(alloc, config, payload),
+    }
+}
+
+// A broadcast of a client that may not use its address yet, or no longer.
+fn broadcast(alloc: Global, config: &DhcpV4Config, payload: Bytes) -> Result<Handed, DhcpError>
+    requires { length payload ≤ most_payload }
+    ensures { Makes (λ message. message) result (messages.broadcast config.now payload) }
+{
+    let everyone = Ipv4Addr::BROADCAST;
+    framed(
+        alloc,
+        config,
+        BROADCAST_MAC_ADDRESS,
+        Ipv4Addr::UNSPECIFIED,
+        everyone,
+        payload,
+    )
+}
+
+// A frame from the client's port to a server's.
+fn framed(
+    alloc: Global,
+    config: &DhcpV4Config,
+    dst_mac: [u8; 6],
+    from: Ipv4Addr,
+    to: Ipv4Addr,
+    payload: Bytes,
+) -> Result<Handed, DhcpError>
+    requires { length payload ≤ most_payload }
+    ensures { Makes (λ message. message) result
+        (Handed.Frame (frame_bytes (messages.frame config.now dst_mac from to payload))) }
+{
+    let frame = Frame {
+        src_mac: config.iface_mac(),
+        dst_mac,
+        src_ip: from,
+        dst_ip: to,
+        src_port: CLIENT_PORT,
+        dst_port: SERVER_PORT,
+        payload,
+    };
+    Ok(Handed::Frame(write_frame(alloc, &frame)?))
+}

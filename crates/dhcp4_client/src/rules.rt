@@ -1,0 +1,290 @@
+//! The table of states, RFC 2131 section 4.4, as rules of dhcp_history: one method for each column,
+//! every state named.
+
+ghost use Rattle.std.specs.Prelude.{◌≡◌, ◌<◌, ◌^◌, IfOk, IsTrue, OnErr, OnOk, None, Ok, Some, Option};
+ghost use Rattle.dhcp_wire.specs.Outcome.{Makes};
+ghost use Rattle.dhcp_history.specs.Rules.{GivesDrawn, IsNext};
+ghost use Rattle.dhcp4_lease.specs.Config.{is_within_limits};
+ghost use Rattle.dhcp4_client.specs.Message as messages;
+ghost use Rattle.dhcp4_client.specs.Rules as table;
+
+use crate::DhcpV4State;
+use crate::answer::{Answer, Awaited, read_answer};
+use crate::bound_lease::BoundLease;
+use crate::client_state::{ClientState, Exchange};
+use crate::message::{attempt_message, release_message};
+use crate::state::ReportedState;
+use dhcp_clock::{Handed, Packet, Words, discovery_wait, draw, half_wait};
+use dhcp_history::{AttemptStart, NewAttempt, Rules};
+use dhcp4_lease::{DhcpV4Config, DhcpV4Lease};
+use std::alloc::{AllocError, Global};
+use std::mem;
+
+/// The rules of a client with this configuration.
+#[derive(Drop)]
+pub struct ClientRules {
+    /// Where its messages and leases are allocated.
+    pub alloc: Global,
+    /// Its configuration.
+    pub config: DhcpV4Config,
+    pub ghost within: { IsTrue (is_within_limits config) },
+}
+
+impl Rules for ClientRules {
+    ghost use Rattle.dhcp4_client.specs.Rules as table;
+
+    type PublicState = ReportedState;
+
+    type State = ClientState;
+
+    type Exchange = Exchange;
+
+    type Answer = Answer;
+
+    type Lease = DhcpV4Lease;
+
+    ghost protocol = { λ rules. table.protocol rules.config };
+
+    ghost needs_memory = { λ rules. table.needs_memory };
+
+    fn ending_moment(&self, state: &ClientState) -> Option<u64> {
+        match state {
+            ClientState::InitReboot => None,
+            ClientState::Selecting(_) => None,
+            ClientState::Rebooting(_) => None,
+            ClientState::Done(bound) => Some(bound.renewal()),
+            ClientState::Renewing(bound) => Some(bound.rebinding()),
+            ClientState::Rebinding(bound) => Some(bound.expiry()),
+        }
+    }
+
+    fn has_time_limit(&self, state: &ClientState) -> bool {
+        match state {
+            ClientState::InitReboot => true,
+            ClientState::Selecting(_) => true,
+            ClientState::Rebooting(_) => true,
+            ClientState::Done(_) => false,
+            ClientState::Renewing(_) => true,
+            ClientState::Rebinding(_) => true,
+        }
+    }
+
+    fn has_attempts(&self, state: &ClientState) -> bool {
+        match state {
+            ClientState::InitReboot => true,
+            ClientState::Selecting(_) => true,
+            ClientState::Rebooting(_) => true,
+            ClientState::Done(_) => false,
+            ClientState::Renewing(_) => true,
+            ClientState::Rebinding(_) => true,
+        }
+    }
+
+    fn is_last_attempt(&self, state: &ClientState, exchange: Exchange) -> bool {
+        match state {
+            ClientState::InitReboot => false,
+            ClientState::Selecting(_) => false,
+            ClientState::Rebooting(_) => exchange.retry_count >= 3,
+            ClientState::Done(_) => false,
+            ClientState::Renewing(_) => false,
+            ClientState::Rebinding(_) => false,
+        }
+    }
+
+    fn after_wait(&self, exchange: Exchange) -> Exchange {
+        Exchange {
+            xid: exchange.xid,
+            retry_count: exchange.retry_count.saturating_add(1),
+        }
+    }
+
+    fn pause<W: Words>(&self, state: &ClientState, exchange: Exchange, words: &mut W) -> u64 {
+        match state {
+            ClientState::InitReboot => first_pause(exchange, words),
+            ClientState::Selecting(_) => 0,
+            ClientState::Rebooting(_) => 0,
+            ClientState::Done(_) => 0,
+            ClientState::Renewing(_) => 0,
+            ClientState::Rebinding(_) => 0,
+        }
+    }
+
+    fn attempt<W: Words>(
+        &self,
+        state: &ClientState,
+        exchange: Exchange,
+        start: AttemptStart,
+        words: &mut W,
+    ) -> Result<NewAttempt<Exchange, Handed>, AllocError> {
+        let wait = wait(state, exchange, start.now, words);
+        match attempt_message(self.alloc, exchange.xid, &self.config, state) {
+            Ok(message) => Ok(NewAttempt {
+                wait,
+                message,
+                exchange,
+            }),
+            Err(_) => Err(AllocError),
+        }
+    }
+
+    fn reading<W: Words>(
+        &self,
+        state: &ClientState,
+        exchange: Exchange,
+        packet: Packet,
+        words: &mut W,
+    ) -> Result<Option<Answer>, AllocError> {
+        let Some(awaited) = Awaited::in_state(state) else {
+            return Ok(None);
+        };
+        match read_answer(self.alloc, awaited, exchange.xid, &packet, words) {
+            Ok(answer) => Ok(answer),
+            Err(_) => Err(AllocError),
+        }
+    }
+
+    fn after_answer(
+        &self,
+        state: &mut ClientState,
+        answer: Answer,
+        now: u64,
+        exchange: &mut Exchange,
+    ) -> Result<ReportedState, AllocError> {
+        match answer {
+            Answer::Granted(lease) => self.after_grant(state, lease, now, exchange),
+            Answer::Refused => {
+                *state = ClientState::InitReboot;
+                Ok(ReportedState::new(DhcpV4State::InitReboot))
+            }
+        }
+    }
+
+    fn after_end(&self, state: &mut ClientState, exchange: &mut Exchange) -> ReportedState {
+        match mem::replace(state, ClientState::InitReboot) {
+            ClientState::InitReboot => ReportedState::new(DhcpV4State::InitReboot),
+            ClientState::Selecting(_) => ReportedState::new(DhcpV4State::InitReboot),
+            ClientState::Rebooting(_) => ReportedState::new(DhcpV4State::InitReboot),
+            ClientState::Done(bound) => {
+                *state = ClientState::Renewing(bound);
+                ReportedState::new(DhcpV4State::Renewing)
+            }
+            ClientState::Renewing(bound) => {
+                *state = ClientState::Rebinding(bound);
+                exchange.retry_count = 0;
+                ReportedState::new(DhcpV4State::Rebinding)
+            }
+            ClientState::Rebinding(_) => ReportedState::new(DhcpV4State::InitReboot),
+        }
+    }
+
+    fn after_clean_up(&self, state: &mut ClientState, exchange: &mut Exchange) {
+        let _kept = *exchange;
+        *state = ClientState::InitReboot;
+    }
+
+    fn release_message(
+        &self,
+        state: &ClientState,
+        exchange: Exchange,
+    ) -> Result<Option<Handed>, AllocError> {
+        let Some(lease) = state.held_lease() else {
+            return Ok(None);
+        };
+        match release_message(self.alloc, exchange.xid, &self.config, Some(lease), lease) {
+            Ok(message) => Ok(Some(message)),
+            Err(_) => Err(AllocError),
+        }
+    }
+}
+
+impl ClientRules {
+    // Goes to the state after a lease was offered or granted.
+    fn after_grant(
+        &self,
+        state: &mut ClientState,
+        lease: DhcpV4Lease,
+        now: u64,
+        exchange: &mut Exchange,
+    ) -> Result<ReportedState, AllocError>
+        requires { now < 2 ^ 60 }
+        ensures next { OnOk result (IsNext (table.after_grant state.old lease now exchange.old)
+            state.new exchange.new) }
+        ensures reported { IfOk result (λ reported.
+            reported ≡ table.public_state state.new) }
+        ensures unchanged { OnErr result (state.new ≡ state.old) }
+    {
+        match state {
+            ClientState::InitReboot => {
+                *state = ClientState::Selecting(lease);
+                Ok(ReportedState::new(DhcpV4State::Selecting))
+            }
+            ClientState::Selecting(_) => self.bind(state, lease, now, exchange),
+            ClientState::Rebooting(_) => self.bind(state, lease, now, exchange),
+            ClientState::Done(_) => self.bind(state, lease, now, exchange),
+            ClientState::Renewing(_) => self.bind(state, lease, now, exchange),
+            ClientState::Rebinding(_) => self.bind(state, lease, now, exchange),
+        }
+    }
+
+    // Goes to BOUND with this lease, from now on.
+    fn bind(
+        &self,
+        state: &mut ClientState,
+        lease: DhcpV4Lease,
+        now: u64,
+        exchange: &mut Exchange,
+    ) -> Result<ReportedState, AllocError>
+        requires { now < 2 ^ 60 }
+        ensures next { OnOk result (IsNext (table.bound_from now lease exchange.old)
+            state.new exchange.new) }
+        ensures reported { IfOk result (λ reported.
+            reported ≡ table.public_state state.new) }
+        ensures unchanged { OnErr result (state.new ≡ state.old) }
+    {
+        let reported = match ReportedState::done(self.alloc, &lease) {
+            Ok(reported) => reported,
+            Err(_) => return Err(AllocError),
+        };
+        *state = ClientState::Done(BoundLease::new(lease, now));
+        exchange.retry_count = 0;
+        Ok(reported)
+    }
+}
+
+// How long a client waits before its first Discover.
+fn first_pause<W: Words>(exchange: Exchange, words: &mut W) -> u64
+    ensures drawn { GivesDrawn (table.first_pause exchange)
+        (W.left words.old) result (W.left words.new) }
+    ensures below { result < 2 ^ 62 }
+{
+    if exchange.retry_count == 0 {
+        draw(0, 200, words.next_word())
+    } else {
+        0
+    }
+}
+
+// How long an answer is awaited in a state.
+fn wait<W: Words>(state: &ClientState, exchange: Exchange, now: u64, words: &mut W) -> u64
+    ensures drawn { GivesDrawn (table.wait state.now exchange now)
+        (W.left words.old) result (W.left words.new) }
+    ensures below { result < 2 ^ 62 }
+{
+    match state {
+        ClientState::InitReboot => growing_wait(exchange, words),
+        ClientState::Selecting(_) => growing_wait(exchange, words),
+        ClientState::Rebooting(_) => growing_wait(exchange, words),
+        ClientState::Done(bound) => half_wait(bound.renewal().saturating_sub(now)),
+        ClientState::Renewing(bound) => half_wait(bound.rebinding().saturating_sub(now)),
+        ClientState::Rebinding(bound) => half_wait(bound.expiry().saturating_sub(now)),
+    }
+}
+
+// The wait of a client without an address.
+fn growing_wait<W: Words>(exchange: Exchange, words: &mut W) -> u64
+    ensures drawn { GivesDrawn (table.growing_wait exchange)
+        (W.left words.old) result (W.left words.new) }
+    ensures below { result < 2 ^ 62 }
+{
+    discovery_wait(exchange.retry_count, words.next_word())
+}
