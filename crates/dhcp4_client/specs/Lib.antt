@@ -1,5 +1,7 @@
 pub mod Answer
 pub mod BoundLease
+pub mod Client
 pub mod Message
+pub mod Release
 pub mod Rules
 pub mod State

@@ -4,11 +4,13 @@
 
 mod answer;
 mod bound_lease;
+mod client;
 mod client_state;
 mod message;
 mod rules;
 mod state;
 
+pub use client::DhcpV4Client;
 pub use dhcp4_lease::{
     DhcpV4Config, DhcpV4Lease, built_messages_read_back, discovery_is_short, new_discovery,
     new_rebind, new_reboot_request, new_release, new_renew, new_request, requests_are_short,

@@ -1,0 +1,11 @@
+-- The clauses of the rules' poll, of the client that contracts see.
+use Rattle.dhcp4_client.proofs.client.DhcpV4Client.run.Goals as goal
+
+pub returns-clause-quiet : goal.returns-clause-quiet
+returns-clause-quiet g c = rw (← c.self.view_is, c.answer_of.ensures.same) c.run.ensures.quiet
+
+pub returns-clause-cause : goal.returns-clause-cause
+returns-clause-cause g c = rw (← c.self.view_is, c.answer_of.ensures.same) c.run.ensures.cause
+
+pub returns-clause-needed : goal.returns-clause-needed
+returns-clause-needed g c = rw (← c.self.view_is, c.answer_of.ensures.same) c.run.ensures.needed

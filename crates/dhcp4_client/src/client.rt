@@ -1,0 +1,315 @@
+//! The client as a poll, RFC 2131 section 4.4.
+
+mod release;
+
+ghost use Rattle.std.specs.Prelude.{◌≡◌, ◌≤◌, ◌<◌, ◌^◌, ◌⊎◌, ◌||◌, ℕ, List, Bool, Ok, None, true, false, IfErr, IfOk, IfSome, IsSomeAnd, OnErr, OnOk, is_ok, is_some, not};
+ghost use Rattle.dhcp_wire.specs.Error.{no_memory};
+ghost use Rattle.dhcp_wire.specs.Outcome.{Finds};
+ghost use Rattle.dhcp_history.specs.Client as standing;
+ghost use Rattle.dhcp4_client.specs.Client as clients;
+
+use crate::DhcpV4State;
+use crate::bound_lease::BoundLease;
+use crate::client_state::{ClientState, Exchange};
+use crate::rules::ClientRules;
+use crate::state::ReportedState;
+use dhcp_clock::{DhcpLink, Words};
+use dhcp_history::{Client, Phase, RunError, Standing, clean_up, next_poll, run};
+use dhcp_wire::{DhcpError, ErrorKind, FixedText};
+use dhcp4_lease::{DhcpV4Config, DhcpV4Lease};
+use std::alloc::Global;
+use std::marker::Model;
+
+/// A client. It does nothing by itself: `run` polls it. Contracts see its configuration and the
+/// client of its rules.
+#[derive(Drop)]
+pub struct DhcpV4Client {
+    pub(crate) rules: ClientRules,
+    client: Client<ClientState, Exchange>,
+}
+
+impl Model for DhcpV4Client {
+    ghost use Rattle.std.specs.Coded.{codes};
+    ghost use Rattle.dhcp_history.specs.Schedule.{HasNextAttempt};
+    ghost use Rattle.dhcp4_lease.specs.contracts.lease.DhcpV4Lease as lease_model;
+    ghost use Rattle.dhcp4_client.specs.Client.{ClientParts};
+    ghost use Rattle.dhcp4_client.specs.Rules.{has_attempts};
+
+    ghost Value = { ClientParts };
+
+    ghost coded = { Prim.hlevel (codes, lease_model.the_row.coded) };
+
+    ghost view = { λ client. record { config = client.rules.config; client = client.client } };
+
+    ghost invariant = { λ client. HasNextAttempt has_attempts client.client };
+}
+
+impl DhcpV4Client {
+    ghost use Rattle.dhcp_clock.specs.Words.{GivesNext};
+    ghost use Rattle.dhcp_history.specs.Protocol.{has_come};
+    ghost use Rattle.dhcp_history.specs.declared.script.Input.TheVariants.{Nothing};
+    ghost use Rattle.dhcp_history.specs.Machine as machine;
+    ghost use Rattle.dhcp_history.specs.Machine.{
+      begin_stay,
+      is_listening,
+      is_stopped,
+      is_unpolled,
+      limit_is_over,
+      poll,
+    };
+    ghost use Rattle.dhcp_history.specs.Client.{view_of};
+    ghost use Rattle.dhcp_history.specs.Run.{
+      input_of,
+      quiet_poll,
+      HasPolled,
+      HasPolledQuietly,
+      IsSent,
+      IsStill,
+      IsUnsent,
+      NeedsMemory,
+      OnNoMemory,
+      OnTimeout,
+      UnlessNoMemory,
+      UsesLink,
+      WhereKnown,
+    };
+    ghost use Rattle.dhcp_history.specs.Schedule as schedule;
+    ghost use Rattle.dhcp_history.specs.Schedule.{IsActive, IsIdle};
+    ghost use Rattle.dhcp4_client.specs.Client.{Begins, IsDone, can_begin, run_answer, timed_out};
+    ghost use Rattle.dhcp4_lease.specs.Lease.{are_times_in_order};
+    ghost use Rattle.dhcp4_client.specs.Rules.{protocol, held_lease, needs_memory, public_state};
+
+    /// A client with this configuration, and with a lease that it held before, if there is one: it
+    /// requests that lease first. It draws its transaction id. `InvalidArgument` if and only if the
+    /// interface index is 0, the configuration is not within its limits, or T1, T2 and the end of
+    /// the lease are out of order; then no word is drawn. Does not allocate.
+    pub fn init<W: Words>(
+        alloc: Global,
+        config: DhcpV4Config,
+        lease: Option<DhcpV4Lease>,
+        words: &mut W,
+    ) -> Result<Self, DhcpError>
+        ensures begins { is_ok result ≡ can_begin config lease }
+        ensures begun { IfOk result (Begins config lease) }
+        ensures drawn { IfOk result (λ client. GivesNext
+            (W.left words.old) client.client.standing.exchange.xid (W.left words.new)) }
+        ensures refused { IfErr result (λ error. error.kind ≡ ErrorKind.InvalidArgument) }
+        ensures undrawn { OnErr result (W.left words.new ≡ W.left words.old) }
+    {
+        if !can_begin(&config, &lease) {
+            return Err(DhcpError::new_fixed(ErrorKind::InvalidArgument, FixedText::Config));
+        }
+        let timeout_sec = config.timeout_sec;
+        let exchange = Exchange {
+            xid: words.next_word(),
+            retry_count: 0,
+        };
+        Ok(DhcpV4Client {
+            rules: ClientRules { alloc, config },
+            client: Client {
+                state: first_state(lease),
+                timeout_sec,
+                standing: unpolled(exchange),
+                last_moment: 0,
+            },
+        })
+    }
+
+    /// One poll at a moment, in milliseconds: a kept error, the time limit, the end of the state,
+    /// the pause, an attempt, the wait of a refused attempt, the packet. Returns the new state, or
+    /// none if it has not changed. `Timeout` if and only if the time limit of the state is over,
+    /// and from then on until a clean-up or a release. When out of memory the client is as it was,
+    /// or as it was right after its message was sent.
+    pub fn run<W: Words, L: DhcpLink>(
+        &mut self,
+        now: u64,
+        words: &mut W,
+        link: &mut L,
+    ) -> Result<Option<DhcpV4State>, DhcpError>
+        requires { now < 2 ^ 60 }
+
+        // where words and link are known, this is the poll of the protocol
+        ensures polled { UnlessNoMemory (run_answer result) (WhereKnown
+            (W.left words.old) (L.shown link.old) (λ drawn before.
+            HasPolled (protocol self.old.config)
+            (poll (protocol self.old.config) now before.refuses (input_of before.waiting)
+            (view_of self.old.client drawn))
+            (run_answer result) (view_of self.new.client) (W.left words.new)
+            before (L.shown link.new))) }
+
+        // over all words and links: the steps that use neither, and what is never touched
+        ensures quiet { (drawn : List ℕ) →
+            IfSome (quiet_poll (protocol self.old.config) now (view_of self.old.client drawn))
+            (λ once. HasPolledQuietly (protocol self.old.config) once
+            (run_answer result) (view_of self.new.client drawn)
+            (W.left words.old) (W.left words.new) (L.shown link.old) (L.shown link.new)
+            (L.faults link.old) (L.faults link.new)) }
+        ensures errors { IfErr result (λ error. (error ≡ timed_out) ⊎ (error ≡ no_memory)) }
+        ensures cause { OnTimeout (run_answer result) ((drawn : List ℕ) →
+            (is_stopped self.old.client.standing.phase ||
+            limit_is_over (protocol self.old.config) now (view_of self.old.client drawn))
+            ≡ true) }
+        ensures config { self.new.config ≡ self.old.config }
+        ensures timeout { self.new.client.timeout_sec ≡ self.old.client.timeout_sec }
+        ensures moment { UnlessNoMemory (run_answer result)
+            (self.new.client.last_moment ≡ now) }
+        ensures state { OnErr result (self.new.client.state ≡ self.old.client.state) }
+        ensures still { run_answer result ≡ Ok None → IsStill now
+            self.old.client self.new.client (L.faults link.old) (L.faults link.new) }
+        ensures reported { IfOk (run_answer result) (λ change. IfSome change (λ reported.
+            reported ≡ public_state self.new.client.state)) }
+
+        // out of memory: as at entry, or right after the send
+        ensures memory { OnNoMemory (run_answer result)
+            (IsUnsent self.old.client self.new.client (L.shown link.old) (L.shown link.new)
+            ⊎ IsSent (protocol self.old.config) now
+            (λ drawn. begin_stay (protocol self.old.config) now (view_of self.old.client drawn))
+            self.new.client (W.left words.old) (L.shown link.old) (L.shown link.new)) }
+        ensures needed { OnNoMemory (run_answer result)
+            (is_unpolled self.old.client.standing.phase ≡ false →
+            has_come now self.old.client.standing.deadline ≡ false →
+            NeedsMemory needs_memory self.old.client (L.shown link.old)) }
+
+        // one message and one packet at most
+        ensures uses { IfSome (L.shown link.old) (λ before. IsSomeAnd (L.shown link.new)
+            (λ after. UsesLink (is_listening self.old.client.standing.phase) before after)) }
+        ensures later { L.faults link.old ≤ L.faults link.new }
+    {
+        answer_of(run(&self.rules, &mut self.client, now, words, link))
+    }
+
+    /// Drops the lease, the offer, the attempt and a kept error: the client searches anew, with its
+    /// transaction id and its retry count as they are.
+    pub fn clean_up(&mut self)
+        ensures client { (drawn : List ℕ) → view_of self.new.client drawn
+            ≡ machine.clean_up (protocol self.old.config) (view_of self.old.client drawn) }
+        ensures config { self.new.config ≡ self.old.config }
+        ensures timeout { self.new.client.timeout_sec ≡ self.old.client.timeout_sec }
+        ensures moment { self.new.client.last_moment ≡ self.old.client.last_moment }
+    {
+        clean_up(&self.rules, &mut self.client);
+    }
+
+    /// The moment, in milliseconds, at which a poll next does something without a packet: before it
+    /// such a poll does nothing; at or after it a poll returns a change or `Timeout`, sends, or
+    /// begins a pause. None if and only if an error is kept. Does not allocate.
+    pub fn next_poll(&self) -> Option<u64>
+        ensures moment { result ≡ schedule.next_poll (protocol self.now.config) self.now.client }
+        ensures before { (now : ℕ) (refuse : Bool) (drawn : List ℕ) →
+            is_stopped self.now.client.standing.phase ≡ false →
+            self.now.client.last_moment ≤ now → has_come now result ≡ false →
+            IsIdle (protocol self.now.config) now (view_of self.now.client drawn)
+            (poll (protocol self.now.config) now refuse Nothing
+            (view_of self.now.client drawn)) }
+        ensures after { (now : ℕ) (refuse : Bool) (drawn : List ℕ) →
+            has_come now result ≡ true →
+            IsActive (view_of self.now.client drawn)
+            (poll (protocol self.now.config) now refuse Nothing
+            (view_of self.now.client drawn)) }
+        ensures stopped { is_some result ≡ not (is_stopped self.now.client.standing.phase) }
+    {
+        next_poll(&self.rules, &self.client)
+    }
+
+    /// Gives the client a lease that is acknowledged at this moment, in milliseconds. It drops what
+    /// the client held, its offer and its attempt; an error that is kept stays. `InvalidArgument`
+    /// if and only if T1, T2 and the end of the lease are out of order; then the client is
+    /// unchanged. Does not allocate.
+    pub fn done(&mut self, lease: DhcpV4Lease, now: u64) -> Result<(), DhcpError>
+        requires { now < 2 ^ 60 }
+        ensures taken { is_ok result ≡ are_times_in_order lease }
+        ensures done { OnOk result (IsDone lease now self.old self.new) }
+        ensures refused { IfErr result (λ error. error.kind ≡ ErrorKind.InvalidArgument) }
+        ensures unchanged { OnErr result (self.new ≡ self.old) }
+    {
+        if !lease.are_times_in_order() {
+            return Err(DhcpError::new_fixed(ErrorKind::InvalidArgument, FixedText::Times));
+        }
+        self.client.state = ClientState::Done(BoundLease::new(lease, now));
+        self.client.standing = standing_when_done(self.client.standing);
+        self.client.last_moment = now;
+        Ok(())
+    }
+
+    /// The lease that is held, if one is.
+    pub fn lease(&self) -> Option<&DhcpV4Lease>
+        ensures { Finds (λ lease. lease.now) result (held_lease self.now.client.state) }
+    {
+        self.client.state.held_lease()
+    }
+}
+
+// Whether a client can begin with this configuration and this lease.
+fn can_begin(config: &DhcpV4Config, lease: &Option<DhcpV4Lease>) -> bool
+    ensures { result ≡ clients.can_begin config.now lease.now }
+{
+    let is_in_order = match lease {
+        Some(lease) => lease.are_times_in_order(),
+        None => true,
+    };
+    config.iface_index != 0 && config.is_within_limits() && is_in_order
+}
+
+// The state in which it begins.
+fn first_state(lease: Option<DhcpV4Lease>) -> ClientState
+    ensures { result ≡ clients.first_state lease }
+{
+    match lease {
+        Some(lease) => ClientState::Rebooting(lease),
+        None => ClientState::InitReboot,
+    }
+}
+
+// Where a client stands in a state in which it was not polled yet.
+fn unpolled(exchange: Exchange) -> Standing<Exchange>
+    ensures { result ≡ standing.unpolled exchange }
+{
+    Standing {
+        exchange,
+        entered: 0,
+        phase: Phase::Unpolled,
+        deadline: None,
+    }
+}
+
+// The answer of a poll of the rules, as the client's own.
+fn answer_of(
+    answer: Result<Option<ReportedState>, RunError>,
+) -> Result<Option<DhcpV4State>, DhcpError>
+    ensures same { clients.run_answer result ≡ answer }
+    ensures errors { IfErr result (λ error. (error ≡ clients.timed_out) ⊎ (error ≡ no_memory)) }
+{
+    match answer {
+        Ok(None) => Ok(None),
+        Ok(Some(reported)) => Ok(Some(reported.into_state())),
+        Err(RunError::TimedOut) => {
+            Err(DhcpError::new_fixed(ErrorKind::Timeout, FixedText::TimedOut))
+        }
+        Err(RunError::OutOfMemory) => Err(DhcpError::out_of_memory()),
+    }
+}
+
+// How a client stands once it was given a lease.
+fn standing_when_done(standing: Standing<Exchange>) -> Standing<Exchange>
+    ensures { result ≡ clients.standing_when_done standing }
+{
+    Standing {
+        exchange: Exchange {
+            xid: standing.exchange.xid,
+            retry_count: 0,
+        },
+        entered: 0,
+        phase: phase_when_done(standing.phase),
+        deadline: None,
+    }
+}
+
+// A client that was not polled yet; an error that is kept stays.
+fn phase_when_done(phase: Phase) -> Phase
+    ensures { result ≡ clients.phase_when_done phase }
+{
+    match phase {
+        Phase::Stopped => Phase::Stopped,
+        _ => Phase::Unpolled,
+    }
+}
