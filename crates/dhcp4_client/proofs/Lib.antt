@@ -1,1 +1,4 @@
+mod Lawful
 mod Released
+mod Replaying
+mod Traffic

@@ -1,5 +1,6 @@
 pub mod Answer
 pub mod BoundLease
+pub mod Bounds
 pub mod Client
 pub mod Message
 pub mod Release

@@ -1,6 +1,7 @@
 //! The client as a poll, RFC 2131 section 4.4.
 
 mod release;
+mod replay;
 
 ghost use Rattle.std.specs.Prelude.{◌≡◌, ◌≤◌, ◌<◌, ◌^◌, ◌⊎◌, ◌||◌, ℕ, List, Bool, Ok, None, true, false, IfErr, IfOk, IfSome, IsSomeAnd, OnErr, OnOk, is_ok, is_some, not};
 ghost use Rattle.dhcp_wire.specs.Error.{no_memory};

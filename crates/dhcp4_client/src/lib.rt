@@ -6,6 +6,7 @@ mod answer;
 mod bound_lease;
 mod client;
 mod client_state;
+pub mod laws;
 mod message;
 mod rules;
 mod state;

@@ -1,0 +1,179 @@
+-- The traffic of a client's history: its waits, by the laws of histories.
+use Rattle.std.proofs.Common.{◌≡◌, ℕ, ◌+◌, ◌-◌, ◌*◌, ◌^◌, ◌≤◌, ◌<◌, List, [], ◌∷◌, refl, Bool, true, false, arith, ◌⊎◌, inl, inr}
+use Rattle.std.specs.Prelude.{Option, Some, None, All, ◌||◌, nat_le}
+use Rattle.std.specs.List.{AllByRecursion}
+use Rattle.std.proofs.lemmas.Bool.{leb-true, leb-false, le-leb}
+use Rattle.std.proofs.lemmas.List.Elements.{All-from_recursion, recursion_from_All}
+use Rattle.dhcp_clock.specs.declared.link.Handed.{Handed}
+use Rattle.dhcp_clock.specs.declared.link.Packet.{Packet}
+use Rattle.dhcp_clock.specs.Wait.{half_wait}
+use Rattle.dhcp_clock.specs.Words.{next_of}
+use Rattle.dhcp_history.specs.Protocol.{has_come}
+use Rattle.dhcp_history.specs.Script.{Script}
+use Rattle.dhcp_history.specs.History.{Stay, history}
+use Rattle.dhcp_history.specs.Bounds as generic
+use Rattle.dhcp_history.specs.Bounds.{HoldsAtEntries, EndsAfter, Halved, HasAtMost, attempts_of, taken_count, IsKept, Distant, IsTakenDistant}
+use Rattle.dhcp4_lease.specs.Config.{Config}
+use Rattle.dhcp4_lease.specs.Lease.{Lease}
+use Rattle.dhcp4_client.specs.declared.answer.Answer.{Answer}
+use Rattle.dhcp4_client.specs.declared.answer.Answer.TheVariants.{Granted, Refused}
+use Rattle.dhcp4_client.specs.declared.client_state.ClientState.{ClientState}
+use Rattle.dhcp4_client.specs.declared.client_state.ClientState.TheVariants.{InitReboot, Selecting, Rebooting, Done, Renewing, Rebinding}
+use Rattle.dhcp4_client.specs.declared.client_state.Exchange.{Exchange}
+use Rattle.dhcp4_client.specs.BoundLease.{renewal, rebinding, expiry}
+use Rattle.dhcp4_client.specs.Bounds.{HalvesIn, HalvesFor, GetsRarer, FourFor, HasFourRequests, distance, AreFarApart}
+use Rattle.dhcp4_client.specs.Client.{first_state}
+use Rattle.dhcp4_client.specs.Rules.{protocol, after_answer, after_end, ending_moment, is_last_attempt}
+use Rattle.dhcp4_client.proofs.Lawful.{discovery_wait_long}
+
+both : {X : Type 0} (P Q R : X → Type 0) → ((x : X) → P x → Q x → R x) → (xs : List X) → AllByRecursion P xs → AllByRecursion Q xs → AllByRecursion R xs
+both P Q R go [] p q = tt
+both P Q R go (x ∷ xs) p q = (go x p.0 q.0, both P Q R go xs p.1 q.1)
+
+each : {X : Type 0} (P R : X → Type 0) → ((x : X) → P x → R x) → (xs : List X) → AllByRecursion P xs → AllByRecursion R xs
+each P R go [] p = tt
+each P R go (x ∷ xs) p = (go x p.0, each P R go xs p.1)
+
+-- a lease is renewed from T1 on, and rebound from T2 on
+abbrev is_due : ClientState → ℕ → Bool
+is_due InitReboot now = true
+is_due (Selecting offer) now = true
+is_due (Rebooting held) now = true
+is_due (Done bound) now = true
+is_due (Renewing bound) now = nat_le (renewal bound) now
+is_due (Rebinding bound) now = nat_le (rebinding bound) now
+
+or_false : (b : Bool) → (b || false) ≡ true → b ≡ true
+or_false true h = refl
+or_false false h = h
+
+due_answered : (state : ClientState) (answer : Answer) (now : ℕ) (exchange : Exchange) → is_due (after_answer state answer now exchange).state now ≡ true
+due_answered InitReboot (Granted lease) now exchange = refl
+due_answered InitReboot Refused now exchange = refl
+due_answered (Selecting offer) (Granted lease) now exchange = refl
+due_answered (Selecting offer) Refused now exchange = refl
+due_answered (Rebooting held) (Granted lease) now exchange = refl
+due_answered (Rebooting held) Refused now exchange = refl
+due_answered (Done bound) (Granted lease) now exchange = refl
+due_answered (Done bound) Refused now exchange = refl
+due_answered (Renewing bound) (Granted lease) now exchange = refl
+due_answered (Renewing bound) Refused now exchange = refl
+due_answered (Rebinding bound) (Granted lease) now exchange = refl
+due_answered (Rebinding bound) Refused now exchange = refl
+
+due_ended : (state : ClientState) (exchange after : Exchange) (now : ℕ) → (has_come now (ending_moment state) || is_last_attempt state exchange) ≡ true →
+    is_due (after_end state after).state now ≡ true
+due_ended InitReboot exchange after now h = refl
+due_ended (Selecting offer) exchange after now h = refl
+due_ended (Rebooting held) exchange after now h = refl
+due_ended (Done bound) exchange after now h = or_false (nat_le (renewal bound) now) h
+due_ended (Renewing bound) exchange after now h = or_false (nat_le (rebinding bound) now) h
+due_ended (Rebinding bound) exchange after now h = refl
+
+due_at_entries : (config : Config) → HoldsAtEntries (protocol config) is_due
+due_at_entries config = record { cut = λ exchange now. refl; answer = due_answered; end = due_ended }
+
+seconds : (count since first last entered : ℕ) → generic.Halves count (since + 1000 * last - entered) → since + 1000 * first ≤ entered → HalvesIn count (last - first)
+seconds count since first last entered h due two = go (2 ^ (count - 2)) (h two)
+  where
+    go : (power : ℕ) → 60000 * power < since + 1000 * last - entered → 60 * power < last - first
+    go power e = omega (arith, e, due)
+
+rarer_by : (config : Config) (state : ClientState) (entered count : ℕ) → is_due state entered ≡ true →
+    ((end : ℕ) → Halved (protocol config) state end → generic.Halves count (end - entered)) → HalvesFor state count
+rarer_by config InitReboot entered count due h = tt
+rarer_by config (Selecting offer) entered count due h = tt
+rarer_by config (Rebooting held) entered count due h = tt
+rarer_by config (Done bound) entered count due h = tt
+rarer_by config (Renewing bound) entered count due h =
+    seconds count bound.since bound.lease.t1_sec bound.lease.t2_sec entered
+    (h (rebinding bound) (record { ends = refl; waits = λ exchange start words. refl })) (leb-true (renewal bound) entered due)
+rarer_by config (Rebinding bound) entered count due h =
+    seconds count bound.since bound.lease.t2_sec bound.lease.lease_time_sec entered
+    (h (expiry bound) (record { ends = refl; waits = λ exchange start words. refl })) (leb-true (rebinding bound) entered due)
+
+first_due : (lease : Option Lease) (now : ℕ) → is_due (first_state lease) now ≡ true
+first_due None now = refl
+first_due (Some lease) now = refl
+
+pub rarer_history : (config : Config) →
+    ((holds : ClientState → ℕ → Bool) → HoldsAtEntries (protocol config) holds → (script : Script Packet ClientState Exchange) → ((now : ℕ) → holds script.state now ≡ true) →
+    All (λ stay. holds stay.setting.state stay.setting.entered ≡ true) (history (protocol config) script)) →
+    ((script : Script Packet ClientState Exchange) → All (generic.IsSparse (protocol config)) (history (protocol config) script)) →
+    (lease : Option Lease) (script : Script Packet ClientState Exchange) → script.state ≡ first_state lease → All GetsRarer (history (protocol config) script)
+rarer_history config entries halves lease script begins =
+    let stays : List (Stay ClientState Handed) = history (protocol config) script in
+    let begun : (now : ℕ) → is_due script.state now ≡ true = λ now. rw begins (first_due lease now) in
+    All-from_recursion GetsRarer stays
+    (both (λ (stay : Stay ClientState Handed). is_due stay.setting.state stay.setting.entered ≡ true) (generic.IsSparse (protocol config)) GetsRarer
+    (λ stay due h. rarer_by config stay.setting.state stay.setting.entered (taken_count (attempts_of stay.acts)) due h) stays
+    (recursion_from_All (λ (stay : Stay ClientState Handed). is_due stay.setting.state stay.setting.entered ≡ true) stays (entries is_due (due_at_entries config) script begun))
+    (recursion_from_All (generic.IsSparse (protocol config)) stays (halves script)))
+
+-- a lease that was held before is requested four times
+four : (config : Config) (lease : Lease) → EndsAfter (protocol config) (Rebooting lease) 4
+four config lease = record {
+  some = omega arith;
+  count = λ exchange. exchange.retry_count;
+  last = λ exchange h. le-leb 3 exchange.retry_count (omega (arith, h));
+  rises = λ exchange h. omega (arith, h);
+  keeps = λ exchange start words. omega arith;
+}
+
+four_by : (config : Config) (state : ClientState) (count : ℕ) → ((n : ℕ) → EndsAfter (protocol config) state n → count ≤ n) → FourFor state count
+four_by config InitReboot count h = tt
+four_by config (Selecting offer) count h = tt
+four_by config (Rebooting held) count h = h 4 (four config held)
+four_by config (Done bound) count h = tt
+four_by config (Renewing bound) count h = tt
+four_by config (Rebinding bound) count h = tt
+
+pub four_history : (config : Config) (script : Script Packet ClientState Exchange) → All (HasAtMost (protocol config)) (history (protocol config) script) →
+    All HasFourRequests (history (protocol config) script)
+four_history config script h =
+    let stays : List (Stay ClientState Handed) = history (protocol config) script in
+    All-from_recursion HasFourRequests stays
+    (each (HasAtMost (protocol config)) HasFourRequests (λ stay few. four_by config stay.setting.state (taken_count (attempts_of stay.acts)) few) stays
+    (recursion_from_All (HasAtMost (protocol config)) stays h))
+
+-- each exchange will do
+always : Exchange → Bool
+always exchange = true
+
+kept : (config : Config) → IsKept (protocol config) always
+unfolding always
+kept config = record { after_wait = λ exchange h. refl; cleaned = λ exchange. refl; answered = λ state answer now exchange. refl; ended = λ state exchange. refl }
+
+half_far : (end now : ℕ) → now < end → (60000 ≤ half_wait (end - now)) ⊎ (end ≤ now + half_wait (end - now))
+half_far end now h = go (nat_le 60000 (end - now)) refl
+  where
+    go : (b : Bool) → nat_le 60000 (end - now) ≡ b → (60000 ≤ half_wait (end - now)) ⊎ (end ≤ now + half_wait (end - now))
+    go true e = let long : 60000 ≤ end - now = leb-true 60000 (end - now) e in inl (omega (arith, long))
+    go false e = let short : end - now < 60000 = leb-false 60000 (end - now) e in inr (omega (arith, short, h))
+
+half_distant : (end now : ℕ) → has_come now (Some end) ≡ false → ((60000 ≤ half_wait (end - now)) × (true ≡ true)) ⊎ (has_come (now + half_wait (end - now)) (Some end) ≡ true)
+half_distant end now h = go (half_far end now (leb-false end now h))
+  where
+    go : (60000 ≤ half_wait (end - now)) ⊎ (end ≤ now + half_wait (end - now)) → ((60000 ≤ half_wait (end - now)) × (true ≡ true)) ⊎ (has_come (now + half_wait (end - now)) (Some end) ≡ true)
+    go (inl far) = inl (far, refl)
+    go (inr past) = inr (le-leb end (now + half_wait (end - now)) past)
+
+distant : (config : Config) (state : ClientState) → Distant (protocol config) always state (distance state)
+unfolding always
+distant config InitReboot = record { far = λ exchange start words g h. inl (discovery_wait_long exchange.retry_count (next_of words), refl) }
+distant config (Selecting offer) = record { far = λ exchange start words g h. inl (discovery_wait_long exchange.retry_count (next_of words), refl) }
+distant config (Rebooting held) = record { far = λ exchange start words g h. inl (discovery_wait_long exchange.retry_count (next_of words), refl) }
+distant config (Done bound) = record { far = λ exchange start words g h. half_distant (renewal bound) start.now h }
+distant config (Renewing bound) = record { far = λ exchange start words g h. half_distant (rebinding bound) start.now h }
+distant config (Rebinding bound) = record { far = λ exchange start words g h. half_distant (expiry bound) start.now h }
+
+pub far_history : (config : Config) →
+    ((good : Exchange → Bool) → IsKept (protocol config) good → (script : Script Packet ClientState Exchange) → good script.exchange ≡ true →
+    All (IsTakenDistant (protocol config) good) (history (protocol config) script)) →
+    (script : Script Packet ClientState Exchange) → All AreFarApart (history (protocol config) script)
+unfolding always
+far_history config law script =
+    let stays : List (Stay ClientState Handed) = history (protocol config) script in
+    All-from_recursion AreFarApart stays
+    (each (IsTakenDistant (protocol config) always) AreFarApart (λ stay far. far (distance stay.setting.state) (distant config stay.setting.state)) stays
+    (recursion_from_All (IsTakenDistant (protocol config) always) stays (law always (kept config) script refl)))

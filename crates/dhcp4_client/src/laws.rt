@@ -1,0 +1,98 @@
+//! Laws of the client, over every configuration and every script. Each is the clause of a function
+//! that does nothing.
+
+ghost use Rattle.std.specs.Prelude.{◌≡◌, ◌≤◌, ℕ, All, Option};
+ghost use Rattle.dhcp_clock.specs.declared.link.Packet.{Packet};
+ghost use Rattle.dhcp_history.specs.declared.script.Event.{Event};
+ghost use Rattle.dhcp_history.specs.Bounds.{IsWithinState, count_of, is_change, is_send, poll_count};
+ghost use Rattle.dhcp_history.specs.History.{history, outputs};
+ghost use Rattle.dhcp_history.specs.Machine.{View, polls, replay};
+ghost use Rattle.dhcp_history.specs.Protocol.{Lawful};
+ghost use Rattle.dhcp_history.specs.Script.{Script};
+ghost use Rattle.dhcp4_lease.specs.Config.{Config};
+ghost use Rattle.dhcp4_client.specs.declared.client_state.ClientState.{ClientState};
+ghost use Rattle.dhcp4_client.specs.declared.client_state.Exchange.{Exchange};
+ghost use Rattle.dhcp4_lease.specs.Lease.{Lease};
+ghost use Rattle.dhcp4_client.specs.Bounds.{AreFarApart, GetsRarer, HasFourRequests};
+ghost use Rattle.dhcp4_client.specs.Client.{first_state};
+ghost use Rattle.dhcp4_client.specs.Rules.{protocol};
+
+use crate::DhcpV4Client;
+use dhcp_history::laws;
+
+/// The table of states is lawful, whatever the configuration: its waits are at least a millisecond
+/// and over by the end of the state, and the changes of one event come to an end. So each law of
+/// dhcp_history holds of the client.
+pub fn table_is_lawful()
+    ensures { (config : Config) → Lawful (protocol config) }
+{}
+
+/// What the calls and polls of a client report over a script, event by event, is what the history
+/// of the script reports.
+pub fn polls_give_the_history(client: &DhcpV4Client)
+    ensures { (script : Script Packet ClientState Exchange) →
+        replay (protocol client.now.config) script
+        ≡ outputs (protocol client.now.config) (history (protocol client.now.config) script) }
+{
+    table_is_lawful();
+    laws::polls_give_the_history(&client.rules);
+}
+
+/// At an event the client is polled at most seven times, and changes its state at most six times.
+pub fn seven_polls_an_event(client: &DhcpV4Client)
+    ensures polls { (fuel : ℕ) (event : Event Packet) (view : View ClientState Exchange) →
+        poll_count (protocol client.now.config) fuel event view ≤ 7 }
+    ensures changes { (fuel : ℕ) (event : Event Packet) (view : View ClientState Exchange) →
+        count_of is_change (polls (protocol client.now.config) fuel event view).outputs ≤ 6 }
+{
+    table_is_lawful();
+    laws::seven_polls_an_event(&client.rules);
+}
+
+/// At an event the polls of the client hand at most two messages to the link.
+pub fn two_messages_an_event(client: &DhcpV4Client)
+    ensures { (fuel : ℕ) (event : Event Packet) (view : View ClientState Exchange) →
+        count_of is_send (polls (protocol client.now.config) fuel event view).outputs ≤ 2 }
+{
+    table_is_lawful();
+    laws::two_messages_an_event(&client.rules);
+}
+
+/// After the polls of an event a client without a kept error is not in BOUND at or past T1, in
+/// RENEWING at or past T2, or in REBINDING at or past the end of its lease.
+pub fn no_state_is_overdue(client: &DhcpV4Client)
+    ensures { (event : Event Packet) (view : View ClientState Exchange) →
+        IsWithinState (protocol client.now.config) event.moment
+        (polls (protocol client.now.config) 7 event view).view }
+{
+    table_is_lawful();
+    laws::no_state_is_overdue(&client.rules);
+}
+
+/// In the history of a client that begins with this lease or none, the Requests of a stay in
+/// RENEWING, or in REBINDING, that the link took get rarer by half.
+pub fn requests_get_rarer(client: &DhcpV4Client)
+    ensures { (lease : Option Lease) (script : Script Packet ClientState Exchange) →
+        script.state ≡ first_state lease →
+        All GetsRarer (history (protocol client.now.config) script) }
+{
+    laws::entries_hold(&client.rules);
+    laws::messages_halve(&client.rules);
+}
+
+/// In a history a lease that was held before is requested at most four times in a stay.
+pub fn four_requests_of_a_lease(client: &DhcpV4Client)
+    ensures { (script : Script Packet ClientState Exchange) →
+        All HasFourRequests (history (protocol client.now.config) script) }
+{
+    laws::attempts_run_out(&client.rules);
+}
+
+/// In a history successive messages of a stay that the link took are at least three seconds apart,
+/// and those in RENEWING and in REBINDING a minute.
+pub fn messages_are_far_apart(client: &DhcpV4Client)
+    ensures { (script : Script Packet ClientState Exchange) →
+        All AreFarApart (history (protocol client.now.config) script) }
+{
+    laws::messages_are_far_apart(&client.rules);
+}
