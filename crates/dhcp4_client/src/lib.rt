@@ -10,6 +10,8 @@ pub mod laws;
 mod message;
 mod rules;
 mod state;
+#[cfg(test)]
+mod tests;
 
 pub use client::DhcpV4Client;
 pub use dhcp4_lease::{
