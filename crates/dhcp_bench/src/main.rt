@@ -3,9 +3,15 @@
 //!
 //! `read` reads a message, `message` reads and writes it, `lease` reads it and its lease, `moved`
 //! does so and moves its options into the lease, `discover` builds and writes a Discover, and
-//! `frame` reads and writes a frame.
+//! `frame` reads and writes a frame. Of a client, `idle` polls one that has a lease, `foreign` one
+//! whose Discover is open, each time with the frame of the line, and `life` has it live from its
+//! Discover to its release, with the frames of an Offer and of an Ack as two lines; these print how
+//! many polls or lives there were.
 #![tactic(auto)]
 
+mod client;
+
+use crate::client::Answers;
 use dhcp_clock::WordList;
 use dhcp_frame::{MOST_PAYLOAD, read_frame, write_frame};
 use dhcp_wire::{BufferMut, DhcpError, ErrorKind, FixedText};
@@ -61,12 +67,47 @@ fn measure(rt: &HostRuntime) -> Result<(), Failure> {
     let Ok(times) = times.as_str().parse::<u32>() else {
         return Err(Failure::Words);
     };
-    let bytes = hex_line(rt)?;
-    let alloc = rt.alloc();
-    let bytes = bytes.as_slice();
+    let text = io::read_to_string(rt.alloc(), rt.reader())?;
+    let total = measured(rt.alloc(), what, times, text.as_str())?;
+    println!(rt; "{total}")?;
+    Ok(())
+}
+
+// What is counted of one thing that is done so many times, with the lines of hex of a text.
+fn measured(alloc: Global, what: &str, times: u32, text: &str) -> Result<u64, Failure> {
+    let lines: Vec<&str> = text.lines().collect(alloc)?;
+    let [first, rest @ ..] = lines.as_slice() else {
+        return Err(Failure::Hex);
+    };
+    let first = bytes_of(alloc, first)?;
+    match what {
+        "idle" => Ok(client::idle(alloc, times)?),
+        "foreign" => Ok(client::foreign(alloc, times, first.as_slice())?),
+        "life" => lived(alloc, times, first.as_slice(), rest),
+        what => total_of(alloc, what, times, first.as_slice()),
+    }
+}
+
+// How many lives there were, with this frame of an Offer, and that of an Ack in the next line.
+fn lived(alloc: Global, times: u32, offer: &[u8], rest: &[&str]) -> Result<u64, Failure> {
+    let [ack] = rest else {
+        return Err(Failure::Hex);
+    };
+    let ack = bytes_of(alloc, ack)?;
+    let ack = ack.as_slice();
+    Ok(client::lives(alloc, times, Answers { offer, ack })?)
+}
+
+// The bytes of a line of hex.
+fn bytes_of(alloc: Global, line: &str) -> Result<Vec<u8>, Failure> {
+    hex::decode(alloc, line).map_err(|_| Failure::Hex)
+}
+
+// How many bytes are read and written when one thing is done so many times.
+fn total_of(alloc: Global, what: &str, times: u32, bytes: &[u8]) -> Result<u64, Failure> {
     let mut total = 0u64;
     for _ in 0..times {
-        let count = match what.as_str() {
+        let count = match what {
             "read" => read(alloc, bytes)?,
             "message" => read_and_written(alloc, bytes)?,
             "lease" => read_to_lease(alloc, bytes)?,
@@ -77,14 +118,7 @@ fn measure(rt: &HostRuntime) -> Result<(), Failure> {
         };
         total = total.saturating_add(count as u64);
     }
-    println!(rt; "{total} bytes")?;
-    Ok(())
-}
-
-// The bytes of the line of hex on standard input.
-fn hex_line(rt: &HostRuntime) -> Result<Vec<u8>, Failure> {
-    let line = io::read_to_string(rt.alloc(), rt.reader())?;
-    hex::decode(rt.alloc(), line.as_str().trim_end()).map_err(|_| Failure::Hex)
+    Ok(total)
 }
 
 // Reads a message.

@@ -1,0 +1,52 @@
+#!/bin/sh
+# Times the polls of an IPv4 client over a link in memory.
+#
+#   tools/benchmark_client.sh      at the repository's top, after `rt run < stdin -- frame 3` in crates/dhcp_bench has built the program
+#
+# Prints how many polls of a client that has a lease, polls of one whose Discover is open with a frame of 300 bytes that is for
+# another client, and whole lives (Discover, Request, lease, a renewal, release) there are in a second: the best of five runs,
+# the start of the process taken off.
+set -eu
+program=${PROGRAM:-crates/dhcp_bench/out/dhcp_bench}
+[ -x "$program" ] || { echo "$program is not built: run 'rt run < stdin -- frame 3' in crates/dhcp_bench"; exit 2; }
+input=$(mktemp)
+trap 'rm -f "$input"' EXIT
+
+# The frame of a message with this transaction id, these options and so many bytes of zeros after them.
+frame() { # transaction id, options in hex, bytes in all
+    awk -v id="$1" -v options="$2" -v size="$3" 'BEGIN {
+        printf "ffffffffffff0200000000020800"
+        printf "4500%04x0000000040110000c0000201ffffffff", size - 14
+        printf "00430044%04x0000", size - 34
+        printf "02010600%s0000000000000000c000020ac000020100000000020000000001", id
+        for (i = 0; i < 202; i++) printf "00"
+        printf "63825363%s", options
+        for (i = 282 + length(options) / 2; i < size; i++) printf "00"
+        printf "\n"
+    }'
+}
+
+# The least time of five runs of a task, in nanoseconds.
+least() { # the words of the program
+    best=
+    for _ in 1 2 3 4 5; do
+        start=$(date +%s%N)
+        "$program" "$1" "$2" <"$input" >/dev/null
+        took=$(($(date +%s%N) - start))
+        if [ -z "$best" ] || [ "$took" -lt "$best" ]; then best=$took; fi
+    done
+}
+
+measure() { # a name, the words of the program
+    least "$2" 1
+    empty=$best
+    least "$2" "$3"
+    echo "$1 $3 $((best - empty))" | awk '{ printf "%s: %.0f ns each, %.0f a second\n", $1, $3 / $2, $2 / ($3 / 1e9) }'
+}
+
+lease=3604c0000201330400000e103a04000007083b0400000c4eff
+frame 00000000 350102ff 300 >"$input"
+measure idle_poll idle 2000000
+measure poll_with_a_foreign_frame foreign 1000000
+{ frame 12345678 "350102$lease" 342; frame 12345678 "350105$lease" 342; } >"$input"
+measure whole_life life 50000
