@@ -1,4 +1,5 @@
--- The history of a thin script: a client's way from its Discover to its lease, RFC 2131 section 3.1, by payloads alone.
+-- The history of a thin script: a client's way from its Discover to its lease, RFC 2131 section
+-- 3.1, by payloads alone.
 use Rattle.std.specs.Prelude.{ℕ, ◌+◌, ◌==◌, ◌&&◌, Bool, false, List, [], ◌∷◌, slice_index, Option, Some, None, if◌then◌else◌}
 use Rattle.std.specs.Option.{option_map_or}
 use Rattle.std.specs.FinMap as map
@@ -36,7 +37,8 @@ discover script = table.table_message (transaction_id script) (configuration scr
 
 -- the Request of an offer
 unfoldable pub request : ThinScript → Lease → DhcpV4Message
-request script offer = table.table_message (transaction_id script) (configuration script) (table.request offer)
+request script offer =
+    table.table_message (transaction_id script) (configuration script) (table.request offer)
 
 -- ---- the leases that it is granted
 
@@ -46,7 +48,9 @@ says_times options = map.contains_key options 58 && map.contains_key options 59
 
 -- whether a message is of this type
 abbrev pub is_of_type : DhcpV4MessageType → DhcpV4Message → Bool
-is_of_type awaited message = option_map_or (λ kind. type_number kind == type_number awaited) (message_type message.options) false
+is_of_type awaited message =
+    option_map_or (λ kind. type_number kind == type_number awaited)
+    (message_type message.options) false
 
 -- the lease that a message grants where this type is awaited with this transaction id
 unfoldable pub granted_by : DhcpV4MessageType → ℕ → DhcpV4Message → Option Lease
@@ -71,16 +75,19 @@ pub record Answer : Type 0 where
 unfoldable pub first_answer : (ThinEvent → Option Lease) → ℕ → List ThinEvent → Option Answer
 first_answer grants number [] = None
 first_answer grants number (event ∷ later) =
-    option_map_or (λ lease. Some (record { event = number; lease = lease; later = later })) (grants event)
+    option_map_or (λ lease. Some (record { event = number; lease = lease; later = later }))
+    (grants event)
     (first_answer grants (number + 1) later)
 
 -- the event that answers the Discover: the first one whose payload is an Offer that grants a lease
 abbrev pub offer_in : ThinScript → Option Answer
 offer_in script = first_answer (granted Offer (transaction_id script)) 1 script.events
 
--- the event that answers the Request of this offer: the first later one whose payload is an Ack that grants a lease
+-- the event that answers the Request of this offer: the first later one whose payload is an Ack
+-- that grants a lease
 abbrev pub acknowledgement_after : ThinScript → Answer → Option Answer
-acknowledgement_after script offer = first_answer (granted Ack (transaction_id script)) (offer.event + 1) offer.later
+acknowledgement_after script offer =
+    first_answer (granted Ack (transaction_id script)) (offer.event + 1) offer.later
 
 -- the report in this event
 abbrev pub reported : ℕ → ThinReport → ThinOutput
@@ -100,19 +107,24 @@ thin_lease lease = record {
 -- what is reported once the Request is acknowledged: the lease
 abbrev pub outputs_of_acknowledgement : Option Answer → List ThinOutput
 outputs_of_acknowledgement None = []
-outputs_of_acknowledgement (Some answer) = reported answer.event (Done (thin_lease answer.lease)) ∷ []
+outputs_of_acknowledgement (Some answer) =
+    reported answer.event (Done (thin_lease answer.lease)) ∷ []
 
--- what is reported once the Discover is answered: the state, and in the same event the Request of the offer
+-- what is reported once the Discover is answered: the state, and in the same event the Request of
+-- the offer
 abbrev pub outputs_of_offer : ThinScript → Option Answer → List ThinOutput
 outputs_of_offer script None = []
 outputs_of_offer script (Some offer) =
-    reported offer.event Selecting ∷ reported offer.event (Handed (written_message (request script offer.lease)))
+    reported offer.event Selecting
+    ∷ reported offer.event (Handed (written_message (request script offer.lease)))
     ∷ outputs_of_acknowledgement (acknowledgement_after script offer)
 
 -- what is reported where there are events: the Discover in the first of them
 abbrev pub outputs_of_events : ThinScript → List ThinEvent → List ThinOutput
 outputs_of_events script [] = []
-outputs_of_events script (first ∷ later) = reported 1 (Handed (written_message (discover script))) ∷ outputs_of_offer script (offer_in script)
+outputs_of_events script (first ∷ later) =
+    reported 1 (Handed (written_message (discover script)))
+    ∷ outputs_of_offer script (offer_in script)
 
 -- the outputs of a thin script
 unfoldable pub outputs_of : ThinScript → List ThinOutput

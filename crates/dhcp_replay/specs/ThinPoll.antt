@@ -19,8 +19,11 @@ Polled = ThinState × List ThinOutput
 -- an Offer leads to the Request
 abbrev pub on_offer : ThinScript → ℕ → Option Lease → Polled
 on_offer script event None = (states.InitReboot, [])
-on_offer script event (Some lease) =
-    (states.Selecting, reported event Selecting ∷ reported event (Handed (written_message (request script lease))) ∷ [])
+on_offer script event (Some lease) = (
+  states.Selecting,
+  reported event Selecting
+      ∷ reported event (Handed (written_message (request script lease))) ∷ [],
+)
 
 -- an Ack leads to the lease
 abbrev pub on_acknowledgement : ℕ → Option Lease → Polled
@@ -29,11 +32,14 @@ on_acknowledgement event (Some lease) = (states.Done, reported event (Done (thin
 
 -- one event
 unfoldable pub polled : ThinScript → ThinState → ℕ → ThinEvent → Polled
-polled script states.InitReboot event what = on_offer script event (granted Offer (transaction_id script) what)
-polled script states.Selecting event what = on_acknowledgement event (granted Ack (transaction_id script) what)
+polled script states.InitReboot event what =
+    on_offer script event (granted Offer (transaction_id script) what)
+polled script states.Selecting event what =
+    on_acknowledgement event (granted Ack (transaction_id script) what)
 polled script states.Done event what = (states.Done, [])
 
--- the call that does one event: the state after it, with what is reported at the end of the outputs; or want of memory
+-- the call that does one event: the state after it, with what is reported at the end of the
+-- outputs; or out of memory
 abbrev pub Polls : Result ThinState ErrorParts → Polled → List ThinOutput → List ThinOutput → Type 0
 Polls (Ok state) expected old new = (state ≡ expected.0) × (new ≡ old ++ expected.1)
 Polls (Err e) expected old new = e ≡ no_memory

@@ -53,7 +53,8 @@ spaced fields = join_with_byte 32 fields
 -- the fields of a lease, as they are printed
 abbrev pub lease_text : ThinLease → List ℕ
 lease_text lease =
-    spaced (ipv4_text lease.yiaddr.octets ∷ ipv4_text lease.siaddr.octets ∷ ipv4_text lease.srv_id.octets
+    spaced (ipv4_text lease.yiaddr.octets ∷ ipv4_text lease.siaddr.octets
+    ∷ ipv4_text lease.srv_id.octets
     ∷ decimal lease.t1_sec ∷ decimal lease.t2_sec ∷ decimal lease.lease_time_sec ∷ [])
 
 -- what is reported

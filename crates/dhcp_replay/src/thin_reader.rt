@@ -11,7 +11,8 @@ use dhcp_stream::{tagged_line, words_field};
 use dhcp_wire::{DhcpError, Sequence};
 use std::alloc::Global;
 
-/// The script of a thin text. None exactly where no script has this text; no text is that of two scripts.
+/// The script of a thin text. None if and only if no script has this text; no text is that of two
+/// scripts.
 pub fn read_thin_script(alloc: Global, text: &[u8]) -> Result<Option<ThinScript>, DhcpError>
     ensures reading { GivesReading script_text IsThinScript result text.now }
     ensures one { (script : ThinScript) → IsThinScript script → script_text script ≡ text.now →

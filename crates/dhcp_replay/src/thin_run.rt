@@ -40,8 +40,8 @@ impl From<&DhcpV4Lease> for ThinLease {
     }
 }
 
-/// What the client of a thin script reports: the Discover in the first event, and in each event that answers its attempt the
-/// state and what is handed in it.
+/// What the client of a thin script reports: the Discover in the first event, and in each event
+/// that answers its attempt the state and what is handed in it.
 #[tactic(auto, unfolding(crate::specs::ThinHistory::outputs_of))]
 pub fn replay_thin(alloc: Global, script: &ThinScript) -> Result<Vec<ThinOutput>, DhcpError>
     ensures { Makes (λ outputs. outputs.items) result (outputs_of script.now) }
@@ -71,7 +71,8 @@ fn poll(
     what: &ThinEvent,
     outputs: &mut Vec<ThinOutput>,
 ) -> Result<ThinState, DhcpError>
-    ensures { Polls result (polled script.now state event what.now) outputs.old.items outputs.new.items }
+    ensures { Polls result (polled script.now state event what.now)
+        outputs.old.items outputs.new.items }
 {
     let id = request::transaction_id(script);
     match state {

@@ -33,7 +33,7 @@ pub fn granted(
 }
 
 // The lease that a message grants there.
-#[tactic(auto, unfolding(crate::specs::ThinHistory::granted_by, dhcp4_msg::specs::MessageType::type_number))]
+#[tactic(auto, unfolding(crate::specs::ThinHistory::granted_by, dhcp4_msg::specs::type_number))]
 fn granted_by(
     alloc: Global,
     awaited: DhcpV4MessageType,

@@ -32,7 +32,8 @@ pub fn discover(alloc: Global, script: &ThinScript) -> Result<Bytes, DhcpError>
 /// The bytes of the Request of an offer.
 #[tactic(auto, unfolding(crate::specs::ThinHistory::request))]
 pub fn request(alloc: Global, script: &ThinScript, offer: &DhcpV4Lease) -> Result<Bytes, DhcpError>
-    ensures { Makes (λ bytes. bytes) result (written_message (history.request script.now offer.now)) }
+    ensures { Makes (λ bytes. bytes) result
+        (written_message (history.request script.now offer.now)) }
 {
     let config = configuration(alloc, script)?;
     let message = new_request(alloc, transaction_id(script), &config, offer)?;
@@ -40,7 +41,7 @@ pub fn request(alloc: Global, script: &ThinScript, offer: &DhcpV4Lease) -> Resul
 }
 
 // The configuration of the client.
-#[tactic(auto, unfolding(dhcp4_lease::specs::Config::config_of, dhcp4_lease::specs::Config::with_mac, dhcp4_lease::specs::Config::is_within_limits))]
+#[tactic(auto, unfolding(crate::specs::config_of, crate::specs::with_mac, crate::specs::limits))]
 fn configuration(alloc: Global, script: &ThinScript) -> Result<DhcpV4Config, DhcpError>
     ensures made { Makes (λ config. config) result (history.configuration script.now) }
     ensures limits { IfOk result (λ config. IsTrue (is_within_limits config)) }
