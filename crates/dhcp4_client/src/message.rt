@@ -22,9 +22,10 @@ use dhcp4_msg::DhcpV4Message;
 use std::alloc::Global;
 use std::net::Ipv4Addr;
 
-// The UDP ports of a client and of a server, RFC 2131 section 4.1.
+/// The UDP port of a client, RFC 2131 section 4.1.
 pub const CLIENT_PORT: u16 = 68;
 
+// That of a server.
 const SERVER_PORT: u16 = 67;
 
 /// What is handed to the link at an attempt in a state. Out of memory is the only error.

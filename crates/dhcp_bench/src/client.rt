@@ -56,7 +56,7 @@ fn packet(alloc: Global, kind: PacketKind, bytes: &[u8]) -> Result<Option<Packet
 }
 
 /// Polls a client that has a lease, so many times, a millisecond apart, before T1.
-pub fn idle(alloc: Global, times: u32) -> Result<u64, DhcpError> {
+pub(crate) fn idle(alloc: Global, times: u32) -> Result<u64, DhcpError> {
     let mut exchange = begin(alloc)?;
     let mut lease = DhcpV4Lease::empty(alloc);
     lease.t1_sec = u32::MAX;
@@ -70,7 +70,7 @@ pub fn idle(alloc: Global, times: u32) -> Result<u64, DhcpError> {
 }
 
 /// Polls a client whose Discover is open, so many times, each time with this frame.
-pub fn foreign(alloc: Global, times: u32, frame: &[u8]) -> Result<u64, DhcpError> {
+pub(crate) fn foreign(alloc: Global, times: u32, frame: &[u8]) -> Result<u64, DhcpError> {
     let mut exchange = begin(alloc)?;
     for _ in 0..times {
         let packet = packet(alloc, PacketKind::Frame, frame)?;
@@ -80,7 +80,7 @@ pub fn foreign(alloc: Global, times: u32, frame: &[u8]) -> Result<u64, DhcpError
 }
 
 /// Whole lives, so many: Discover, Request, lease, a renewal and the release.
-pub fn lives(alloc: Global, times: u32, answers: Answers) -> Result<u64, DhcpError> {
+pub(crate) fn lives(alloc: Global, times: u32, answers: Answers) -> Result<u64, DhcpError> {
     let mut count = 0u64;
     for _ in 0..times {
         let released = life(alloc, answers)?;

@@ -129,7 +129,7 @@ fn request_headers(udp_sum: [u8; 2]) -> [u8; 42] {
 }
 
 /// What the link is handed.
-pub fn sending(alloc: Global, sends: Sends) -> Result<Option<Handed>, DhcpError> {
+pub(super) fn sending(alloc: Global, sends: Sends) -> Result<Option<Handed>, DhcpError> {
     let discover = broadcast([0x01, 0x17], [0xf9, 0xd6], [0x01, 0x03], [0x5c, 0x8d]);
     let reboot = broadcast([0x01, 0x1d], [0xf9, 0xd0], [0x01, 0x09], [0x66, 0x72]);
     let request = request_headers([0x60, 0x6e]);
@@ -157,7 +157,7 @@ fn sent(bytes: Result<Bytes, DhcpError>) -> Result<Option<Handed>, DhcpError> {
 }
 
 /// The packet that waits.
-pub fn packet(alloc: Global, received: Received) -> Result<Option<Packet>, DhcpError> {
+pub(super) fn packet(alloc: Global, received: Received) -> Result<Option<Packet>, DhcpError> {
     let short = answered([0x01, 0x1c], [0x01, 0x08]);
     let long = answered([0x01, 0x28], [0x01, 0x14]);
     let bytes = match received {
