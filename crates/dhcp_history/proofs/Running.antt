@@ -42,6 +42,14 @@ unsent_early Sent (Ok a) old new before after unsent = tt
 unsent_early Sent (Err run.TimedOut) old new before after unsent = tt
 unsent_early Sent (Err run.OutOfMemory) old new before after unsent = inl unsent
 
+-- out of memory with no attempt due: it was needed for the packet
+pub needed_early : {A : Type 0} (Due : List ℕ → Type 0) (Needs : Type 0) (result : Result A RunError) (drawn : Option (List ℕ)) →
+    OnErr result Needs → OnNoMemory result (IfSome drawn (λ words. Due words ⊎ Needs))
+needed_early Due Needs (Ok a) drawn needs = tt
+needed_early Due Needs (Err run.TimedOut) drawn needs = tt
+needed_early Due Needs (Err run.OutOfMemory) None needs = tt
+needed_early Due Needs (Err run.OutOfMemory) (Some words) needs = inr needs
+
 -- a client has a next attempt where it was not polled in its state, or stands as one that has one
 pub unpolled_armed : {State Exchange : Type 0} (has : State → Bool) (client : Client State Exchange) → is_unpolled client.standing.phase ≡ true → HasNextAttempt has client
 unpolled_armed has client e = λ polled sends. absurd (cc (e, polled))
@@ -267,6 +275,16 @@ module _ {PublicState State Exchange Answer Lease : Type 0} (p : Protocol Public
             at_told (λ (words' : List ℕ). HasPolled p (transmit_and_receive p now before.refuses (input_of before.waiting) (second words')) result third drawn'' before shown'') drawn' mid.words d.words w in
             subst (λ (o : PollEffect Packet Handed State Exchange). HasPolled p o result third drawn'' before shown'') (sym same)
             (subst (λ (v : View State Exchange). HasPolled p (transmit_and_receive p now before.refuses (input_of before.waiting) v) result third drawn'' before shown'') d.client polled)
+
+  -- out of memory with an attempt due: it is due after the pause that was drawn
+  pub begun_due : {A : Type 0} (Needs : Type 0) (result : Result A RunError) (now : ℕ) (drawn drawn' : Option (List ℕ)) (first second : List ℕ → View State Exchange) →
+      IfSome drawn (λ words. HasDrawn (begin_stay p now (first words)) second drawn') → ((words : List ℕ) → has_come now (second words).deadline ≡ true) →
+      OnNoMemory result (IfSome drawn (λ words. (has_come now (begin_stay p now (first words)).deadline ≡ true) ⊎ Needs))
+  begun_due Needs (Ok a) now drawn drawn' first second draws come = tt
+  begun_due Needs (Err run.TimedOut) now drawn drawn' first second draws come = tt
+  begun_due Needs (Err run.OutOfMemory) now None drawn' first second draws come = tt
+  begun_due Needs (Err run.OutOfMemory) now (Some words) drawn' first second draws come =
+      inl (subst (λ (v : View State Exchange). has_come now v.deadline ≡ true) draws.client (come (begin_stay p now (first words)).words))
 
   -- out of memory with an attempt due: the client is as at entry, or as right after its send
   pub unsent_due : {A : Type 0} (Unsent' : Type 0) (result : Result A RunError) (now : ℕ) (drawn drawn' : Option (List ℕ)) (shown after : Option Shown) (first second : List ℕ → View State Exchange) (client : Client State Exchange) →

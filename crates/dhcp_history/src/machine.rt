@@ -353,6 +353,10 @@ pub fn run<R: Rules, W: Words, L: DhcpLink>(
         has_come now client.old.standing.deadline ≡ false → NeedsMemory (R.needs_memory rules.now)
         client.old (L.shown link.old)) }
 
+    ensures due { OnNoMemory result (IfSome (W.left words.old) (λ drawn.
+        (has_come now (begin_stay (R.protocol rules.now) now (view_of client.old drawn)).deadline
+        ≡ true) ⊎ NeedsMemory (R.needs_memory rules.now) client.old (L.shown link.old))) }
+
     // one message and one packet at most
     ensures uses { IfSome (L.shown link.old) (λ before. IsSomeAnd (L.shown link.new) (λ after.
         UsesLink (is_listening client.old.standing.phase) before after)) }

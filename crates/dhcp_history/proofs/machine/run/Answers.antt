@@ -2,7 +2,7 @@ use Rattle.std.proofs.Common.{sym, ◌∙◌, refl, [], ap}
 use Rattle.std.specs.Prelude.{Ok, Some}
 use Rattle.dhcp_history.specs.Machine.{View}
 use Rattle.dhcp_history.specs.Client.{view_of, view_with}
-use Rattle.dhcp_history.proofs.Running.{poll_ends, poll_works, on_run, unsent_due, unsent_early, unpolled_armed, over_polled, stopped_phase, quiet_stopped, quiet_over, quiet_ended, quiet_busy, due_busy, early_quiet}
+use Rattle.dhcp_history.proofs.Running.{poll_ends, poll_works, on_run, unsent_due, unsent_early, begun_due, needed_early, unpolled_armed, over_polled, stopped_phase, quiet_stopped, quiet_over, quiet_ended, quiet_busy, due_busy, early_quiet}
 use Rattle.dhcp_history.proofs.machine.run.Goals as goal
 
 pub returns-then-has_ended-clause-polled : goal.returns-then-has_ended-clause-polled
@@ -38,6 +38,14 @@ pub returns-clause-memory : goal.returns-clause-memory
 returns-clause-memory g c =
     unsent_early _ c.receive_early.result c.args.client.now c.receive_early.new.client (g.L.DhcpLink.shown c.args.link.now) (g.L.DhcpLink.shown c.receive_early.new.link)
     c.receive_early.ensures.unsent
+
+pub returns-then-has_come-clause-due : goal.returns-then-has_come-clause-due
+returns-then-has_come-clause-due g c =
+    begun_due (g.R.Rules.protocol c.args.rules.now) _ c.transmit_due.result c.args.now (g.W.Words.left c.args.words.now) (g.W.Words.left c.begin_stay-begun.new.words)
+    (view_of c.args.client.now) (view_with c.args.client.now c.begin_stay-begun.result) c.begin_stay-begun.ensures.drawn (λ words. sym c.has_come.ensures ∙ c.if-has_come.true)
+
+pub returns-clause-due : goal.returns-clause-due
+returns-clause-due g c = needed_early _ _ c.receive_early.result (g.W.Words.left c.args.words.now) c.receive_early.ensures.needed
 
 pub returns-then-limit_is_over-clause-armed : goal.returns-then-limit_is_over-clause-armed
 returns-then-limit_is_over-clause-armed g c = λ armed polled sends.
