@@ -171,6 +171,11 @@ impl DhcpV4Client {
             has_come now self.old.client.standing.deadline ≡ false →
             NeedsMemory needs_memory self.old.client (L.shown link.old)) }
 
+        ensures due { OnNoMemory (run_answer result) (IfSome (W.left words.old) (λ drawn.
+            (has_come now (begin_stay (protocol self.old.config) now
+            (view_of self.old.client drawn)).deadline ≡ true)
+            ⊎ NeedsMemory needs_memory self.old.client (L.shown link.old))) }
+
         // one message and one packet at most
         ensures uses { IfSome (L.shown link.old) (λ before. IsSomeAnd (L.shown link.new)
             (λ after. UsesLink (is_listening self.old.client.standing.phase) before after)) }

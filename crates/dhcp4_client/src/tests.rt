@@ -8,6 +8,7 @@ ghost use Rattle.std.specs.Prelude.{◌<◌, ◌^◌};
 use self::packets::{Received, Sends, packet, sending};
 use crate::{DhcpV4Client, DhcpV4Config, DhcpV4Lease, DhcpV4State};
 use dhcp_clock::{MemLink, Packet, Sent, WordList};
+use dhcp_history::{Event, Input};
 use dhcp_wire::{DhcpError, ErrorKind};
 use std::alloc::Global;
 use std::net::Ipv4Addr;
@@ -59,6 +60,8 @@ enum Step {
     Given([u32; 3], u32, bool),
     // A lease is given to it at the last lawful moment, and then it is polled.
     GivenAtTheEnd,
+    // A script whose one event brings an Offer; how much it reports.
+    Replayed(usize),
     // A clean-up.
     CleanedUp,
     // Whether it holds a lease.
@@ -189,6 +192,7 @@ fn goes(alloc: Global, exchange: &mut Exchange, step: Step) -> Result<bool, Dhcp
             let is_given = exchange.client.done(lease, LAST_MOMENT).is_ok();
             Ok(is_given && said(exchange, LAST_MOMENT, None)? == Says::Nothing)
         }
+        Step::Replayed(count) => is_replayed(alloc, exchange, count),
         Step::CleanedUp => {
             exchange.client.clean_up();
             Ok(true)
@@ -196,6 +200,23 @@ fn goes(alloc: Global, exchange: &mut Exchange, step: Step) -> Result<bool, Dhcp
         Step::Holds(holds) => Ok(exchange.client.lease().is_some() == holds),
         Step::Wakes(moment) => Ok(exchange.client.next_poll() == moment),
     }
+}
+
+// Whether so much is reported of an event that brings an Offer.
+fn is_replayed(alloc: Global, exchange: &mut Exchange, count: usize) -> Result<bool, DhcpError> {
+    let input = match packet(alloc, Received::Offer)? {
+        Some(packet) => Input::Arrival(packet),
+        None => Input::Nothing,
+    };
+    let offered = Event {
+        number: 1,
+        moment: 0,
+        refuse: false,
+        input,
+    };
+    let events = vec![in alloc; offered]?;
+    let outputs = exchange.client.replay(&mut exchange.words, events)?;
+    Ok(outputs.len() == count)
 }
 
 // Whether a poll returns and sends what it has to, over a link that does this with a message.

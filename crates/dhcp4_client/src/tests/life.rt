@@ -219,3 +219,13 @@ fn a_lease_may_begin_at_the_last_lawful_moment(rt: HostRuntime) -> Result<(), Fa
     assert!(rt; searches(rt.alloc(), &[&given])?);
     Ok(())
 }
+
+#[test]
+fn a_script_reports_the_discover_the_offer_and_the_request(rt: HostRuntime) -> Result<(), Fail> {
+    let replayed = [
+        Step::Replayed(3),
+        hears(1_000, Received::Ack, Says::Done, Sends::None),
+    ];
+    assert!(rt; searches(rt.alloc(), &[&replayed])?);
+    Ok(())
+}

@@ -1,6 +1,9 @@
 -- The clauses of the rules' poll, of the client that contracts see.
 use Rattle.dhcp4_client.proofs.client.DhcpV4Client.run.Goals as goal
 
+pub returns-clause-polled : goal.returns-clause-polled
+returns-clause-polled g c = rw (← c.self.view_is, c.answer_of.ensures.same) c.run.ensures.polled
+
 pub returns-clause-quiet : goal.returns-clause-quiet
 returns-clause-quiet g c = rw (← c.self.view_is, c.answer_of.ensures.same) c.run.ensures.quiet
 
@@ -9,3 +12,6 @@ returns-clause-cause g c = rw (← c.self.view_is, c.answer_of.ensures.same) c.r
 
 pub returns-clause-needed : goal.returns-clause-needed
 returns-clause-needed g c = rw (← c.self.view_is, c.answer_of.ensures.same) c.run.ensures.needed
+
+pub returns-clause-due : goal.returns-clause-due
+returns-clause-due g c = rw (← c.self.view_is, c.answer_of.ensures.same) c.run.ensures.due
