@@ -1,4 +1,7 @@
+pub mod CodecLaws
 pub mod HexTextLemmas
-pub mod LineLemmas
+pub mod NumberLemmas
+pub mod SearchLemmas
 pub mod StreamLemmas
+pub mod ValueLemmas
 pub mod WordLemmas

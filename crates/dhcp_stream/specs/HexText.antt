@@ -3,6 +3,7 @@
 use Rattle.std.specs.Prelude.{◌≡◌, ◌<◌, ◌^◌, ℕ, Bool, ◌&&◌, ◌||◌, nat_le, List, [], ◌∷◌, length, codes, All}
 use Rattle.std.specs.List.{flat_map}
 use Rattle.std.specs.Int.{w32, to_be_bytes}
+use Rattle.std.specs.Str.{IsUtf8}
 use Rattle.hex.specs.Hex.{IsBytes, encode_lower}
 
 -- the text of a list of bytes: its digits, or `-` where it has none
@@ -29,3 +30,8 @@ words_text words = hex_text (word_bytes words)
 -- numbers of 32 bits
 abbrev pub AreWords : List ℕ → Type 0
 AreWords words = All (λ word. word < 2 ^ 32) words
+
+-- the bytes of a text, which are UTF-8
+pub record IsText (bytes : List ℕ) : Type 0 where
+  pub are_bytes : IsBytes bytes
+  pub utf8 : IsUtf8 bytes

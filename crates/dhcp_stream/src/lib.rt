@@ -1,20 +1,22 @@
-//! Streams and the fields of texts: sources and sinks, reading and writing whole, lines, and fields
-//! in hex.
+//! Streams and the fields of texts: sources and sinks, reading and writing whole, and fields with
+//! numbers, addresses and hex, which are read from the front of a text.
 #![tactic(auto)]
 
 mod hex_text;
 pub mod laws;
-mod line;
 mod memory;
+mod number;
 mod standard;
 mod stream;
 #[cfg(test)]
 mod tests;
+mod text_reader;
 mod whole;
 
 pub use hex_text::{hex_field, mac_field, words_field};
-pub use line::tagged_line;
 pub use memory::{MemSink, MemSource};
+pub use number::{ipv4_field, number_field};
 pub use standard::{StdSink, StdSource};
 pub use stream::{ReadOutcome, Sink, Source, WriteOutcome};
+pub use text_reader::{ReadError, TextReader, cut_field, found};
 pub use whole::{MAX_INPUT, Whole, read_whole, write_whole};

@@ -5,6 +5,7 @@ ghost use Rattle.std.specs.Prelude.{◌≡◌, IfOk};
 use super::*;
 use std::alloc::Global;
 use std::io::{self, ErrorKind, Read, Write};
+use std::net::Ipv4Addr;
 use std::test::Fail;
 
 // A reader and a writer that give an error, then nothing.
@@ -168,10 +169,74 @@ fn words_are_read_from_eight_digits_each(rt: HostRuntime) -> Result<(), Fail> {
 }
 
 #[test]
-fn a_line_is_cut_after_its_tag(rt: HostRuntime) -> Result<(), Fail> {
-    let found = tagged_line(b"start 10\nend\n", b"start ");
-    assert!(rt; found == Some((b"10".as_slice(), b"end\n".as_slice())));
-    assert!(rt; tagged_line(b"start 10", b"start ").is_none());
-    assert!(rt; tagged_line(b"end\n", b"start ").is_none());
+fn numbers_are_decimal_without_leading_zeros(rt: HostRuntime) -> Result<(), Fail> {
+    let cases = [
+        ("0", 0, Some(0)),
+        ("255", 255, Some(255)),
+        ("256", 255, None),
+        ("18446744073709551615", u64::MAX, Some(u64::MAX)),
+        ("18446744073709551616", u64::MAX, None),
+        ("100000000000000000000", u64::MAX, None),
+    ];
+    for (field, max, want) in cases {
+        assert_eq!(rt; number_field(field.as_bytes(), max), want, "{field} {max}");
+    }
+    for field in [
+        "", "00", "07", "+7", "-7", "-0", " 7", "7 ", "7a", "0x7", "7.0", "\u{0667}",
+    ] {
+        assert_eq!(rt; number_field(field.as_bytes(), 99), None, "{field}");
+    }
+    Ok(())
+}
+
+#[test]
+fn addresses_are_four_numbers_with_dots_between_them(rt: HostRuntime) -> Result<(), Fail> {
+    let cases = [
+        ("0.0.0.0", [0, 0, 0, 0]),
+        ("192.0.2.10", [192, 0, 2, 10]),
+        ("255.255.255.255", [255, 255, 255, 255]),
+    ];
+    for (field, octets) in cases {
+        assert_eq!(rt;
+            ipv4_field(field.as_bytes()),
+            Some(Ipv4Addr::from(octets)),
+            "{field}"
+        );
+    }
+    for field in [
+        "",
+        "1.2.3",
+        "1.2.3.4.5",
+        "1.2.3.256",
+        "1.2.3.1000",
+        "1.2.3.04",
+        "00.2.3.4",
+        "+1.2.3.4",
+        "-1.2.3.4",
+        "1..3.4",
+        ".1.2.3.4",
+        "1.2.3.4.",
+        "1.2.3.4 ",
+        "1,2,3,4",
+        "a.2.3.4",
+        "3232235786",
+    ] {
+        assert_eq!(rt; ipv4_field(field.as_bytes()), None, "{field}");
+    }
+    Ok(())
+}
+
+#[test]
+fn a_text_is_read_from_its_front(rt: HostRuntime) -> Result<(), Fail> {
+    let mut text = TextReader::new(b"at 7 8 192.0.2.1 02000000000a 00ff -\n");
+    assert!(rt; !text.skip(b"end"));
+    assert_eq!(rt; text.tag(b"at "), Ok(()));
+    assert_eq!(rt; text.number(7, b' '), Ok(7));
+    assert_eq!(rt; text.u32(b' '), Ok(8));
+    assert_eq!(rt; text.ipv4(b' '), Ok(Ipv4Addr::new(192, 0, 2, 1)));
+    assert_eq!(rt; text.mac(b' '), Ok([2, 0, 0, 0, 0, 10]));
+    assert_eq!(rt; text.field(b' '), Ok(b"00ff".as_slice()));
+    assert_eq!(rt; text.field(b' '), Err(ReadError::Malformed));
+    assert!(rt; !text.is_at_end());
     Ok(())
 }

@@ -2,7 +2,7 @@ use Rattle.std.proofs.Common.{◌≡◌, [], ◌∷◌, sym, ◌∙◌, inl, inr
 use Rattle.std.proofs.lemmas.Bool.{false≢true}
 use Rattle.std.proofs.lemmas.Grind.{common_steps}
 use Rattle.hex.proofs.HexLemmas.{decode_of-ok}
-use Rattle.dhcp_stream.proofs.LineLemmas.{not_equal}
+use Rattle.dhcp_stream.proofs.SearchLemmas.{not_equal}
 use Rattle.dhcp_stream.proofs.HexTextLemmas.{hex_text-decode_of, hex_text-not, hex_text-refused}
 use Rattle.dhcp_stream.proofs.hex_text.hex_field.Goals as goal
 use Rattle.dhcp_stream.proofs.hex_text.hex_field.Goals.{then-is_empty-via-then-is_empty, then-is_empty-via-else-is_empty+then-not-is_lower_hex}

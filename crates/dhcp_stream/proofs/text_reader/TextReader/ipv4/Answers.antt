@@ -1,0 +1,6 @@
+use Rattle.std.proofs.Common.{arith}
+use Rattle.dhcp_stream.proofs.ValueLemmas.{IsValue-address, takes_value}
+use Rattle.dhcp_stream.proofs.text_reader.TextReader.ipv4.Goals as goal
+
+pub returns : goal.returns
+returns c = takes_value IsValue-address c.args.end _ c.in_ok-field.field.now _ c.ipv4_field.result c.ok_or.result c.in_ok-field.ensures c.ipv4_field.ensures c.ok_or.ensures.value

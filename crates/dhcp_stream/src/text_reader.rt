@@ -1,0 +1,198 @@
+//! Reading a text from its front: words, and fields up to a byte that they do not hold.
+
+ghost use Rattle.std.specs.Prelude.{◌≡◌, ◌↔◌, [], IsTrue, IfSome, MatchOption, None, Some, length, ◌<◌, ◌≤◌, IfOk};
+ghost use Rattle.dhcp_stream.specs.TextReader as values;
+ghost use Rattle.dhcp_stream.specs.TextReader.{field_at, in_field, tag_at, Finds, Takes};
+
+use crate::{hex_field, ipv4_field, mac_field, number_field, words_field};
+use dhcp_wire::{Bytes, DhcpError, Sequence, Text};
+use std::alloc::{AllocError, AllocFailed, Global};
+use std::marker::Model;
+use std::net::Ipv4Addr;
+
+/// Why something was not read.
+#[derive(Clone, Copy, Debug, PartialEq, Eq)]
+pub enum ReadError {
+    /// The text does not go on with it.
+    Malformed,
+    /// Out of memory.
+    OutOfMemory,
+}
+
+impl From<AllocError> for ReadError {
+    ghost use Rattle.dhcp_stream.specs.declared.text_reader.ReadError.TheVariants.{OutOfMemory};
+
+    ghost from_gives = { λ error seen. seen ≡ OutOfMemory };
+
+    fn from(_error: AllocError) -> Self {
+        ReadError::OutOfMemory
+    }
+}
+
+impl<T: Drop> From<AllocFailed<T>> for ReadError {
+    ghost use Rattle.dhcp_stream.specs.declared.text_reader.ReadError.TheVariants.{OutOfMemory};
+
+    ghost from_gives = { λ error seen. seen ≡ OutOfMemory };
+
+    fn from(_error: AllocFailed<T>) -> Self {
+        ReadError::OutOfMemory
+    }
+}
+
+/// Reads a text from its front. Contracts see it as the bytes that are left. Where nothing is read,
+/// the position is free.
+#[derive(Debug, Drop)]
+pub struct TextReader<'a> {
+    left: &'a [u8],
+}
+
+impl<'a> Model for TextReader<'a> {
+    ghost use Rattle.std.specs.Prelude.{ℕ, List};
+
+    ghost Value = { List ℕ };
+
+    ghost view = { λ reader. reader.left.now };
+}
+
+impl<'a> TextReader<'a> {
+    /// A reader at the front of the text.
+    pub fn new(text: &'a [u8]) -> Self
+        ensures { result ≡ text.now }
+    {
+        TextReader { left: text }
+    }
+
+    /// Whether nothing is left.
+    pub fn is_at_end(&self) -> bool
+        ensures { IsTrue result ↔ (self.now ≡ []) }
+    {
+        self.left.is_empty()
+    }
+
+    /// Skips these bytes, if the text goes on with them; else it stays where it is.
+    pub fn skip(&mut self, tag: &[u8]) -> bool
+        ensures { values.Skips result self.old self.new (tag_at tag.now self.old) }
+    {
+        match after(self.left, tag) {
+            Some(left) => {
+                self.left = left;
+                true
+            }
+            None => false,
+        }
+    }
+
+    /// Skips these bytes.
+    pub fn tag(&mut self, tag: &[u8]) -> Result<(), ReadError>
+        ensures { Takes result self.new (tag_at tag.now self.old) }
+    {
+        if self.skip(tag) {
+            Ok(())
+        } else {
+            Err(ReadError::Malformed)
+        }
+    }
+
+    /// The field before the next such byte, which is skipped.
+    pub fn field(&mut self, end: u8) -> Result<&'a [u8], ReadError>
+        ensures { values.TakesField result self.new (field_at end self.old) }
+    {
+        let Some((field, left)) = cut_field(self.left, end) else {
+            return Err(ReadError::Malformed);
+        };
+        self.left = left;
+        Ok(field)
+    }
+
+    /// A decimal number without a leading zero, at most `max`.
+    pub fn number(&mut self, max: u64, end: u8) -> Result<u64, ReadError>
+        ensures number { Takes result self.new (in_field (values.number_in max) end self.old) }
+        ensures small { IfOk result (λ number. number ≤ max) }
+    {
+        let field = self.field(end)?;
+        number_field(field, max).ok_or(ReadError::Malformed)
+    }
+
+    /// A decimal number of 32 bits without a leading zero.
+    pub fn u32(&mut self, end: u8) -> Result<u32, ReadError>
+        ensures { Takes result self.new (in_field (values.number_in 4294967295) end self.old) }
+    {
+        let number = self.number(u64::from(u32::MAX), end)?;
+        Ok(number as u32)
+    }
+
+    /// An IPv4 address.
+    pub fn ipv4(&mut self, end: u8) -> Result<Ipv4Addr, ReadError>
+        ensures { Takes result self.new (in_field values.address_in end self.old) }
+    {
+        let field = self.field(end)?;
+        ipv4_field(field).ok_or(ReadError::Malformed)
+    }
+
+    /// A MAC address of twelve lower-case hex digits.
+    pub fn mac(&mut self, end: u8) -> Result<[u8; 6], ReadError>
+        ensures { Takes result self.new (in_field values.mac_in end self.old) }
+    {
+        let field = self.field(end)?;
+        mac_field(field).ok_or(ReadError::Malformed)
+    }
+
+    /// Bytes in lower-case hex; `-` is none.
+    pub fn hex(&mut self, alloc: Global, end: u8) -> Result<Bytes, ReadError>
+        ensures { Takes result self.new (in_field values.hex_in end self.old) }
+    {
+        let field = self.field(end)?;
+        found(hex_field(alloc, field))
+    }
+
+    /// Words of 32 bits in lower-case hex, eight digits each; `-` is none.
+    pub fn words(&mut self, alloc: Global, end: u8) -> Result<Sequence<u32>, ReadError>
+        ensures { Takes result self.new (in_field values.words_in end self.old) }
+    {
+        let field = self.field(end)?;
+        found(words_field(alloc, field))
+    }
+}
+
+// What follows these bytes, if the text begins with them.
+fn after<'a>(text: &'a [u8], tag: &[u8]) -> Option<&'a [u8]>
+    ensures { MatchOption result
+        (tag_at tag.now text.now ≡ None)
+        (λ left. tag_at tag.now text.now ≡ Some (tt, left.now)) }
+{
+    text.strip_prefix(tag)
+}
+
+/// The field before the first such byte, and what follows that byte; none if and only if there is
+/// no such byte. Does not allocate.
+pub fn cut_field(text: &[u8], end: u8) -> Option<(&[u8], &[u8])>
+    ensures { MatchOption result
+        (field_at end text.now ≡ None)
+        (λ found. field_at end text.now ≡ Some (found.0.now, found.1.now)) }
+{
+    let Some(len) = first(text, end) else {
+        return None;
+    };
+    Some((&text[..len], &text[len + 1..]))
+}
+
+// Where the first such byte is.
+#[tactic(auto, unfolding(crate::specs::TextReader::first_of))]
+fn first(text: &[u8], end: u8) -> Option<usize>
+    ensures first { result ≡ values.first_of end text.now }
+    ensures within { IfSome result (λ len. len < length text.now) }
+{
+    text.iter().position(|byte| *byte == end)
+}
+
+/// What a field gave, where that may need memory: none is `Malformed`, and an error, which is out
+/// of memory, stays one.
+pub fn found<T>(read: Result<Option<T>, DhcpError>) -> Result<T, ReadError>
+    ensures { values.IsFound read result }
+{
+    match read {
+        Ok(Some(value)) => Ok(value),
+        Ok(None) => Err(ReadError::Malformed),
+        Err(_) => Err(ReadError::OutOfMemory),
+    }
+}
