@@ -1,0 +1,6 @@
+-- The copy has the options so far.
+use Rattle.std.proofs.Common.{◌≡◌, take}
+use Rattle.dhcp6_opt.proofs.options.DhcpV6Options.try_clone.Given as goal
+
+abbrev pub invariant-loop-option : goal.invariant-loop-option
+invariant-loop-option l = l.kept.items ≡ take l.option-index l.self-inside.kept.items

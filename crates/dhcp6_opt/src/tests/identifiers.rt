@@ -1,0 +1,105 @@
+//! Identifiers, as they stand on the wire and as they are made.
+
+use super::is_copied;
+use crate::*;
+use dhcp_clock::WordList;
+use dhcp_wire::{BufferMut, Bytes, DhcpError, ErrorKind};
+use std::alloc::Global;
+use std::process::Abort;
+use std::test::Fail;
+
+// The bytes of an identifier.
+fn bytes_of(alloc: Global, duid: &DhcpV6Duid) -> Result<Bytes, DhcpError> {
+    let mut buf = BufferMut::new(alloc);
+    duid.emit(&mut buf)?;
+    Ok(buf.into_bytes())
+}
+
+// Identifiers as they stand on the wire, and whether their types have names.
+const DUIDS: [(&[u8], bool); 6] = [
+    (&[0, 1, 0, 1, 0x30, 0x7a, 0x70, 0xb8, 0x72, 7], true),
+    (&[0, 2, 0, 0, 0, 9, 0xab], true),
+    (&[0, 3, 0, 1, 0xd2, 0xfd, 0xf9, 0xb4, 0x48, 0xb7], true),
+    (
+        &[0, 4, 1, 2, 3, 4, 5, 6, 7, 8, 9, 10, 11, 12, 13, 14, 15, 16],
+        true,
+    ),
+    (
+        &[0, 4, 1, 2, 3, 4, 5, 6, 7, 8, 9, 10, 11, 12, 13, 14, 15],
+        false,
+    ),
+    (&[0, 3], false),
+];
+
+#[test]
+fn identifiers_are_written_as_they_were_read(rt: HostRuntime) -> Result<(), Fail> {
+    for (bytes, has_name) in DUIDS {
+        let duid = DhcpV6Duid::parse(rt.alloc(), bytes)?;
+        assert!(rt; matches!(duid, DhcpV6Duid::Raw(_)) != has_name);
+        assert_eq!(rt; duid.written_len(), bytes.len());
+        assert_eq!(rt; bytes_of(rt.alloc(), &duid)?.as_slice(), bytes);
+        assert!(rt; is_copied(rt.alloc(), &duid)?);
+    }
+    Ok(())
+}
+
+#[test]
+fn one_byte_is_no_identifier(rt: HostRuntime) {
+    match DhcpV6Duid::parse(rt.alloc(), &[0]) {
+        Ok(_) => assert!(rt; false, "it was read"),
+        Err(error) => assert!(rt; error.kind() == ErrorKind::InvalidDhcpMessage),
+    }
+}
+
+#[test]
+fn identifiers_are_made_of_their_parts(rt: HostRuntime) -> Result<(), Fail> {
+    let address = [2, 0, 0, 0, 0, 1];
+    let made = DhcpV6DuidLinkLayerAddr::new(rt.alloc(), 1, &address)?;
+    let duid = DhcpV6Duid::LinkLayerAddress(made);
+    assert_eq!(rt;
+        bytes_of(rt.alloc(), &duid)?.as_slice(),
+        [0, 3, 0, 1, 2, 0, 0, 0, 0, 1].as_slice()
+    );
+    Ok(())
+}
+
+#[test]
+fn the_time_of_an_identifier_counts_from_2000(rt: HostRuntime) -> Result<(), Fail> {
+    let address = [2, 0, 0, 0, 0, 1];
+    let made = DhcpV6DuidLinkLayerAddrPlusTime::new(rt.alloc(), 1, &address, 946684801)?;
+    let duid = DhcpV6Duid::LinkLayerAddressPlusTime(made);
+    assert_eq!(rt;
+        bytes_of(rt.alloc(), &duid)?.as_slice(),
+        [0, 1, 0, 1, 0, 0, 0, 1, 2, 0, 0, 0, 0, 1].as_slice()
+    );
+    let early = DhcpV6DuidLinkLayerAddrPlusTime::new(rt.alloc(), 1, &[2], 5)?;
+    assert!(rt; early.time == 0);
+    Ok(())
+}
+
+#[test]
+fn a_vendor_gives_an_identifier(rt: HostRuntime) -> Result<(), Fail> {
+    let made = DhcpV6DuidEnterpriseNumber::new(rt.alloc(), 9, &[0xab])?;
+    let duid = DhcpV6Duid::EnterpriseNumber(made);
+    assert_eq!(rt;
+        bytes_of(rt.alloc(), &duid)?.as_slice(),
+        [0, 2, 0, 0, 0, 9, 0xab].as_slice()
+    );
+    assert!(rt; duid.try_clone(rt.alloc())? == duid);
+    Ok(())
+}
+
+// The bytes that the words 01020304, 05060708, 090a0b0c and 0d0e0f10 give.
+const RANDOM: [u8; 16] = [0, 255, 3, 4, 5, 6, 7, 8, 9, 10, 11, 12, 13, 14, 15, 16];
+
+#[test]
+fn an_identifier_is_made_of_four_random_words(rt: HostRuntime) -> Result<(), Fail> {
+    let mut words = WordList::new(vec![in rt.alloc();
+        0x01020304, 0x05060708, 0x090a0b0c, 0x0d0e0f10,
+    ]?);
+    let duid = DhcpV6Duid::random(rt.alloc(), &mut words)?;
+    assert_eq!(rt; bytes_of(rt.alloc(), &duid)?.as_slice(), RANDOM.as_slice());
+    assert!(rt; !duid.is_empty());
+    assert!(rt; DhcpV6Duid::Raw(Bytes::new(rt.alloc())).is_empty());
+    Ok(())
+}
