@@ -1,0 +1,10 @@
+pub mod AssociationLemmas
+pub mod ConfigLemmas
+pub mod Configs
+pub mod LawLemmas
+pub mod LeaseLemmas
+pub mod LimitLemmas
+pub mod OptionLemmas
+pub mod StandardFacts
+pub mod TableLemmas
+pub use Rattle.dhcp6_msg.proofs.LeaseLemmas.{server_is_short}

@@ -1,0 +1,10 @@
+-- The identifier that was made is set.
+use Rattle.std.proofs.Common.{ap}
+use Rattle.dhcp6_msg.specs.Config.{Config}
+use Rattle.dhcp6_msg.proofs.ConfigLemmas.{made_is_set}
+use Rattle.dhcp6_msg.proofs.config.DhcpV6Config.make_duid.Goals as goal
+
+pub returns : goal.returns
+returns g c =
+    made_is_set _ _ c.made_duid-made.result c.keep_duid.result _ c.args.self.now _
+    (ap (λ (config : Config). config.src_mac) c.self.view_is) c.keep_duid.ensures c.made_duid-made.ensures

@@ -1,0 +1,35 @@
+//! Laws of messages and of leases. A call does nothing.
+
+ghost use Rattle.std.specs.Prelude.{◌≡◌, ◌<◌, ◌^◌, ◌%◌, ℕ, List, Ok, Some, IsTrue, length};
+ghost use Rattle.dhcp6_msg.specs.declared.message.DhcpV6Message.{DhcpV6Message};
+ghost use Rattle.dhcp6_msg.specs.Config.{Config};
+ghost use Rattle.dhcp6_msg.specs.Lease.{Lease, is_within_limits, read_lease};
+ghost use Rattle.dhcp6_msg.specs.Message.{
+  id_bytes,
+  id_number,
+  ReadsBack,
+  read_message,
+};
+ghost use Rattle.dhcp6_msg.specs.MessageTable.{RowParts, table_message};
+
+/// A message reads back as it is written: with its type, its transaction id of three bytes, and the
+/// options that its options are written as. So does each message of the table.
+pub fn messages_read_back()
+    ensures any { (message : DhcpV6Message) → length message.xid ≡ 3 → ReadsBack message }
+    ensures built { (id : ℕ) (config : Config) (row : RowParts)
+        → ReadsBack (table_message id config row) }
+{}
+
+/// The lower 24 bits of a number read back as the transaction id that they are written as.
+pub fn ids_read_back()
+    ensures { (number : ℕ) → number < 2 ^ 32 → id_number (id_bytes number) ≡ number % 2 ^ 24 }
+{}
+
+/// A lease that is read from a payload is one that a client may hold: its times are in order, it
+/// has an address and a type, and its server's identifier has 2 to 65,535 bytes.
+pub fn leases_are_within_limits()
+    ensures { (payload : List ℕ) (message : DhcpV6Message) (lease : Lease)
+        → read_message payload ≡ Some message
+        → read_lease message ≡ Ok lease
+        → IsTrue (is_within_limits lease) }
+{}

@@ -1,0 +1,25 @@
+//! DHCPv6 messages, the configuration of a client, its lease, and the messages that it sends: RFC
+//! 8415 sections 8, 16, 18 and 21.
+#![tactic(auto)]
+
+mod config;
+pub mod laws;
+mod lease;
+mod message;
+mod message_table;
+mod message_type;
+mod mode;
+#[cfg(test)]
+mod tests;
+mod view;
+
+pub use config::DhcpV6Config;
+pub use laws::{ids_read_back, leases_are_within_limits, messages_read_back};
+pub use lease::DhcpV6Lease;
+pub use message::DhcpV6Message;
+pub use message_table::{
+    new_rebind_msg, new_release_msg, new_renew_msg, new_request_msg, new_solicit_msg,
+};
+pub use message_type::DhcpV6MessageType;
+pub use mode::{DhcpV6IaType, DhcpV6Mode};
+pub use view::DhcpV6View;

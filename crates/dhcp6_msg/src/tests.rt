@@ -1,0 +1,66 @@
+//! Configurations, leases and messages.
+
+mod configurations;
+mod leases;
+mod messages;
+
+use crate::{DhcpV6Config, DhcpV6Lease, DhcpV6Message, DhcpV6Mode};
+use dhcp_wire::{BufferMut, Bytes, DhcpError};
+use std::alloc::Global;
+
+// The MAC address of every configuration.
+const MAC: [u8; 6] = [2, 0, 0, 0, 0, 1];
+
+// The identifier of the client, option 1.
+const CLIENT: [u8; 14] = [0, 1, 0, 10, 0, 3, 0, 1, 2, 0, 0, 0, 0, 1];
+
+// The identifier of the server, option 2.
+const SERVER: [u8; 14] = [0, 2, 0, 10, 0, 3, 0, 1, 2, 0, 0, 0, 0, 2];
+
+// An identity association with an address, option 3: T1 50, T2 80, 2001:db8::10 for 100 and 200.
+const ASSOCIATION: [u8; 44] = [
+    0, 3, 0, 40, 0, 0, 0, 0, 0, 0, 0, 50, 0, 0, 0, 80, 0, 5, 0, 24, 0x20, 1, 0x0d, 0xb8, 0, 0, 0,
+    0, 0, 0, 0, 0, 0, 0, 0, 0x10, 0, 0, 0, 100, 0, 0, 0, 200,
+];
+
+// The codes of the options that are asked for, option 6.
+const REQUESTS: [u8; 6] = [0, 6, 0, 2, 0, 23];
+
+// The time since when the client tries, option 8.
+const ELAPSED: [u8; 6] = [0, 8, 0, 2, 0, 0];
+
+// The head of a Reply with transaction id 0.
+const REPLY: [u8; 4] = [7, 0, 0, 0];
+
+// Some bytes one after the other.
+fn joined(alloc: Global, parts: &[&[u8]]) -> Result<Bytes, DhcpError> {
+    let mut buf = BufferMut::new(alloc);
+    for part in parts {
+        buf.write_bytes(part)?;
+    }
+    Ok(buf.into_bytes())
+}
+
+// A Reply that grants an address.
+fn reply(alloc: Global) -> Result<Bytes, DhcpError> {
+    joined(alloc, &[&REPLY, &CLIENT, &SERVER, &ASSOCIATION])
+}
+
+// The lease of a payload.
+fn lease_of(alloc: Global, payload: &[u8]) -> Result<DhcpV6Lease, DhcpError> {
+    DhcpV6Lease::from_message(alloc, DhcpV6Message::parse(alloc, payload)?)
+}
+
+// The lease of that Reply.
+fn plain_lease(alloc: Global) -> Result<DhcpV6Lease, DhcpError> {
+    let payload = reply(alloc)?;
+    lease_of(alloc, payload.as_slice())
+}
+
+// A configuration that asks for an address and for name servers.
+fn plain_config(alloc: Global) -> Result<DhcpV6Config, DhcpError> {
+    let mut config = DhcpV6Config::new(alloc, "eth0", DhcpV6Mode::NonTemporaryAddresses)?;
+    config.set_duid_by_iface_mac(alloc, &MAC)?;
+    config.override_request_dhcp_opts(alloc, &[23])?;
+    Ok(config)
+}

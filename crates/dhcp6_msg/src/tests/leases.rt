@@ -1,0 +1,187 @@
+//! Leases, as they are read from messages.
+
+use super::{ASSOCIATION, CLIENT, REPLY, SERVER, joined, lease_of, plain_lease, reply};
+use crate::{DhcpV6IaType, DhcpV6Lease, DhcpV6Message};
+use dhcp_wire::ErrorKind;
+use std::alloc::Global;
+use std::test::Fail;
+
+// The bytes of the address that the plain Reply grants.
+const ADDRESS: [u8; 16] = [0x20, 1, 0x0d, 0xb8, 0, 0, 0, 0, 0, 0, 0, 0, 0, 0, 0, 0x10];
+
+// The lease of a Reply with these options.
+fn lease(alloc: Global, options: &[&[u8]]) -> Result<DhcpV6Lease, Fail> {
+    let payload = joined(alloc, options)?;
+    let bytes = joined(alloc, &[&REPLY, payload.as_slice()])?;
+    Ok(lease_of(alloc, bytes.as_slice())?)
+}
+
+// T1, T2 and the two lifetimes of a lease.
+fn times(lease: &DhcpV6Lease) -> (u32, u32, u32, u32) {
+    (
+        lease.t1_sec,
+        lease.t2_sec,
+        lease.preferred_time_sec,
+        lease.valid_time_sec,
+    )
+}
+
+#[test]
+fn a_reply_grants_its_address_and_times(rt: HostRuntime) -> Result<(), Fail> {
+    let lease = plain_lease(rt.alloc())?;
+    assert_eq!(rt; times(&lease), (50, 80, 100, 200));
+    assert!(rt; lease.address.octets() == ADDRESS && lease.prefix_len == 128);
+    assert!(rt; lease.ia_type == Some(DhcpV6IaType::NonTemporaryAddresses));
+    assert!(rt; lease.are_times_in_order() && lease.is_within_limits());
+    Ok(())
+}
+
+// How a Reply with these options gives no lease, if it gives none.
+fn refusal(alloc: Global, options: &[&[u8]]) -> Result<Option<ErrorKind>, Fail> {
+    let payload = joined(alloc, options)?;
+    let bytes = joined(alloc, &[&REPLY, payload.as_slice()])?;
+    kind_of(alloc, bytes.as_slice())
+}
+
+// How a payload gives no lease, if it gives none.
+fn kind_of(alloc: Global, payload: &[u8]) -> Result<Option<ErrorKind>, Fail> {
+    match lease_of(alloc, payload) {
+        Ok(_lease) => Ok(None),
+        Err(error) if error.kind() == ErrorKind::OutOfMemory => Err(Fail::from(error)),
+        Err(error) => Ok(Some(error.kind())),
+    }
+}
+
+// An IA_NA of 2001:db8::10 with these times: T1, T2, preferred and valid, below 256 each.
+fn association(alloc: Global, times: [u8; 4]) -> Result<DhcpV6Lease, Fail> {
+    let [t1, t2, preferred, valid] = times;
+    let ia = [
+        0, 3, 0, 40, 0, 0, 0, 9, 0, 0, 0, t1, 0, 0, 0, t2, 0, 5, 0, 24,
+    ];
+    let times = [0, 0, 0, preferred, 0, 0, 0, valid];
+    lease(alloc, &[&SERVER, &ia, &ADDRESS, &times])
+}
+
+#[test]
+fn a_time_of_zero_is_left_to_the_client(rt: HostRuntime) -> Result<(), Fail> {
+    let cases: [([u8; 4], (u32, u32, u32, u32)); 4] = [
+        ([0, 0, 101, 200], (50, 75, 101, 200)),
+        ([0, 90, 100, 200], (50, 90, 100, 200)),
+        ([10, 0, 100, 200], (10, 75, 100, 200)),
+        ([0, 0, 0, 200], (0, 0, 0, 200)),
+    ];
+    for (said, wanted) in cases {
+        assert_eq!(rt; times(&association(rt.alloc(), said)?), wanted);
+    }
+    Ok(())
+}
+
+#[test]
+fn a_message_without_server_status_or_order_gives_no_lease(rt: HostRuntime) -> Result<(), Fail> {
+    let invalid = Some(ErrorKind::InvalidDhcpMessage);
+    let failed = [0, 13, 0, 2, 0, 2];
+    let late_t1 = [0, 3, 0, 40, 0, 0, 0, 9, 0, 0, 0, 81, 0, 0, 0, 80];
+    let rest = &ASSOCIATION[16..];
+    let cases: [([&[u8]; 4], Option<ErrorKind>); 5] = [
+        ([&CLIENT, &SERVER, &ASSOCIATION, &[]], None),
+        ([&CLIENT, &ASSOCIATION, &[], &[]], invalid),
+        ([&CLIENT, &SERVER, &[], &[]], invalid),
+        (
+            [&CLIENT, &SERVER, &ASSOCIATION, &failed],
+            Some(ErrorKind::NoLease),
+        ),
+        ([&SERVER, &late_t1, rest, &[]], invalid),
+    ];
+    for (options, wanted) in cases {
+        assert!(rt; refusal(rt.alloc(), &options)? == wanted);
+    }
+    Ok(())
+}
+
+// The lease of the plain Reply with an IA_PD that has failed.
+fn lease_with_failed_prefix(alloc: Global) -> Result<DhcpV6Lease, Fail> {
+    let failed = [0, 25, 0, 12, 0xc1, 0xdb, 0x20, 0x5c, 0, 0, 0, 0, 0, 0, 0, 0];
+    lease(alloc, &[&CLIENT, &SERVER, &ASSOCIATION, &failed])
+}
+
+#[test]
+fn a_failed_association_gives_its_type_alone(rt: HostRuntime) -> Result<(), Fail> {
+    let lease = lease_with_failed_prefix(rt.alloc())?;
+    assert!(rt; lease.ia_type == Some(DhcpV6IaType::PrefixDelegation));
+    assert!(rt; lease.iaid == 0 && lease.address.octets() == ADDRESS && lease.prefix_len == 128);
+    Ok(())
+}
+
+#[test]
+fn a_lease_keeps_the_options_of_its_message(rt: HostRuntime) -> Result<(), Fail> {
+    let lease = lease_with_failed_prefix(rt.alloc())?;
+    assert!(rt; lease.get_option_raw(rt.alloc(), 23)?.is_none());
+    let servers = lease.get_option_raw(rt.alloc(), 2)?.ok_or("no server")?;
+    assert_eq!(rt; servers.len(), 1);
+    let first = servers.first().ok_or("no server")?;
+    assert!(rt; first.as_slice() == SERVER.as_slice());
+    Ok(())
+}
+
+#[test]
+fn temporary_addresses_and_prefixes_have_their_terms(rt: HostRuntime) -> Result<(), Fail> {
+    let temporary = [0, 4, 0, 32, 0, 0, 0, 5, 0, 5, 0, 24];
+    let lifetimes = [0, 0, 0, 1, 0, 0, 0, 2];
+    let lease = lease(rt.alloc(), &[&SERVER, &temporary, &ADDRESS, &lifetimes])?;
+    assert_eq!(rt; times(&lease), (0, 0, 86400, 604800));
+    assert!(rt; lease.iaid == 5 && lease.prefix_len == 128);
+    Ok(())
+}
+
+// The lease of a Reply with an IA_PD of 56 bits.
+fn prefix_lease(alloc: Global) -> Result<DhcpV6Lease, Fail> {
+    let ia = [
+        0, 25, 0, 41, 0, 0, 0, 6, 0, 0, 0, 0, 0, 0, 0, 0, 0, 26, 0, 25,
+    ];
+    let times = [0, 0, 0, 100, 0, 0, 0, 200, 56];
+    lease(alloc, &[&SERVER, &ia, &times, &ADDRESS])
+}
+
+#[test]
+fn a_prefix_has_its_length(rt: HostRuntime) -> Result<(), Fail> {
+    let lease = prefix_lease(rt.alloc())?;
+    assert_eq!(rt; times(&lease), (50, 75, 100, 200));
+    assert!(rt; lease.iaid == 6 && lease.prefix_len == 56 && lease.address.octets() == ADDRESS);
+    assert!(rt; lease.ia_type == Some(DhcpV6IaType::PrefixDelegation));
+    Ok(())
+}
+
+#[test]
+fn prefixes_of_a_reply_give_no_lease(rt: HostRuntime) -> Result<(), Fail> {
+    let alloc = rt.alloc();
+    let payload = reply(alloc)?;
+    for len in 0..payload.len() {
+        let part = &payload.as_slice()[..len];
+        assert!(rt;
+            kind_of(alloc, part)? == Some(ErrorKind::InvalidDhcpMessage),
+            "{len}"
+        );
+        assert!(rt;
+            DhcpV6Message::parse(alloc, part).is_ok() == (len >= 4),
+            "{len}"
+        );
+    }
+    Ok(())
+}
+
+#[test]
+fn a_lease_is_equal_to_its_copy_and_to_that_of_a_message_that_stays(
+    rt: HostRuntime,
+) -> Result<(), Fail> {
+    let lease = plain_lease(rt.alloc())?;
+    assert!(rt; lease.try_clone(rt.alloc())? == lease);
+    assert!(rt; is_read_again(rt.alloc(), &lease)?);
+    Ok(())
+}
+
+// Whether a lease is that of the plain Reply, which stays.
+fn is_read_again(alloc: Global, lease: &DhcpV6Lease) -> Result<bool, Fail> {
+    let payload = reply(alloc)?;
+    let message = DhcpV6Message::parse(alloc, payload.as_slice())?;
+    Ok(DhcpV6Lease::new_from_msg(alloc, &message)? == *lease)
+}

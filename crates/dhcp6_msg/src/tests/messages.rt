@@ -1,0 +1,281 @@
+//! Messages, byte by byte.
+
+ghost use Rattle.std.specs.Prelude.{◌≤◌, IsTrue, length};
+ghost use Rattle.dhcp6_opt.specs.Duid.{written_duid};
+ghost use Rattle.dhcp6_msg.specs.Config.{is_within_limits};
+
+use super::{
+    ASSOCIATION, CLIENT, ELAPSED, REQUESTS, SERVER, joined, plain_config, plain_lease, reply,
+};
+use crate::{
+    DhcpV6Config, DhcpV6Lease, DhcpV6Message, DhcpV6MessageType, DhcpV6Mode, DhcpV6View,
+    new_rebind_msg, new_release_msg, new_renew_msg, new_request_msg, new_solicit_msg,
+};
+use dhcp_wire::{Bytes, DhcpError, ErrorKind};
+use dhcp6_opt::DhcpV6OptionCode;
+use std::alloc::Global;
+use std::test::Fail;
+
+// The five messages, and the Solicit of another mode.
+#[derive(Clone, Copy)]
+enum Sent {
+    Solicit,
+    Request,
+    Renew,
+    Rebind,
+    Release,
+}
+
+// One of the five messages.
+fn message(
+    alloc: Global,
+    config: &DhcpV6Config,
+    lease: &DhcpV6Lease,
+    sent: Sent,
+) -> Result<DhcpV6Message, DhcpError>
+    requires limits { IsTrue (is_within_limits config.now) }
+    requires server { length (written_duid lease.now.srv_duid) ≤ 65535 }
+{
+    match sent {
+        Sent::Solicit => new_solicit_msg(alloc, 0xabcdef, config, 0, 0),
+        Sent::Request => new_request_msg(alloc, 0, config, 0, lease),
+        Sent::Renew => new_renew_msg(alloc, 0, config, 0, lease),
+        Sent::Rebind => new_rebind_msg(alloc, 0, config, 0, lease),
+        Sent::Release => new_release_msg(alloc, 0, config, lease),
+    }
+}
+
+// The bytes of one of the five messages.
+fn bytes_of(
+    alloc: Global,
+    config: &DhcpV6Config,
+    lease: &DhcpV6Lease,
+    sent: Sent,
+) -> Result<Bytes, Fail> {
+    if !config.is_within_limits() || lease.srv_duid.written_len() > 65535 {
+        return Err(Fail::from("the configuration or the lease is outside its limits"));
+    }
+    Ok(message(alloc, config, lease, sent)?.emit(alloc)?)
+}
+
+// The bytes of one of the five messages, of the plain configuration and lease.
+fn plain_bytes(alloc: Global, sent: Sent) -> Result<Bytes, Fail> {
+    let lease = plain_lease(alloc)?;
+    let config = plain_config(alloc)?;
+    bytes_of(alloc, &config, &lease, sent)
+}
+
+#[test]
+fn each_message_is_its_row_byte_by_byte(rt: HostRuntime) -> Result<(), Fail> {
+    let alloc = rt.alloc();
+    let empty = [0, 3, 0, 12, 0, 0, 0, 0, 0, 0, 0, 0, 0, 0, 0, 0];
+    let cases: [(Sent, [&[u8]; 6]); 5] = [
+        (
+            Sent::Solicit,
+            [
+                &[1, 0xab, 0xcd, 0xef],
+                &CLIENT,
+                &[],
+                &empty,
+                &REQUESTS,
+                &ELAPSED,
+            ],
+        ),
+        (
+            Sent::Request,
+            [
+                &[3, 0, 0, 0],
+                &CLIENT,
+                &SERVER,
+                &ASSOCIATION,
+                &REQUESTS,
+                &ELAPSED,
+            ],
+        ),
+        (
+            Sent::Renew,
+            [
+                &[5, 0, 0, 0],
+                &CLIENT,
+                &SERVER,
+                &ASSOCIATION,
+                &REQUESTS,
+                &ELAPSED,
+            ],
+        ),
+        (
+            Sent::Rebind,
+            [
+                &[6, 0, 0, 0],
+                &CLIENT,
+                &[],
+                &ASSOCIATION,
+                &REQUESTS,
+                &ELAPSED,
+            ],
+        ),
+        (
+            Sent::Release,
+            [&[8, 0, 0, 0], &CLIENT, &SERVER, &ASSOCIATION, &[], &ELAPSED],
+        ),
+    ];
+    for (sent, parts) in cases {
+        assert!(rt; plain_bytes(alloc, sent)? == joined(alloc, &parts)?);
+    }
+    Ok(())
+}
+
+// The bytes of a Solicit of this mode.
+fn solicit(alloc: Global, mode: DhcpV6Mode) -> Result<Bytes, Fail> {
+    let mut config = plain_config(alloc)?;
+    config.mode = mode;
+    let lease = DhcpV6Lease::empty(alloc);
+    bytes_of(alloc, &config, &lease, Sent::Solicit)
+}
+
+#[test]
+fn a_solicit_asks_for_what_its_mode_says(rt: HostRuntime) -> Result<(), Fail> {
+    let alloc = rt.alloc();
+    let head = [1, 0xab, 0xcd, 0xef];
+    let temporary = [0, 4, 0, 4, 0, 0, 0, 0];
+    let hint = [
+        0, 25, 0, 41, 0, 0, 0, 0, 0, 0, 0, 0, 0, 0, 0, 0, 0, 26, 0, 25, 0, 0, 0, 0, 0, 0, 0, 0, 60,
+    ];
+    let wanted = joined(alloc, &[&head, &CLIENT, &temporary, &REQUESTS, &ELAPSED])?;
+    assert!(rt; solicit(alloc, DhcpV6Mode::TemporaryAddresses)? == wanted);
+    let wanted = joined(
+        alloc,
+        &[&head, &CLIENT, &REQUESTS, &ELAPSED, &hint, &[0; 16]],
+    )?;
+    assert!(rt; solicit(alloc, DhcpV6Mode::PrefixDelegation(60))? == wanted);
+    Ok(())
+}
+
+// The bytes of a message after so many milliseconds.
+fn tried_for(alloc: Global, elapsed_ms: u64) -> Result<Bytes, Fail> {
+    let config = plain_config(alloc)?;
+    if config.duid.written_len() > 65535 {
+        return Err(Fail::from("the identifier is too long"));
+    }
+    let message = DhcpV6Message::new(
+        alloc,
+        DhcpV6MessageType::Solicit,
+        7,
+        &config.duid,
+        elapsed_ms,
+    )?;
+    Ok(message.emit(alloc)?)
+}
+
+#[test]
+fn a_long_time_is_written_as_the_greatest(rt: HostRuntime) -> Result<(), Fail> {
+    let alloc = rt.alloc();
+    let cases: [(u64, [u8; 2]); 4] = [
+        (655_349, [0xff, 0xfe]),
+        (655_350, [0xff, 0xff]),
+        (655_360, [0xff, 0xff]),
+        (u64::MAX, [0xff, 0xff]),
+    ];
+    for (elapsed_ms, written) in cases {
+        let wanted = joined(alloc, &[&[1, 0, 0, 7], &CLIENT, &[0, 8, 0, 2], &written])?;
+        assert!(rt; tried_for(alloc, elapsed_ms)? == wanted);
+    }
+    Ok(())
+}
+
+// Whether a message has an option of this code.
+fn has(message: &DhcpV6Message, code: u16) -> bool {
+    message
+        .options
+        .get_first(DhcpV6OptionCode::from(code))
+        .is_some()
+}
+
+#[test]
+fn a_view_shows_type_and_id_and_copies_three_options(rt: HostRuntime) -> Result<(), Fail> {
+    let alloc = rt.alloc();
+    let payload = reply(alloc)?;
+    let view = DhcpV6View::new(payload.as_slice()).ok_or("no message")?;
+    assert!(rt; view.msg_type() == DhcpV6MessageType::Reply);
+    assert_eq!(rt; view.xid(), 0);
+    let message = view.to_message(alloc)?;
+    assert!(rt; has(&message, 1) && has(&message, 2) && has(&message, 3));
+    assert!(rt; message.emit(alloc)? == payload);
+    Ok(())
+}
+
+#[test]
+fn a_truncated_option_ends_the_reading(rt: HostRuntime) -> Result<(), Fail> {
+    let alloc = rt.alloc();
+    let payload = joined(
+        alloc,
+        &[&[7, 1, 2, 3, 0, 1, 1, 0, 0, 3], &SERVER, &ASSOCIATION],
+    )?;
+    let message = DhcpV6Message::parse(alloc, payload.as_slice())?;
+    assert_eq!(rt; message.xid(), 0x010203);
+    assert!(rt; !has(&message, 1) && !has(&message, 2) && !has(&message, 3));
+    Ok(())
+}
+
+// How a payload is refused, if it is.
+fn refusal(alloc: Global, payload: &[u8]) -> Result<Option<ErrorKind>, Fail> {
+    match DhcpV6Message::parse(alloc, payload) {
+        Ok(_message) => Ok(None),
+        Err(error) if error.kind() == ErrorKind::OutOfMemory => Err(Fail::from(error)),
+        Err(error) => Ok(Some(error.kind())),
+    }
+}
+
+#[test]
+fn a_payload_is_refused_by_its_length_and_its_type(rt: HostRuntime) -> Result<(), Fail> {
+    let cases: [(&[u8], Option<ErrorKind>); 7] = [
+        (&[], Some(ErrorKind::InvalidDhcpMessage)),
+        (&[0], Some(ErrorKind::NotSupported)),
+        (&[14, 0, 0, 0], Some(ErrorKind::NotSupported)),
+        (&[7], Some(ErrorKind::InvalidDhcpMessage)),
+        (&[7, 0, 0], Some(ErrorKind::InvalidDhcpMessage)),
+        (&[7, 0, 0, 0], None),
+        (&[13, 0, 0, 0], None),
+    ];
+    for (payload, wanted) in cases {
+        assert!(rt; refusal(rt.alloc(), payload)? == wanted);
+    }
+    Ok(())
+}
+
+// The message of the plain lease, of which the server and the association are taken over.
+fn loaded(alloc: Global) -> Result<Bytes, Fail> {
+    let lease = plain_lease(alloc)?;
+    if lease.srv_duid.written_len() > 65535 {
+        return Err(Fail::from("the identifier is too long"));
+    }
+    let mut message = DhcpV6Message::parse(alloc, &[3, 0, 0, 9])?;
+    message.load_lease(alloc, &lease)?;
+    Ok(message.emit(alloc)?)
+}
+
+#[test]
+fn a_message_takes_over_server_and_association(rt: HostRuntime) -> Result<(), Fail> {
+    let wanted = joined(rt.alloc(), &[&[3, 0, 0, 9], &SERVER, &ASSOCIATION])?;
+    assert!(rt; loaded(rt.alloc())? == wanted);
+    Ok(())
+}
+
+#[test]
+fn a_copy_of_a_message_is_equal(rt: HostRuntime) -> Result<(), Fail> {
+    let payload = reply(rt.alloc())?;
+    let message = DhcpV6Message::parse(rt.alloc(), payload.as_slice())?;
+    assert!(rt; message.try_clone(rt.alloc())? == message);
+    Ok(())
+}
+
+#[test]
+fn types_and_modes_are_printed_by_name(rt: HostRuntime) -> Result<(), Fail> {
+    let alloc = rt.alloc();
+    let kind = format!(in alloc; "{}", DhcpV6MessageType::InformationRequest)?;
+    assert_eq!(rt; kind.as_str(), "\"Information-request\"");
+    let mode = format!(in alloc; "{}", DhcpV6Mode::PrefixDelegation(56))?;
+    assert_eq!(rt; mode.as_str(), "Prefix Delegation(IA_PD)-56");
+    assert!(rt; u8::from(DhcpV6MessageType::RelayReply) == 13);
+    Ok(())
+}
