@@ -1,0 +1,9 @@
+pub mod Clear
+pub mod DemoLaws
+pub mod FieldLemmas
+pub mod Lease4Laws
+pub mod LifeLaws
+pub mod OutputLemmas
+pub mod PrintLemmas
+pub mod ScriptLaws
+pub mod Utf8

@@ -1,0 +1,50 @@
+-- Scripts of a client, of either family: their limits and their texts.
+use Rattle.std.specs.Prelude.{◌≡◌, ℕ, Bool, List, Option, Some, None, Result, Ok, Err}
+use Rattle.dhcp_wire.specs.Error.{ErrorParts, no_memory}
+use Rattle.dhcp_script.specs.declared.script.Script.{Script}
+use Rattle.dhcp_script.specs.declared.script.Script.TheVariants.{V4}
+use Rattle.dhcp_script.specs.declared.version.Version.{Version}
+use Rattle.dhcp_script.specs.declared.version.Version.TheVariants.{One, Two}
+use Rattle.dhcp_script.specs.Script4 as v4
+use Rattle.dhcp_script.specs.Script4.{IsScript4, script4_text}
+
+-- whether a script is valid
+abbrev pub is_valid : Script → Bool
+is_valid (V4 script) = v4.is_valid script
+
+-- the text of a script in a version
+abbrev pub text_in : Version → Script → List ℕ
+text_in version (V4 script) = script4_text version script
+
+-- a script that has a text in a version
+abbrev pub HasTextIn : Version → Script → Type 0
+HasTextIn version (V4 script) = IsScript4 version script
+
+-- the text of a script: that of version 2
+abbrev pub script_text : Script → List ℕ
+script_text script = text_in Two script
+
+-- a script whose numbers fit their types
+abbrev pub IsScript : Script → Type 0
+IsScript script = HasTextIn Two script
+
+-- the version 1 text of a script
+abbrev pub script_text_v1 : Script → List ℕ
+script_text_v1 script = text_in One script
+
+-- the same, whose lease, if there is one, has the addresses and times alone
+abbrev pub IsScriptV1 : Script → Type 0
+IsScriptV1 script = HasTextIn One script
+
+-- What an upgrade of a text returns: the text of the script that has this text in version 1; none
+-- if no script has.
+abbrev pub IsUpgrade : Option (List ℕ) → List ℕ → Type 0
+IsUpgrade (Some new) old =
+    (script : Script) × IsScriptV1 script × (script_text_v1 script ≡ old)
+    × (script_text script ≡ new)
+IsUpgrade None old = (script : Script) → IsScriptV1 script → script_text_v1 script ≡ old → ⊥
+
+-- The same, or out of memory.
+abbrev pub GivesUpgrade : Result (Option (List ℕ)) ErrorParts → List ℕ → Type 0
+GivesUpgrade (Ok answer) old = IsUpgrade answer old
+GivesUpgrade (Err e) old = e ≡ no_memory

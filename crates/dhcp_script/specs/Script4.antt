@@ -1,0 +1,113 @@
+-- Scripts of an IPv4 client: their limits, the configuration that they give, and their text.
+use Rattle.std.specs.Prelude.{◌≡◌, Result, Ok, Err, ℕ, ◌==◌, ◌<◌, ◌^◌, Bool, true, ◌&&◌, not, nat_le, List, [], ◌∷◌, ◌++◌, length, codes, Option, Some, None, IfSome}
+use Rattle.std.specs.List.{list_any}
+use Rattle.std.specs.Str.{is_utf8}
+use Rattle.std.specs.Fmt.{decimal}
+use Rattle.hex.specs.Hex.{IsBytes, encode_lower}
+use Rattle.dhcp_stream.specs.HexText.{IsMac, hex_text}
+use Rattle.dhcp_stream.specs.Line.{line}
+use Rattle.dhcp4_msg.specs.declared.option_code.DhcpV4OptionCode.{DhcpV4OptionCode}
+use Rattle.dhcp_wire.specs.Error.{ErrorParts, no_memory}
+use Rattle.dhcp4_lease.specs.Config as configs
+use Rattle.dhcp4_lease.specs.Config.{Config, rising_codes}
+use Rattle.dhcp_script.specs.declared.lease4.Lease4.{Lease4}
+use Rattle.dhcp_script.specs.declared.script4.Script4.{Script4}
+use Rattle.dhcp_script.specs.Event.{are_valid}
+use Rattle.dhcp_script.specs.Field.{flag_text, or_word, spaced, unless_none}
+use Rattle.dhcp_script.specs.declared.version.Version.{Version}
+use Rattle.dhcp_script.specs.Lease4.{are_times_in_order, versioned_lease_text, HasLeaseText}
+use Rattle.dhcp_script.specs.Life.{IsLife, life_text}
+use Rattle.dhcp_script.specs.Version.{first_line4}
+
+-- how many bytes a host name, a client identifier and a list of codes have at most
+abbrev pub most_host_bytes : ℕ
+most_host_bytes = 254
+
+abbrev pub most_client_bytes : ℕ
+most_client_bytes = 255
+
+abbrev pub most_codes : ℕ
+most_codes = 255
+
+-- whether bytes are a host name: UTF-8 without a zero byte, at most 254 bytes
+abbrev pub is_host_name : List ℕ → Bool
+is_host_name host =
+    nat_le (length host) most_host_bytes && not (list_any (λ byte. byte == 0) host) && is_utf8 host
+
+-- whether the codes that are listed, if any are, are not too many
+abbrev pub are_few : Option (List ℕ) → Bool
+are_few None = true
+are_few (Some listed) = nat_le (length listed) most_codes
+
+-- whether the times of a lease, if there is one, are in order
+abbrev pub is_in_order : Option Lease4 → Bool
+is_in_order None = true
+is_in_order (Some lease) = are_times_in_order lease
+
+-- Whether a script is valid: its interface is not 0; its host name, client identifier, codes and
+-- lease are within their limits; so are its start and its events.
+unfoldable pub is_valid : Script4 → Bool
+is_valid script =
+    not (script.iface_index == 0) && is_host_name script.host
+    && nat_le (length script.client) most_client_bytes && are_few script.codes
+    && is_in_order script.lease && are_valid script.start script.events
+
+-- the options that a configuration asks for: those listed, in rising order and each once; else
+-- those of a new configuration
+abbrev pub requested : Option (List ℕ) → List DhcpV4OptionCode → List DhcpV4OptionCode
+requested None usual = usual
+requested (Some listed) usual = rising_codes listed
+
+-- what was put into a configuration makes it this one, unless out of memory
+abbrev pub PutsConfig : {X : Type 0} → Result X ErrorParts → Config → Config → Type 0
+PutsConfig (Ok _) config expected = config ≡ expected
+PutsConfig (Err e) config expected = e ≡ no_memory
+
+-- the configuration of the script's client; the interface has no name
+unfoldable pub config_of : Script4 → Config
+config_of script = record (configs.config_of []) {
+  iface_index = script.iface_index;
+  is_proxy = script.is_proxy;
+  timeout_sec = script.timeout_sec;
+  src_mac = script.mac;
+  client_id = script.client;
+  host_name = script.host;
+  request_opts = requested script.codes (configs.config_of []).request_opts;
+}
+
+-- the codes: those listed, or the word `default`
+abbrev pub codes_text : Option (List ℕ) → List ℕ
+codes_text listed = or_word (codes "default") hex_text listed
+
+-- the interface
+abbrev pub iface_text : Script4 → List ℕ
+iface_text script =
+    spaced (decimal script.iface_index ∷ encode_lower script.mac
+    ∷ flag_text (codes "1") (codes "0") script.is_proxy ∷ decimal script.timeout_sec ∷ [])
+
+-- the lines up to that of the client identifier
+abbrev pub first_lines : Version → Script4 → List ℕ
+first_lines version script =
+    first_line4 version
+    ++ line (codes "iface " ++ iface_text script)
+    ++ line (codes "host " ++ hex_text script.host)
+    ++ line (codes "client " ++ hex_text script.client)
+
+-- the text of a script in a version
+unfoldable pub script4_text : Version → Script4 → List ℕ
+script4_text version script =
+    first_lines version script
+    ++ line (codes "codes " ++ codes_text script.codes)
+    ++ line (codes "lease " ++ unless_none (versioned_lease_text version) script.lease)
+    ++ life_text script.words script.start script.events
+
+-- a script that has a text in a version: one whose numbers fit their types
+pub record IsScript4 (version : Version) (script : Script4) : Type 0 where
+  pub iface_index : script.iface_index < 2 ^ 32
+  pub mac : IsMac script.mac
+  pub timeout_sec : script.timeout_sec < 2 ^ 32
+  pub host : IsBytes script.host
+  pub client : IsBytes script.client
+  pub codes : IfSome script.codes IsBytes
+  pub lease : IfSome script.lease (HasLeaseText version)
+  pub life : IsLife script.words script.start script.events

@@ -1,0 +1,308 @@
+//! Fields of a line: how their values are read.
+
+ghost use Rattle.std.specs.Prelude.{◌≡◌, ◌≤◌, [], ◌∷◌, ◌++◌, codes, IfOk, OnOk, string_bytes};
+ghost use Rattle.std.specs.List.{flat_map};
+ghost use Rattle.dhcp_stream.specs.TextReader.{hex_in, in_field, number_in, Finds, Takes};
+ghost use Rattle.dhcp_script.specs.FieldReader.{flag_in, items_in};
+
+use crate::hex_text::push_hex;
+use dhcp_stream::{ReadError, TextReader, cut_field, found, hex_field, ipv4_field, number_field};
+use dhcp_wire::{Bytes, Sequence, Text};
+use dhcp4_msg::DhcpV4ClasslessRoute;
+use std::alloc::{AllocError, Global};
+use std::net::Ipv4Addr;
+
+/// A value that a field has.
+pub trait Field: Drop {
+    ghost use Rattle.std.specs.Prelude.{ℕ, List, Option};
+
+    /// The value of a field, if it has one.
+    ghost value_in: { List ℕ → Option Self };
+
+    /// The text of a value.
+    ghost field_text: { Self → List ℕ };
+
+    /// The value of a field.
+    fn from_field(alloc: Global, field: &[u8]) -> Result<Self, ReadError>
+        ensures { Finds result (value_in field.now) };
+
+    /// Puts the value at the end of a text.
+    fn push_to(&self, text: &mut String) -> Result<(), AllocError>
+        ensures { OnOk result
+            (string_bytes text.new ≡ string_bytes text.old ++ field_text self.now) };
+}
+
+impl Field for Ipv4Addr {
+    ghost use Rattle.dhcp_stream.specs.Number.{address_text};
+    ghost use Rattle.dhcp_stream.specs.TextReader.{address_in};
+
+    ghost value_in = { address_in };
+
+    ghost field_text = { address_text };
+
+    fn from_field(_alloc: Global, field: &[u8]) -> Result<Self, ReadError> {
+        ipv4_field(field).ok_or(ReadError::Malformed)
+    }
+
+    fn push_to(&self, text: &mut String) -> Result<(), AllocError> {
+        let address = *self;
+        write!(text, "{address}")
+    }
+}
+
+impl Field for u32 {
+    ghost use Rattle.std.specs.Fmt.{decimal};
+    ghost use Rattle.dhcp_stream.specs.TextReader.{number_in};
+
+    ghost value_in = { number_in 4294967295 };
+
+    ghost field_text = { decimal };
+
+    fn from_field(_alloc: Global, field: &[u8]) -> Result<Self, ReadError> {
+        Ok(number(field, u64::from(u32::MAX))? as u32)
+    }
+
+    fn push_to(&self, text: &mut String) -> Result<(), AllocError> {
+        let number = *self;
+        write!(text, "{number}")
+    }
+}
+
+impl Field for u16 {
+    ghost use Rattle.std.specs.Fmt.{decimal};
+    ghost use Rattle.dhcp_stream.specs.TextReader.{number_in};
+
+    ghost value_in = { number_in 65535 };
+
+    ghost field_text = { decimal };
+
+    fn from_field(_alloc: Global, field: &[u8]) -> Result<Self, ReadError> {
+        Ok(number(field, u64::from(u16::MAX))? as u16)
+    }
+
+    fn push_to(&self, text: &mut String) -> Result<(), AllocError> {
+        let number = *self;
+        write!(text, "{number}")
+    }
+}
+
+impl Field for u8 {
+    ghost use Rattle.std.specs.Fmt.{decimal};
+    ghost use Rattle.dhcp_stream.specs.TextReader.{number_in};
+
+    ghost value_in = { number_in 255 };
+
+    ghost field_text = { decimal };
+
+    fn from_field(_alloc: Global, field: &[u8]) -> Result<Self, ReadError> {
+        Ok(number(field, u64::from(u8::MAX))? as u8)
+    }
+
+    fn push_to(&self, text: &mut String) -> Result<(), AllocError> {
+        let number = *self;
+        write!(text, "{number}")
+    }
+}
+
+impl Field for Text {
+    ghost use Rattle.dhcp_stream.specs.HexText.{hex_text};
+    ghost use Rattle.dhcp_stream.specs.TextReader.{hex_utf8_in};
+
+    ghost value_in = { hex_utf8_in };
+
+    ghost field_text = { hex_text };
+
+    fn from_field(alloc: Global, field: &[u8]) -> Result<Self, ReadError> {
+        let bytes = hex(alloc, field)?;
+        match String::from_utf8(bytes.into_vec()) {
+            Ok(text) => Ok(Text::from(text)),
+            Err(_) => Err(ReadError::Malformed),
+        }
+    }
+
+    fn push_to(&self, text: &mut String) -> Result<(), AllocError> {
+        push_hex(text, self.as_str().as_bytes())
+    }
+}
+
+impl Field for DhcpV4ClasslessRoute {
+    ghost use Rattle.dhcp_script.specs.Lease4.{route_text};
+    ghost use Rattle.dhcp_script.specs.FieldReader.{route_in};
+
+    ghost value_in = { route_in };
+
+    ghost field_text = { route_text };
+
+    #[tactic(auto, unfolding(crate::specs::FieldReader::route_in))]
+    fn from_field(alloc: Global, field: &[u8]) -> Result<Self, ReadError> {
+        let Some((destination, rest)) = cut_field(field, b'/') else {
+            return Err(ReadError::Malformed);
+        };
+        let destination = Ipv4Addr::from_field(alloc, destination)?;
+        let Some((prefix_length, router)) = cut_field(rest, b'/') else {
+            return Err(ReadError::Malformed);
+        };
+        let prefix_length = u8::from_field(alloc, prefix_length)?;
+        let router = Ipv4Addr::from_field(alloc, router)?;
+        Ok(DhcpV4ClasslessRoute {
+            destination,
+            prefix_length,
+            router,
+        })
+    }
+
+    fn push_to(&self, text: &mut String) -> Result<(), AllocError> {
+        let DhcpV4ClasslessRoute {
+            destination,
+            prefix_length,
+            router,
+        } = *self;
+        write!(text, "{destination}/{prefix_length}/{router}")
+    }
+}
+
+impl<T: Field> Field for Option<T> {
+    ghost use Rattle.dhcp_script.specs.Field.{unless_none};
+    ghost use Rattle.std.specs.Prelude.{codes};
+    ghost use Rattle.dhcp_script.specs.FieldReader.{word_or};
+
+    ghost value_in = { word_or (codes "none") T.value_in };
+
+    ghost field_text = { unless_none T.field_text };
+
+    fn from_field(alloc: Global, field: &[u8]) -> Result<Self, ReadError> {
+        if field == b"none".as_slice() {
+            return Ok(None);
+        }
+        Ok(Some(T::from_field(alloc, field)?))
+    }
+
+    fn push_to(&self, text: &mut String) -> Result<(), AllocError> {
+        match self {
+            None => text.push_str("none"),
+            Some(value) => value.push_to(text),
+        }
+    }
+}
+
+impl<T: Field> Field for Sequence<T> {
+    ghost use Rattle.dhcp_script.specs.Field.{list_text};
+    ghost use Rattle.dhcp_script.specs.FieldReader.{list_in};
+
+    ghost value_in = { list_in T.value_in };
+
+    ghost field_text = { list_text T.field_text };
+
+    fn from_field(alloc: Global, field: &[u8]) -> Result<Self, ReadError> {
+        if field == b"-".as_slice() {
+            return Ok(Sequence::new(alloc));
+        }
+        items(alloc, field)
+    }
+
+    fn push_to(&self, text: &mut String) -> Result<(), AllocError> {
+        match self.as_slice().split_first() {
+            None => text.push('-'),
+            Some((first, rest)) => {
+                first.push_to(text)?;
+                push_after_commas(text, rest)
+            }
+        }
+    }
+}
+
+// A decimal number, at most `max`.
+fn number(field: &[u8], max: u64) -> Result<u64, ReadError>
+    ensures value { Finds result (number_in max field.now) }
+    ensures small { IfOk result (λ number. number ≤ max) }
+{
+    number_field(field, max).ok_or(ReadError::Malformed)
+}
+
+/// Bytes in hex; `-` is none.
+pub fn hex(alloc: Global, field: &[u8]) -> Result<Bytes, ReadError>
+    ensures { Finds result (hex_in field.now) }
+{
+    found(hex_field(alloc, field))
+}
+
+// The items of a list that is not empty, with commas between them.
+fn items<T: Field>(alloc: Global, field: &[u8]) -> Result<Sequence<T>, ReadError>
+    ensures { Finds result (items_in T.value_in field.now) }
+{
+    let mut items = Vec::new(alloc);
+    let mut left = field;
+    while let Some((item, rest)) = cut_field(left, b',') {
+        items.push(T::from_field(alloc, item)?)?;
+        left = rest;
+    }
+    items.push(T::from_field(alloc, left)?)?;
+    Ok(Sequence::from(items))
+}
+
+// Puts items at the end of a text, each after a comma.
+fn push_after_commas<T: Field>(text: &mut String, items: &[T]) -> Result<(), AllocError>
+    ensures { OnOk result
+        (string_bytes text.new ≡ string_bytes text.old
+        ++ flat_map (λ item. 44 ∷ T.field_text item) items.now) }
+{
+    for item in items {
+        text.push(',')?;
+        item.push_to(text)?;
+    }
+    Ok(())
+}
+
+/// Puts three fields at the end of a text, with single spaces between them.
+pub fn push_three<A: Field, B: Field, C: Field>(
+    text: &mut String,
+    first: &A,
+    second: &B,
+    third: &C,
+) -> Result<(), AllocError>
+    ensures { OnOk result (string_bytes text.new ≡ string_bytes text.old
+        ++ (A.field_text first.now ++ 32 ∷ (B.field_text second.now
+        ++ 32 ∷ C.field_text third.now))) }
+{
+    first.push_to(text)?;
+    text.push(' ')?;
+    second.push_to(text)?;
+    text.push(' ')?;
+    third.push_to(text)
+}
+
+/// The same, with a space after them.
+pub fn push_three_more<A: Field, B: Field, C: Field>(
+    text: &mut String,
+    first: &A,
+    second: &B,
+    third: &C,
+) -> Result<(), AllocError>
+    ensures { OnOk result (string_bytes text.new ≡ string_bytes text.old
+        ++ (A.field_text first.now ++ 32 ∷ (B.field_text second.now
+        ++ 32 ∷ (C.field_text third.now ++ 32 ∷ [])))) }
+{
+    push_three(text, first, second, third)?;
+    text.push(' ')
+}
+
+/// Reads the field before the next such byte.
+pub fn read_field<T: Field>(alloc: Global, text: &mut TextReader, end: u8) -> Result<T, ReadError>
+    ensures { Takes result text.new (in_field T.value_in end text.old) }
+{
+    let field = text.field(end)?;
+    T::from_field(alloc, field)
+}
+
+/// Whether a field is one word or the other.
+pub fn flag(field: &[u8], set: &[u8], unset: &[u8]) -> Result<bool, ReadError>
+    ensures { Finds result (flag_in set.now unset.now field.now) }
+{
+    if field == set {
+        Ok(true)
+    } else if field == unset {
+        Ok(false)
+    } else {
+        Err(ReadError::Malformed)
+    }
+}

@@ -1,0 +1,131 @@
+//! The lease that an IPv4 script begins with.
+
+pub mod printer;
+pub mod reader;
+
+ghost use Rattle.std.specs.Prelude.{◌≡◌, option_copied};
+ghost use Rattle.dhcp_wire.specs.Outcome.{Makes};
+ghost use Rattle.dhcp_script.specs.Lease4 as leases;
+ghost use Rattle.dhcp_script.specs.Lease4.{Puts};
+
+use dhcp_wire::{DhcpError, Sequence, Text};
+use dhcp4_lease::DhcpV4Lease;
+use dhcp4_msg::DhcpV4ClasslessRoute;
+use std::alloc::Global;
+use std::net::Ipv4Addr;
+
+/// The fields of an IPv4 lease that its text has: all public ones but the MAC address of the
+/// server. Times are in seconds from the acknowledgement of the lease.
+#[derive(Debug, PartialEq, Drop)]
+pub struct Lease4 {
+    /// The address that is leased.
+    pub yiaddr: Ipv4Addr,
+    /// The next server.
+    pub siaddr: Ipv4Addr,
+    /// The server identifier; 0.0.0.0 is none.
+    pub srv_id: Ipv4Addr,
+    /// T1: when it is renewed.
+    pub t1_sec: u32,
+    /// T2: when it is rebound.
+    pub t2_sec: u32,
+    /// When it ends.
+    pub lease_time_sec: u32,
+    /// The subnet mask; 0.0.0.0 is none.
+    pub subnet_mask: Ipv4Addr,
+    /// The broadcast address.
+    pub broadcast_addr: Option<Ipv4Addr>,
+    /// The MTU of the interface, in bytes.
+    pub mtu: Option<u16>,
+    /// The domain name servers.
+    pub dns_srvs: Option<Sequence<Ipv4Addr>>,
+    /// The routers.
+    pub gateways: Option<Sequence<Ipv4Addr>>,
+    /// The NTP servers.
+    pub ntp_srvs: Option<Sequence<Ipv4Addr>>,
+    /// The host name.
+    pub host_name: Option<Text>,
+    /// The domain name.
+    pub domain_name: Option<Text>,
+    /// The classless static routes.
+    pub classless_routes: Option<Sequence<DhcpV4ClasslessRoute>>,
+}
+
+impl Lease4 {
+    /// Whether its times are in order: T1 <= T2 <= the end of the lease.
+    pub fn are_times_in_order(&self) -> bool
+        ensures { result ≡ leases.are_times_in_order self.now }
+    {
+        self.t1_sec <= self.t2_sec && self.t2_sec <= self.lease_time_sec
+    }
+
+    /// The lease with these fields; its other fields are those of the empty lease. Out of memory is
+    /// the only error.
+    #[tactic(auto, unfolding(crate::specs::Lease4::lease_with))]
+    pub fn to_lease(&self, alloc: Global) -> Result<DhcpV4Lease, DhcpError>
+        ensures { Makes (λ lease. lease) result (leases.lease_with self.now) }
+    {
+        let mut lease = DhcpV4Lease::empty(alloc);
+        self.put_numbers(&mut lease);
+        self.put_servers(alloc, &mut lease)?;
+        self.put_names(alloc, &mut lease)?;
+        Ok(lease)
+    }
+
+    // Puts its addresses, its times and its MTU into a lease.
+    fn put_numbers(&self, lease: &mut DhcpV4Lease)
+        ensures { lease.new ≡ leases.with_numbers self.now lease.old }
+    {
+        lease.yiaddr = self.yiaddr;
+        lease.siaddr = self.siaddr;
+        lease.srv_id = self.srv_id;
+        lease.t1_sec = self.t1_sec;
+        lease.t2_sec = self.t2_sec;
+        lease.lease_time_sec = self.lease_time_sec;
+        lease.subnet_mask = self.subnet_mask;
+        lease.broadcast_addr = self.broadcast_addr;
+        lease.mtu = self.mtu;
+    }
+
+    // Puts its lists of addresses into a lease.
+    fn put_servers(&self, alloc: Global, lease: &mut DhcpV4Lease) -> Result<(), DhcpError>
+        ensures { Puts result lease.new (leases.with_servers self.now lease.old) }
+    {
+        lease.dns_srvs = copied(alloc, self.dns_srvs.as_ref())?;
+        lease.gateways = copied(alloc, self.gateways.as_ref())?;
+        lease.ntp_srvs = copied(alloc, self.ntp_srvs.as_ref())?;
+        Ok(())
+    }
+
+    // Puts its names and its routes into a lease.
+    fn put_names(&self, alloc: Global, lease: &mut DhcpV4Lease) -> Result<(), DhcpError>
+        ensures { Puts result lease.new (leases.with_names self.now lease.old) }
+    {
+        lease.host_name = copied_text(alloc, self.host_name.as_ref())?;
+        lease.domain_name = copied_text(alloc, self.domain_name.as_ref())?;
+        lease.classless_routes = copied(alloc, self.classless_routes.as_ref())?;
+        Ok(())
+    }
+}
+
+// A copy of a list, if there is one.
+fn copied<T: Copy>(
+    alloc: Global,
+    kept: Option<&Sequence<T>>,
+) -> Result<Option<Sequence<T>>, DhcpError>
+    ensures { Makes (λ made. made) result (option_copied kept.entry) }
+{
+    match kept {
+        Some(list) => Ok(Some(list.try_clone(alloc)?)),
+        None => Ok(None),
+    }
+}
+
+// A copy of a text, if there is one.
+fn copied_text(alloc: Global, kept: Option<&Text>) -> Result<Option<Text>, DhcpError>
+    ensures { Makes (λ made. made) result (option_copied kept.entry) }
+{
+    match kept {
+        Some(text) => Ok(Some(text.try_clone(alloc)?)),
+        None => Ok(None),
+    }
+}

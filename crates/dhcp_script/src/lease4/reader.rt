@@ -1,0 +1,216 @@
+//! The reader of the fields of a lease.
+
+ghost use Rattle.std.specs.Prelude.{◌≡◌};
+ghost use Rattle.dhcp_stream.specs.TextReader.{Takes};
+ghost use Rattle.dhcp_script.specs.Lease4Reader.{
+  addresses_at,
+  held_lease4_at,
+  later_at,
+  lease4_at,
+  link_at,
+  names_at,
+  no_later,
+  servers_at,
+  times_at,
+};
+
+use crate::Lease4;
+use crate::field::read_field;
+use crate::version::Version;
+use dhcp_stream::{ReadError, TextReader};
+use dhcp_wire::{Sequence, Text};
+use dhcp4_msg::DhcpV4ClasslessRoute;
+use std::alloc::Global;
+use std::net::Ipv4Addr;
+
+// The addresses of a lease and of its server.
+#[derive(Drop)]
+struct LeaseAddresses {
+    yiaddr: Ipv4Addr,
+    siaddr: Ipv4Addr,
+    srv_id: Ipv4Addr,
+}
+
+// Its times.
+#[derive(Drop)]
+struct LeaseTimes {
+    t1_sec: u32,
+    t2_sec: u32,
+    lease_time_sec: u32,
+}
+
+// What it says of the link.
+#[derive(Drop)]
+struct LeaseLink {
+    subnet_mask: Ipv4Addr,
+    broadcast_addr: Option<Ipv4Addr>,
+    mtu: Option<u16>,
+}
+
+// Its servers and routers.
+#[derive(Drop)]
+struct LeaseServers {
+    dns_srvs: Option<Sequence<Ipv4Addr>>,
+    gateways: Option<Sequence<Ipv4Addr>>,
+    ntp_srvs: Option<Sequence<Ipv4Addr>>,
+}
+
+// Its names and routes.
+#[derive(Drop)]
+struct LeaseNames {
+    host_name: Option<Text>,
+    domain_name: Option<Text>,
+    classless_routes: Option<Sequence<DhcpV4ClasslessRoute>>,
+}
+
+// What version 2 alone says of a lease.
+#[derive(Drop)]
+struct LeaseLater {
+    link: LeaseLink,
+    servers: LeaseServers,
+    names: LeaseNames,
+}
+
+impl LeaseLater {
+    // That of the empty lease.
+    fn none() -> Self
+        ensures { result ≡ no_later }
+    {
+        LeaseLater {
+            link: LeaseLink {
+                subnet_mask: Ipv4Addr::UNSPECIFIED,
+                broadcast_addr: None,
+                mtu: None,
+            },
+            servers: LeaseServers {
+                dns_srvs: None,
+                gateways: None,
+                ntp_srvs: None,
+            },
+            names: LeaseNames {
+                host_name: None,
+                domain_name: None,
+                classless_routes: None,
+            },
+        }
+    }
+}
+
+/// Reads a lease or the word `none`, to the end of the line.
+#[tactic(auto, unfolding(crate::specs::Lease4Reader::held_lease4_at))]
+pub fn read_held_lease(
+    alloc: Global,
+    version: Version,
+    text: &mut TextReader,
+) -> Result<Option<Lease4>, ReadError>
+    ensures { Takes result text.new (held_lease4_at version text.old) }
+{
+    if text.skip(b"none\n") {
+        return Ok(None);
+    }
+    Ok(Some(read_lease(alloc, version, text)?))
+}
+
+// Reads the fields of a lease, to the end of the line.
+#[tactic(auto, unfolding(crate::specs::Lease4Reader::lease4_at))]
+fn read_lease(alloc: Global, version: Version, text: &mut TextReader) -> Result<Lease4, ReadError>
+    ensures { Takes result text.new (lease4_at version text.old) }
+{
+    let addresses = read_addresses(alloc, text)?;
+    let times = read_times(alloc, version, text)?;
+    let later = read_later(alloc, version, text)?;
+    Ok(Lease4 {
+        yiaddr: addresses.yiaddr,
+        siaddr: addresses.siaddr,
+        srv_id: addresses.srv_id,
+        t1_sec: times.t1_sec,
+        t2_sec: times.t2_sec,
+        lease_time_sec: times.lease_time_sec,
+        subnet_mask: later.link.subnet_mask,
+        broadcast_addr: later.link.broadcast_addr,
+        mtu: later.link.mtu,
+        dns_srvs: later.servers.dns_srvs,
+        gateways: later.servers.gateways,
+        ntp_srvs: later.servers.ntp_srvs,
+        host_name: later.names.host_name,
+        domain_name: later.names.domain_name,
+        classless_routes: later.names.classless_routes,
+    })
+}
+
+#[tactic(auto, unfolding(crate::specs::Lease4Reader::addresses_at))]
+fn read_addresses(alloc: Global, text: &mut TextReader) -> Result<LeaseAddresses, ReadError>
+    ensures { Takes result text.new (addresses_at text.old) }
+{
+    Ok(LeaseAddresses {
+        yiaddr: read_field(alloc, text, b' ')?,
+        siaddr: read_field(alloc, text, b' ')?,
+        srv_id: read_field(alloc, text, b' ')?,
+    })
+}
+
+#[tactic(auto, unfolding(crate::specs::Lease4Reader::times_at))]
+fn read_times(
+    alloc: Global,
+    version: Version,
+    text: &mut TextReader,
+) -> Result<LeaseTimes, ReadError>
+    ensures { Takes result text.new (times_at version text.old) }
+{
+    Ok(LeaseTimes {
+        t1_sec: read_field(alloc, text, b' ')?,
+        t2_sec: read_field(alloc, text, b' ')?,
+        lease_time_sec: read_field(alloc, text, version.end_of_times())?,
+    })
+}
+
+#[tactic(auto, unfolding(crate::specs::Lease4Reader::later_at))]
+fn read_later(
+    alloc: Global,
+    version: Version,
+    text: &mut TextReader,
+) -> Result<LeaseLater, ReadError>
+    ensures { Takes result text.new (later_at version text.old) }
+{
+    match version {
+        Version::One => Ok(LeaseLater::none()),
+        Version::Two => Ok(LeaseLater {
+            link: read_link(alloc, text)?,
+            servers: read_servers(alloc, text)?,
+            names: read_names(alloc, text)?,
+        }),
+    }
+}
+
+#[tactic(auto, unfolding(crate::specs::Lease4Reader::link_at))]
+fn read_link(alloc: Global, text: &mut TextReader) -> Result<LeaseLink, ReadError>
+    ensures { Takes result text.new (link_at text.old) }
+{
+    Ok(LeaseLink {
+        subnet_mask: read_field(alloc, text, b' ')?,
+        broadcast_addr: read_field(alloc, text, b' ')?,
+        mtu: read_field(alloc, text, b' ')?,
+    })
+}
+
+#[tactic(auto, unfolding(crate::specs::Lease4Reader::servers_at))]
+fn read_servers(alloc: Global, text: &mut TextReader) -> Result<LeaseServers, ReadError>
+    ensures { Takes result text.new (servers_at text.old) }
+{
+    Ok(LeaseServers {
+        dns_srvs: read_field(alloc, text, b' ')?,
+        gateways: read_field(alloc, text, b' ')?,
+        ntp_srvs: read_field(alloc, text, b' ')?,
+    })
+}
+
+#[tactic(auto, unfolding(crate::specs::Lease4Reader::names_at))]
+fn read_names(alloc: Global, text: &mut TextReader) -> Result<LeaseNames, ReadError>
+    ensures { Takes result text.new (names_at text.old) }
+{
+    Ok(LeaseNames {
+        host_name: read_field(alloc, text, b' ')?,
+        domain_name: read_field(alloc, text, b' ')?,
+        classless_routes: read_field(alloc, text, b'\n')?,
+    })
+}

@@ -1,0 +1,25 @@
+//! Scripts of a client's life, and what is reported of them: their types, their limits and their
+//! texts.
+#![tactic(auto)]
+
+mod demo;
+mod event;
+mod field;
+mod hex_text;
+pub mod laws;
+mod lease4;
+mod life;
+mod output;
+mod script;
+mod script4;
+#[cfg(test)]
+mod tests;
+mod version;
+
+pub use demo::demo_script;
+pub use event::{Event, EventWhat, MAX_EVENTS, MAX_PACKET_LEN, MOMENT_LIMIT, are_valid};
+pub use lease4::Lease4;
+pub use output::summary::print_summary;
+pub use output::{Output, OutputWhat, Reported, print_outputs};
+pub use script::{Script, read_script, read_script_v1, upgrade, write_script};
+pub use script4::Script4;

@@ -1,0 +1,129 @@
+//! The printer of what is reported of a script.
+
+ghost use Rattle.std.specs.Prelude.{◌≡◌, ◌++◌, OnOk, map, string_bytes};
+ghost use Rattle.std.specs.List.{flat_map};
+ghost use Rattle.dhcp4_client.specs.State.{plain_state};
+ghost use Rattle.dhcp_script.specs.Output.{
+  failure_text,
+  message_text,
+  output_line,
+  plain_output,
+  plain_report,
+  report_text,
+  state4_text,
+};
+
+use crate::hex_text::push_hex;
+use crate::lease4::printer::push_lease;
+use crate::{Output, OutputWhat, Reported};
+use dhcp_clock::Handed;
+use dhcp_wire::ErrorKind;
+use dhcp4_client::DhcpV4State;
+use std::alloc::AllocError;
+
+/// Puts the lines of outputs at the end of a text.
+pub fn push_outputs(text: &mut String, outputs: &[Output]) -> Result<(), AllocError>
+    ensures { OnOk result (string_bytes text.new
+        ≡ string_bytes text.old ++ flat_map output_line (map plain_output outputs.now)) }
+{
+    push_each(text, outputs)
+}
+
+// The same, output by output.
+fn push_each(text: &mut String, outputs: &[Output]) -> Result<(), AllocError>
+    ensures { OnOk result (string_bytes text.new
+        ≡ string_bytes text.old
+        ++ flat_map (λ output. output_line (plain_output output)) outputs.now) }
+{
+    for output in outputs {
+        push_output(text, output)?;
+    }
+    Ok(())
+}
+
+// Puts the line of an output at the end of a text.
+fn push_output(text: &mut String, output: &Output) -> Result<(), AllocError>
+    ensures { OnOk result (string_bytes text.new
+        ≡ string_bytes text.old ++ output_line (plain_output output.now)) }
+{
+    let event = output.event;
+    write!(text, "{event} ")?;
+    push_report(text, &output.what)?;
+    text.push('\n')
+}
+
+// Puts what is reported at the end of a text.
+fn push_report(text: &mut String, what: &OutputWhat) -> Result<(), AllocError>
+    ensures { OnOk result (string_bytes text.new
+        ≡ string_bytes text.old ++ report_text (plain_report what.now)) }
+{
+    match what {
+        OutputWhat::Handed(message) => {
+            text.push_str("handed ")?;
+            push_message(text, message)
+        }
+        OutputWhat::Refused(message) => {
+            text.push_str("refused ")?;
+            push_message(text, message)
+        }
+        OutputWhat::Changed(Reported::V4(state)) => {
+            text.push_str("state ")?;
+            push_state(text, state)
+        }
+        OutputWhat::Failed(kind) => {
+            text.push_str("failed ")?;
+            push_failure(text, *kind)
+        }
+    }
+}
+
+// Puts a message that was handed to the link at the end of a text.
+fn push_message(text: &mut String, message: &Handed) -> Result<(), AllocError>
+    ensures { OnOk result (string_bytes text.new
+        ≡ string_bytes text.old ++ message_text message.now) }
+{
+    match message {
+        Handed::Frame(bytes) => {
+            text.push_str("frame ")?;
+            push_hex(text, bytes.as_slice())
+        }
+        Handed::Udp4(from, to, bytes) => {
+            let from = *from;
+            let to = *to;
+            write!(text, "udp4 {from} {to} ")?;
+            push_hex(text, bytes.as_slice())
+        }
+        Handed::Udp6(_, _, bytes) => {
+            text.push_str("udp6 ")?;
+            push_hex(text, bytes.as_slice())
+        }
+    }
+}
+
+// Puts a state at the end of a text.
+fn push_state(text: &mut String, state: &DhcpV4State) -> Result<(), AllocError>
+    ensures { OnOk result (string_bytes text.new
+        ≡ string_bytes text.old ++ state4_text (plain_state state.now)) }
+{
+    match state {
+        DhcpV4State::Done(lease) => {
+            text.push_str("done ")?;
+            push_lease(text, lease)
+        }
+        DhcpV4State::InitReboot => text.push_str("init_reboot"),
+        DhcpV4State::Selecting => text.push_str("selecting"),
+        DhcpV4State::Renewing => text.push_str("renewing"),
+        DhcpV4State::Rebinding => text.push_str("rebinding"),
+    }
+}
+
+// Puts a failure at the end of a text.
+fn push_failure(text: &mut String, kind: ErrorKind) -> Result<(), AllocError>
+    ensures { OnOk result (string_bytes text.new
+        ≡ string_bytes text.old ++ failure_text kind) }
+{
+    match kind {
+        ErrorKind::Timeout => text.push_str("timeout"),
+        _ => text.push_str("io_error"),
+    }
+}

@@ -1,0 +1,178 @@
+//! Scripts of an IPv4 client.
+
+pub mod printer;
+pub mod reader;
+
+ghost use Rattle.std.specs.Prelude.{◌≡◌, [], length, option_map};
+ghost use Rattle.std.specs.Str as utf8;
+ghost use Rattle.std.specs.Str.{IsUtf8};
+ghost use Rattle.dhcp_wire.specs.Outcome.{Makes};
+ghost use Rattle.dhcp_script.specs.Lease4.{lease_with};
+ghost use Rattle.dhcp_script.specs.Script4 as scripts;
+ghost use Rattle.dhcp_script.specs.Script4.{config_of, is_valid, requested, PutsConfig};
+
+use crate::{Event, Lease4, are_valid};
+use dhcp_wire::{Bytes, DhcpError, Sequence};
+use dhcp4_lease::{DhcpV4Config, DhcpV4Lease};
+use std::alloc::Global;
+
+/// A script of an IPv4 client: its configuration, a lease that it held before, the words that it
+/// draws, and its events.
+#[derive(Debug, PartialEq, Drop)]
+pub struct Script4 {
+    /// The index of the network interface.
+    pub iface_index: u32,
+    /// The MAC address of the client.
+    pub mac: [u8; 6],
+    /// Whether the client obtains a lease for another host.
+    pub is_proxy: bool,
+    /// How long the client stays in a state without a lease, in seconds; 0 is no limit.
+    pub timeout_sec: u32,
+    /// The host name, in UTF-8; empty is none.
+    pub host: Bytes,
+    /// The client identifier: its type, then its bytes.
+    pub client: Bytes,
+    /// The option codes to ask for, as they are listed; none is the default list.
+    pub codes: Option<Bytes>,
+    /// The lease that the client held before.
+    pub lease: Option<Lease4>,
+    /// The words that the client draws; after the last one each is 0.
+    pub words: Sequence<u32>,
+    /// The moment at which the client begins, in milliseconds.
+    pub start: u64,
+    /// The events, in their order.
+    pub events: Sequence<Event>,
+}
+
+// How many bytes a host name, a client identifier and a list of option codes have at most.
+const MAX_HOST_LEN: usize = 254;
+
+const MAX_CLIENT_LEN: usize = 255;
+
+const MAX_CODES: usize = 255;
+
+impl Script4 {
+    /// Whether it is within its limits: its interface index is not 0; its host name is UTF-8 of at
+    /// most 254 bytes without a zero byte; its client identifier has at most 255 bytes, and its
+    /// list of option codes too; T1, T2 and the end of its lease are in order; its start and its
+    /// events are valid.
+    #[tactic(auto, unfolding(crate::specs::Script4::is_valid))]
+    pub fn is_valid(&self) -> bool
+        ensures { result ≡ is_valid self.now }
+    {
+        self.iface_index != 0
+            && is_host_name(self.host.as_slice())
+            && self.client.len() <= MAX_CLIENT_LEN
+            && are_few(&self.codes)
+            && is_in_order(&self.lease)
+            && are_valid(self.start, self.events.as_slice())
+    }
+
+    /// The configuration of its client. Out of memory is the only error.
+    #[tactic(auto, unfolding(crate::specs::config_of, dhcp4_lease::specs::Config::config_of))]
+    pub fn config(&self, alloc: Global) -> Result<DhcpV4Config, DhcpError>
+        requires { IsUtf8 self.now.host }
+        ensures { Makes (λ config. config) result (config_of self.now) }
+    {
+        let mut config = DhcpV4Config::new(alloc, "")?;
+        config.iface_index = self.iface_index;
+        config.is_proxy = self.is_proxy;
+        config.timeout_sec = self.timeout_sec;
+        put_mac(&mut config, &self.mac)?;
+        put_host(alloc, &mut config, self.host.as_slice())?;
+        put_client(alloc, &mut config, self.client.as_slice())?;
+        put_codes(alloc, &mut config, &self.codes)?;
+        Ok(config)
+    }
+
+    /// The lease that its client held before, if there is one. Out of memory is the only error.
+    pub fn held_lease(&self, alloc: Global) -> Result<Option<DhcpV4Lease>, DhcpError>
+        ensures { Makes (λ lease. lease) result (option_map lease_with self.now.lease) }
+    {
+        match &self.lease {
+            None => Ok(None),
+            Some(lease) => Ok(Some(lease.to_lease(alloc)?)),
+        }
+    }
+}
+
+// Puts the MAC address into a configuration.
+#[tactic(auto, unfolding(dhcp4_lease::specs::Config::with_mac))]
+fn put_mac(config: &mut DhcpV4Config, mac: &[u8]) -> Result<(), DhcpError>
+    requires { length mac.now ≡ 6 }
+    ensures { PutsConfig result config.new (record config.old { src_mac = mac.now }) }
+{
+    config.set_iface_mac_raw(mac)?;
+    Ok(())
+}
+
+// Puts the host name into a configuration.
+fn put_host(alloc: Global, config: &mut DhcpV4Config, host: &[u8]) -> Result<(), DhcpError>
+    requires { IsUtf8 host.now }
+    ensures { PutsConfig result config.new (record config.old { host_name = host.now }) }
+{
+    if let Ok(name) = std::str::from_utf8(host) {
+        config.set_host_name(alloc, name)?;
+    }
+    Ok(())
+}
+
+// Puts the client identifier, if there is one, into a configuration that has none.
+fn put_client(alloc: Global, config: &mut DhcpV4Config, client: &[u8]) -> Result<(), DhcpError>
+    requires { config.old.client_id ≡ [] }
+    ensures { PutsConfig result config.new (record config.old { client_id = client.now }) }
+{
+    if let Some((kind, bytes)) = client.split_first() {
+        config.set_client_id(alloc, *kind, bytes)?;
+    }
+    Ok(())
+}
+
+// Puts the option codes that are listed, if any are, into a configuration.
+fn put_codes(
+    alloc: Global,
+    config: &mut DhcpV4Config,
+    codes: &Option<Bytes>,
+) -> Result<(), DhcpError>
+    ensures { PutsConfig result config.new
+        (record config.old { request_opts = requested codes.now config.old.request_opts }) }
+{
+    if let Some(listed) = codes {
+        config.override_request_dhcp_opts(alloc, listed.as_slice())?;
+    }
+    Ok(())
+}
+
+// Whether bytes are a host name.
+fn is_host_name(host: &[u8]) -> bool
+    ensures { result ≡ scripts.is_host_name host.now }
+{
+    host.len() <= MAX_HOST_LEN && !host.contains(&0) && is_utf8(host)
+}
+
+// Whether bytes are UTF-8.
+fn is_utf8(bytes: &[u8]) -> bool
+    ensures { result ≡ utf8.is_utf8 bytes.now }
+{
+    std::str::from_utf8(bytes).is_ok()
+}
+
+// Whether the codes that are listed, if any are, are not too many.
+fn are_few(codes: &Option<Bytes>) -> bool
+    ensures { result ≡ scripts.are_few codes.now }
+{
+    match codes {
+        None => true,
+        Some(listed) => listed.len() <= MAX_CODES,
+    }
+}
+
+// Whether the times of a lease, if there is one, are in order.
+fn is_in_order(lease: &Option<Lease4>) -> bool
+    ensures { result ≡ scripts.is_in_order lease.now }
+{
+    match lease {
+        None => true,
+        Some(lease) => lease.are_times_in_order(),
+    }
+}

@@ -1,0 +1,25 @@
+//! The versions of the texts.
+
+ghost use Rattle.std.specs.Prelude.{◌≡◌};
+ghost use Rattle.dhcp_script.specs.Version as versions;
+
+/// The version of a text.
+#[derive(Clone, Copy, Debug, PartialEq, Eq)]
+pub enum Version {
+    /// The first one: of a lease it has the addresses and the times alone.
+    One,
+    /// The second one, in which texts are written.
+    Two,
+}
+
+impl Version {
+    /// What follows the last of the times of a lease.
+    pub fn end_of_times(self) -> u8
+        ensures { result ≡ versions.end_of_times self }
+    {
+        match self {
+            Version::One => b'\n',
+            Version::Two => b' ',
+        }
+    }
+}
