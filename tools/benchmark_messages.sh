@@ -1,5 +1,5 @@
 #!/bin/sh
-# Times the reading and writing of messages and frames.
+# Times the reading and writing of messages, frames and lists of DHCPv6 options.
 #
 #   tools/benchmark_messages.sh      at the repository's top, after `rt run < stdin -- frame 3` in crates/dhcp_bench has built the program
 #
@@ -82,3 +82,34 @@ frame 342
 measure frame_of_342_bytes frame 200000
 frame 1500
 measure frame_of_1500_bytes frame 100000
+
+# Lists of DHCPv6 options: a piece of hex in front, and then one piece for each number of a range.
+options6() { # the piece in front, a format for each number, the first number, the last, the step
+    awk -v front="$1" -v format="$2" -v first="$3" -v last="$4" -v step="$5" 'BEGIN {
+        printf "%s", front
+        for (n = first; step > 0 ? n <= last : n >= last; n += step) printf format, n
+        printf "\n"
+    }' >"$input"
+}
+measure6() { # a name, how many times
+    for task in read6 options6; do measure "$1" "$task" "$2"; done
+}
+
+# The options of a usual Reply of 129 bytes: the identifiers, an address, two name servers, a domain name.
+address6=20010db80000000000000000000000
+reply6=0001000a000300010200000000010002000a00030001020000000002
+reply6=${reply6}00030028000000000000003200000050000500
+options6 "${reply6}18${address6}1000000064000000c800170020${address6}01${address6}020018000d076578616d706c6503636f6d00" "" 1 0 1
+measure6 options_of_a_reply_of_129_bytes 200000
+# 64 KiB of options of two bytes: of one code, of as many codes that rise, and of codes that fall.
+options6 "" 00080002%04x 1 10922 1
+measure6 options_of_one_code_of_64_KiB 200
+options6 "" %04x00020000 1001 11922 1
+measure6 options_of_rising_codes_of_64_KiB 200
+options6 "" %04x00020000 11922 1001 -1
+measure6 options_of_falling_codes_of_64_KiB 20
+# A domain list of 5,041 names, and an identity association with 2,000 addresses.
+options6 0018fffd 076578616d706c6503636f6d00 1 5041 1
+measure6 domain_list_of_64_KiB 200
+options6 0003dacc000000000000003200000050 "00050018${address6}1000000064000000c8" 1 2000 1
+measure6 association_with_2000_addresses 200

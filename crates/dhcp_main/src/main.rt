@@ -1,5 +1,5 @@
-//! The program: runs the script on standard input, and prints what its client hands to the link and
-//! each state that it reaches.
+//! The program: does what its words ask for, with standard input as the source and standard output
+//! as the sink.
 #![tactic(auto)]
 
 use dhcp_replay::{StdSink, StdSource, replay_tool, status_without_words};

@@ -1,3 +1,8 @@
-pub mod ThinLemmas
-pub mod ThinRun
+pub mod BasisLemmas
+pub mod HistoryLemmas
+pub mod LifeLemmas
+pub mod PromiseLemmas
+pub mod ReplayLemmas
+pub mod RequestLemmas
 pub mod ToolLemmas
+pub mod ValidLemmas

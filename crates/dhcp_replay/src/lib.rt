@@ -1,23 +1,23 @@
-//! Scripts and their texts. The streams that they come from and go to stand in dhcp_stream, and are
-//! named here too.
+//! Scripts of a client, played: the client's history, and the call behind the program. Scripts and
+//! their texts stand in dhcp_script, streams in dhcp_stream; they are named here too.
 #![tactic(auto)]
 
+pub mod laws;
+mod replayed;
+mod replayed4;
+mod request;
 #[cfg(test)]
 mod tests;
-mod thin_output;
-mod thin_printer;
-mod thin_reader;
-mod thin_run;
-mod thin_script;
 mod tool;
 
+pub use dhcp_script::{
+    Event, EventWhat, Lease4, Output, OutputWhat, Reported, Script, Script4, print_outputs,
+    read_script, write_script,
+};
 pub use dhcp_stream::{
     MAX_INPUT, MemSink, MemSource, ReadOutcome, Sink, Source, StdSink, StdSource, Whole,
-    WriteOutcome, hex_field, mac_field, read_whole, write_whole,
+    WriteOutcome, hex_field, ipv4_field, mac_field, number_field, read_whole, write_whole,
 };
-pub use thin_output::{ThinLease, ThinOutput, ThinReport};
-pub use thin_printer::print_thin_outputs;
-pub use thin_reader::read_thin_script;
-pub use thin_run::replay_thin;
-pub use thin_script::{ThinEvent, ThinScript};
+pub use replayed::{Replayed, replay};
+pub use replayed4::{Replayed4, replay4};
 pub use tool::{Status, replay_tool, status_without_words};

@@ -1,19 +1,41 @@
-//! The program: a thin script comes in, and what its history reports goes out.
+//! The program: a script comes in, and what is reported of its client goes out, or its text in the
+//! next version; or a demonstration is summed up.
 
-ghost use Rattle.std.specs.Prelude.{◌≡◌, ◌≢◌, ◌≤◌, ◌<◌, ◌⊎◌, ◌↔◌, Some, IfSome, IsTrue, length, map, string_bytes};
+ghost use Rattle.std.specs.Prelude.{◌≡◌, ◌≢◌, ◌≤◌, ◌⊎◌, ◌↔◌, ℕ, Some, IfSome, IsTrue, OnOk, false, length, map, string_bytes, true};
 ghost use Rattle.std.specs.IoError.{error_kind};
 ghost use Rattle.dhcp_wire.specs.Error.{no_memory};
+ghost use Rattle.dhcp_wire.specs.Outcome.{Makes};
 ghost use Rattle.dhcp_wire.specs.Fault.{Rose};
 ghost use Rattle.dhcp_stream.specs.Stream.{behind};
 ghost use Rattle.dhcp_stream.specs.Whole.{HasGone, TakesFront, most_bytes};
-ghost use Rattle.dhcp_replay.specs.ThinText.{IsThinScript, script_text};
-ghost use Rattle.dhcp_replay.specs.Tool.{status_number, AsksForRun, IsTextOf, IsNoText, printed, HasRead, HasReadTooMany, AnswersText, AnswersSource, GivesText};
-ghost use Rattle.dhcp_replay.specs.declared.tool.Status.TheVariants.{NoMemory, WrongWords};
-ghost use Rattle.dhcp_replay.specs.declared.thin_script.ThinScript.{ThinScript};
-
-use crate::{
-    Sink, Source, Whole, print_thin_outputs, read_thin_script, read_whole, replay_thin, write_whole,
+ghost use Rattle.dhcp_script.specs.Demo.{most_rounds};
+ghost use Rattle.dhcp_script.specs.Script.{IsScript, is_valid, script_text};
+ghost use Rattle.dhcp_script.specs.declared.script.Script.{Script};
+ghost use Rattle.dhcp_replay.specs.Promises.{KeepsPromisesOf};
+ghost use Rattle.dhcp_replay.specs.Request.{AsksFor, AsksForNothing, IsRequest};
+ghost use Rattle.dhcp_replay.specs.Tool.{
+  demo_summary,
+  status_number,
+  AnswersDemo,
+  AnswersRequest,
+  AnswersScript,
+  AnswersSource,
+  AnswersText,
+  AsksForRun,
+  Ends,
+  ReadsInput,
+  printed,
+  scripts,
+  scripts_v1,
 };
+ghost use Rattle.dhcp_replay.specs.declared.request.Request.{Request};
+ghost use Rattle.dhcp_replay.specs.declared.request.Request.TheVariants.{Demo};
+ghost use Rattle.dhcp_replay.specs.declared.tool.Status.TheVariants.{NoMemory, WrongWords};
+
+use crate::replay;
+use crate::request::{Request, request_of};
+use dhcp_script::{Script, demo_script, print_outputs, print_summary, read_script, upgrade};
+use dhcp_stream::{Sink, Source, Whole, read_whole, write_whole};
 use dhcp_wire::{Bytes, DhcpError};
 use std::alloc::Global;
 use std::io;
@@ -24,7 +46,7 @@ use std::io::ErrorKind;
 pub enum Status {
     /// Everything was read, run and written.
     Done = 0,
-    /// The words do not ask for a run.
+    /// The words ask for nothing that there is.
     WrongWords = 1,
     /// The bytes are the text of no script.
     NoScript = 2,
@@ -36,6 +58,8 @@ pub enum Status {
     NoMemory = 5,
     /// There are more than 16,777,216 bytes.
     TooLong = 6,
+    /// The script is not within its limits.
+    Invalid = 7,
 }
 
 impl From<Status> for u8 {
@@ -58,19 +82,23 @@ pub fn status_without_words(error: &io::Error) -> Status
     }
 }
 
-/// Runs the thin script that the source holds, and writes what it reports: the text of the outputs
-/// of the script's history. Returns the exit status. With every status but 0 and 4 nothing is
-/// written.
+/// Does what the words ask for, and returns the exit status. `run` runs the script that the source
+/// holds, and writes the text of what is reported of its client; `upgrade` writes the text in version
+/// 2 of the script whose text in version 1 the source holds; `demo` and a number from 1 to 2,000
+/// writes the summary of a demonstration of so many rounds, and reads nothing. With every status but
+/// 0 and 4 nothing is written.
+#[tactic(auto, using(crate::proofs::RequestLemmas::one_request, crate::proofs::ToolLemmas::only_run))]
 pub fn replay_tool<S: Source, K: Sink>(
     alloc: Global,
     words: &[String],
     source: &mut S,
     sink: &mut K,
 ) -> u8
-    // The headline: the text of a script is answered by the text of the outputs of its history,
-    // unless out of memory.
-    ensures headline { (script : ThinScript) → AsksForRun (map string_bytes words.now)
-        → IsThinScript script
+    // The headline: the text of a valid script is answered by the text of what is reported of its
+    // client, unless out of memory.
+    ensures headline { (script : Script) → AsksForRun (map string_bytes words.now)
+        → IsScript script
+        → is_valid script ≡ true
         → S.left source.old ≡ Some (script_text script)
         → length (script_text script) ≤ most_bytes
         → ¬ (Rose (S.faults source.old) (S.faults source.new))
@@ -78,95 +106,184 @@ pub fn replay_tool<S: Source, K: Sink>(
         → (result ≡ 5)
         ⊎ ((result ≡ 0) × (K.taken sink.new ≡ behind (K.taken sink.old) (printed script))) }
 
-    // What each status says.
-    ensures done { result ≡ 0 → HasRead (S.left source.old) (S.left source.new)
-        (λ bytes. (script : ThinScript) × IsTextOf script bytes
-        × (K.taken sink.new ≡ behind (K.taken sink.old) (printed script))) }
-    ensures wrong_words { (result ≡ 1) ↔ ¬ (AsksForRun (map string_bytes words.now)) }
-    ensures no_script { result ≡ 2 → HasRead (S.left source.old) (S.left source.new) IsNoText }
-    ensures read_fault { result ≡ 3 → Rose (S.faults source.old) (S.faults source.new)
-        × HasGone most_bytes (S.left source.old) (S.left source.new) }
-    ensures write_fault { result ≡ 4 → Rose (K.faults sink.old) (K.faults sink.new) }
-    ensures front_written { result ≡ 4 → HasRead (S.left source.old) (S.left source.new)
-        (λ bytes. (script : ThinScript) × IsTextOf script bytes
-        × TakesFront (K.taken sink.old) (K.taken sink.new) (printed script)) }
-    ensures too_long { result ≡ 6 → HasReadTooMany (S.left source.old) (S.left source.new) }
-    ensures no_other { result ≤ 6 }
+    // What each status says, for each of the three requests, and which answers are owed.
+    ensures ends { (request : Request) → AsksFor (map string_bytes words.now) request →
+        Ends request result (record {
+          left = S.left source.old;
+          left_after = S.left source.new;
+          faults = S.faults source.old;
+          faults_after = S.faults source.new;
+          taken = K.taken sink.old;
+          taken_after = K.taken sink.new;
+          sink_faults = K.faults sink.old;
+          sink_faults_after = K.faults sink.new;
+        }) }
+    ensures wrong_words { (result ≡ 1) ↔ AsksForNothing (map string_bytes words.now) }
+    ensures invalid { result ≡ 7 → AsksForRun (map string_bytes words.now) }
+    ensures no_other { result ≤ 7 }
 
-    // Nothing is read or written for other words, and nothing is written with any status but 0
-    // and 4.
+    // Nothing is read or written for other words, nothing is read for a demonstration, and nothing
+    // is written with any status but 0 and 4.
     ensures untouched { result ≡ 1 → (source.new ≡ source.old) × (sink.new ≡ sink.old) }
+    ensures nothing_read { (rounds : ℕ) → AsksFor (map string_bytes words.now) (Demo rounds) →
+        source.new ≡ source.old }
     ensures nothing_written { result ≢ 0 → result ≢ 4 → sink.new ≡ sink.old }
-
-    // Every text of no script and every text that is too long is refused as such, unless out of
-    // memory or the source fails.
-    ensures refuses { AsksForRun (map string_bytes words.now)
-        → ¬ (Rose (S.faults source.old) (S.faults source.new))
-        → IfSome (S.left source.old)
-        (λ bytes. length bytes ≤ most_bytes → IsNoText bytes → (result ≡ 5) ⊎ (result ≡ 2)) }
-    ensures refuses_long { AsksForRun (map string_bytes words.now)
-        → ¬ (Rose (S.faults source.old) (S.faults source.new))
-        → IfSome (S.left source.old)
-        (λ bytes. most_bytes < length bytes → (result ≡ 5) ⊎ (result ≡ 6)) }
 {
-    if !asks_for_run(words) {
-        return Status::WrongWords.into();
+    match request_of(words) {
+        None => Status::WrongWords.into(),
+        Some(request) => carry_out(alloc, request, source, sink).into(),
     }
-    let text = match answer_to(alloc, source) {
+}
+
+// Does what is asked for.
+#[tactic(auto, using(crate::proofs::ToolLemmas::ends_early, crate::proofs::ToolLemmas::ends_done, crate::proofs::ToolLemmas::ends_write_fault, crate::proofs::ToolLemmas::is_asked))]
+fn carry_out<S: Source, K: Sink>(
+    alloc: Global,
+    request: Request,
+    source: &mut S,
+    sink: &mut K,
+) -> Status
+    requires { IsRequest request }
+    ensures ends { Ends request (status_number result) (record {
+      left = S.left source.old;
+      left_after = S.left source.new;
+      faults = S.faults source.old;
+      faults_after = S.faults source.new;
+      taken = K.taken sink.old;
+      taken_after = K.taken sink.new;
+      sink_faults = K.faults sink.old;
+      sink_faults_after = K.faults sink.new;
+    }) }
+    ensures asked { status_number result ≢ 1 }
+    ensures nothing_read { (rounds : ℕ) → request ≡ Demo rounds → source.new ≡ source.old }
+    ensures nothing_written { status_number result ≢ 0 → status_number result ≢ 4 →
+        sink.new ≡ sink.old }
+{
+    let text = match text_of(alloc, request, source) {
         Ok(text) => text,
-        Err(status) => return status.into(),
+        Err(status) => return status,
     };
     if write_whole(sink, text.as_slice()) {
-        Status::Done.into()
+        Status::Done
     } else {
-        Status::WriteFault.into()
+        Status::WriteFault
     }
 }
 
-// Whether the words are `run` alone.
-fn asks_for_run(words: &[String]) -> bool
-    ensures { IsTrue result ↔ AsksForRun (map string_bytes words.now) }
+// The text to print for a request, or the status.
+fn text_of<S: Source>(alloc: Global, request: Request, source: &mut S) -> Result<Bytes, Status>
+    requires { IsRequest request }
+    ensures answers { AnswersRequest request result (S.left source.old) (S.left source.new)
+        (S.faults source.old) (S.faults source.new) }
+    ensures nothing_read { (rounds : ℕ) → request ≡ Demo rounds → source.new ≡ source.old }
 {
-    match words {
-        [word] => word.as_str() == "run",
-        _ => false,
+    match request {
+        Request::Run => played_text(alloc, source),
+        Request::Upgrade => upgraded_text(alloc, source),
+        Request::Demo(rounds) => demo_text(alloc, rounds),
     }
 }
 
-// The text to print for what the source holds, or the status.
-fn answer_to<S: Source>(alloc: Global, source: &mut S) -> Result<Bytes, Status>
-    ensures { AnswersSource result (S.left source.old) (S.left source.new)
+// The text to print for the script that the source holds, or the status.
+fn played_text<S: Source>(alloc: Global, source: &mut S) -> Result<Bytes, Status>
+    ensures { AnswersSource scripts result (S.left source.old) (S.left source.new)
+        (S.faults source.old) (S.faults source.new) }
+{
+    let bytes = input(alloc, source)?;
+    answer(alloc, bytes.as_slice())
+}
+
+// The text in version 2 of the script whose text in version 1 the source holds, or the status.
+fn upgraded_text<S: Source>(alloc: Global, source: &mut S) -> Result<Bytes, Status>
+    ensures { AnswersSource scripts_v1 result (S.left source.old) (S.left source.new)
+        (S.faults source.old) (S.faults source.new) }
+{
+    let bytes = input(alloc, source)?;
+    upgraded(alloc, bytes.as_slice())
+}
+
+// What the source holds, or the status.
+fn input<S: Source>(alloc: Global, source: &mut S) -> Result<Bytes, Status>
+    ensures { ReadsInput result (S.left source.old) (S.left source.new)
         (S.faults source.old) (S.faults source.new) }
 {
     match read_whole(alloc, source) {
-        Ok(Whole::All(bytes)) => answer(alloc, bytes.as_slice()),
+        Ok(Whole::All(bytes)) => Ok(bytes),
         Ok(Whole::Failed) => Err(Status::ReadFault),
         Ok(Whole::TooLong) => Err(Status::TooLong),
         Err(error) => Err(out_of_memory(error)),
     }
 }
 
-// The text to print for these bytes, or the status.
-fn answer(alloc: Global, bytes: &[u8]) -> Result<Bytes, Status>
-    ensures { AnswersText result bytes.now }
+// The text in version 2 of the script with these bytes as its text in version 1, or the status.
+fn upgraded(alloc: Global, bytes: &[u8]) -> Result<Bytes, Status>
+    ensures { AnswersText scripts_v1 result bytes.now }
 {
-    match text_for(alloc, bytes) {
+    match upgrade(alloc, bytes) {
         Ok(Some(text)) => Ok(text),
         Ok(None) => Err(Status::NoScript),
         Err(error) => Err(out_of_memory(error)),
     }
 }
 
-// The text to print for these bytes, if they are the text of a script.
-#[tactic(auto, unfolding(crate::specs::Tool::printed))]
-fn text_for(alloc: Global, bytes: &[u8]) -> Result<Option<Bytes>, DhcpError>
-    ensures { GivesText result bytes.now }
+// The summary of a demonstration of so many rounds, or the status.
+fn demo_text(alloc: Global, rounds: u32) -> Result<Bytes, Status>
+    requires some { 1 ≤ rounds }
+    requires few { rounds ≤ most_rounds }
+    ensures { AnswersDemo (demo_summary rounds) result }
 {
-    let Some(script) = read_thin_script(alloc, bytes)? else {
-        return Ok(None);
-    };
-    let outputs = replay_thin(alloc, &script)?;
-    Ok(Some(print_thin_outputs(alloc, outputs.as_slice())?))
+    match summary_of(alloc, rounds) {
+        Ok(text) => Ok(text),
+        Err(error) => Err(out_of_memory(error)),
+    }
+}
+
+// The summary of a demonstration of so many rounds.
+#[tactic(auto, unfolding(crate::specs::Tool::demo_summary))]
+fn summary_of(alloc: Global, rounds: u32) -> Result<Bytes, DhcpError>
+    requires some { 1 ≤ rounds }
+    requires few { rounds ≤ most_rounds }
+    ensures { Makes (λ text. text) result (demo_summary rounds) }
+{
+    let script = demo_script(alloc, rounds)?;
+    let replayed = replay(alloc, &script)?;
+    let Script::V4(script) = &script;
+    print_summary(alloc, script.events.len(), replayed.outputs())
+}
+
+// The text to print for these bytes, or the status.
+fn answer(alloc: Global, bytes: &[u8]) -> Result<Bytes, Status>
+    ensures { AnswersText scripts result bytes.now }
+{
+    match read_script(alloc, bytes) {
+        Ok(Some(script)) => played(alloc, &script),
+        Ok(None) => Err(Status::NoScript),
+        Err(error) => Err(out_of_memory(error)),
+    }
+}
+
+// The text to print for a script, or the status.
+fn played(alloc: Global, script: &Script) -> Result<Bytes, Status>
+    ensures { AnswersScript result script.now }
+{
+    if !script.is_valid() {
+        return Err(Status::Invalid);
+    }
+    match text_for(alloc, script) {
+        Ok(text) => Ok(text),
+        Err(error) => Err(out_of_memory(error)),
+    }
+}
+
+// The text to print for a valid script.
+#[tactic(auto, unfolding(crate::specs::Tool::printed))]
+fn text_for(alloc: Global, script: &Script) -> Result<Bytes, DhcpError>
+    requires { is_valid script.now ≡ true }
+    ensures text { Makes (λ text. text) result (printed script.now) }
+    ensures promises { OnOk result (KeepsPromisesOf script.now) }
+{
+    let replayed = replay(alloc, script)?;
+    print_outputs(alloc, replayed.outputs())
 }
 
 // The status of an error that can only be out of memory: no other error has it.
@@ -177,6 +294,3 @@ fn out_of_memory(error: DhcpError) -> Status
     drop(error);
     Status::NoMemory
 }
-
-#[cfg(test)]
-mod tests;

@@ -1,0 +1,90 @@
+-- The events of a script by their numbers.
+use Rattle.std.proofs.Common.{◌≡◌, ℕ, suc, ◌+◌, ◌<◌, ◌≤◌, ◌^◌, Bool, true, false, List, [], ◌∷◌, ◌++◌, length, take, get_or, subst, sym, ap, ◌∙◌, arith}
+use Rattle.std.specs.Prelude.{◌&&◌, nat_le, nat_lt, All}
+use Rattle.std.specs.List.{AllPass, list_all}
+use Rattle.std.proofs.Math.Seq.{take-suc}
+use Rattle.std.proofs.lemmas.List.{length-take-le}
+use Rattle.std.proofs.lemmas.List.Elements.{All-cons, All-head, All-nil, All-tail}
+use Rattle.std.proofs.lemmas.List.Sums.{AllPass-from_list_all}
+use Rattle.std.proofs.lemmas.Bool.{and_parts, leb-true, ltb-true}
+use Rattle.dhcp_wire.specs.Error.{ErrorParts, no_memory}
+use Rattle.dhcp_wire.specs.declared.error.ErrorKind.TheVariants.{InvalidArgument}
+use Rattle.dhcp_clock.specs.declared.link.Packet.{Packet}
+use Rattle.dhcp_history.specs.declared.script.Event.{Event as LifeEvent}
+use Rattle.dhcp_history.specs.declared.script.Input.{Input}
+use Rattle.dhcp_script.specs.Event.{are_in_order, are_valid, is_within_limits, moment_limit, most_events, most_packet_bytes, packet_of}
+use Rattle.dhcp_script.specs.declared.event.Event.{Event}
+use Rattle.dhcp_replay.specs.Replayed4.{IsRefusal, input_of, numbered, numbered_event}
+
+numbered-append : (n : ℕ) (events : List Event) (event : Event) → numbered n (events ++ event ∷ []) ≡ numbered n events ++ numbered_event (n + length events) event ∷ []
+numbered-append n [] event = ap (λ m. numbered_event m event ∷ []) (omega arith)
+numbered-append n (first ∷ events) event =
+    let shifted : suc n + length events ≡ n + length (first ∷ events) = omega arith in
+    ap (λ rest. numbered_event n first ∷ rest) (numbered-append (suc n) events event ∙ ap (λ m. numbered (suc n) events ++ numbered_event m event ∷ []) shifted)
+
+-- one event more
+pub numbered_more : (i : ℕ) (events : List Event) (event : Event) → i < length events → event ≡ get_or events i event → numbered 1 (take (i + 1) events) ≡ numbered 1 (take i events) ++ numbered_event (1 + i) event ∷ []
+numbered_more i events event below is =
+    let next : i + 1 ≡ suc i = omega arith in
+    let longer : take (i + 1) events ≡ take i events ++ event ∷ [] =
+    ap (λ (n : ℕ). take n events) next ∙ take-suc events i event below ∙ ap (λ (e : Event). take i events ++ e ∷ []) (sym is) in
+    let count : length (take i events) ≡ i = length-take-le i events (omega (arith, below)) in
+    ap (λ (all : List Event). numbered 1 all) longer ∙ numbered-append 1 (take i events) event ∙ ap (λ (n : ℕ). numbered 1 (take i events) ++ numbered_event (1 + n) event ∷ []) count
+
+-- and so where it is put at the end of those made so far
+pub numbered_push : (i : ℕ) (events : List Event) (event : Event) (made items : List (LifeEvent Packet)) (number : ℕ) (input : Input Packet) →
+    i < length events → event ≡ get_or events i event → made ≡ numbered 1 (take i events) → number ≡ 1 + i → input ≡ input_of event.what →
+    items ≡ made ++ record { number = number; moment = event.moment; refuse = event.refuse; input = input } ∷ [] → items ≡ numbered 1 (take (i + 1) events)
+numbered_push i events event made items number input below is made_is number_is input_is pushed =
+    let entry : ℕ → Input Packet → LifeEvent Packet = λ n brought. record { number = n; moment = event.moment; refuse = event.refuse; input = brought } in
+    pushed ∙ ap (λ (front : List (LifeEvent Packet)). front ++ entry number input ∷ []) made_is
+    ∙ ap (λ (n : ℕ). numbered 1 (take i events) ++ entry n input ∷ []) number_is
+    ∙ ap (λ (brought : Input Packet). numbered 1 (take i events) ++ entry (1 + i) brought ∷ []) input_is
+    ∙ sym (numbered_more i events event below is)
+
+-- every moment is below 2^60
+numbered_below : (n : ℕ) (events : List Event) → AllPass is_within_limits events → All (λ (event : LifeEvent Packet). event.moment < 2 ^ 60) (numbered n events)
+numbered_below n [] all = All-nil (λ (event : LifeEvent Packet). event.moment < 2 ^ 60)
+numbered_below n (event ∷ events) all =
+    All-cons (λ (event : LifeEvent Packet). event.moment < 2 ^ 60) (numbered_event n event) (numbered (suc n) events)
+    (ltb-true event.moment moment_limit (and_parts (nat_lt event.moment moment_limit) (nat_le (length (packet_of event.what)) most_packet_bytes) (All-head (λ (e : Event). is_within_limits e ≡ true) event events all)).0)
+    (numbered_below (suc n) events (All-tail (λ (e : Event). is_within_limits e ≡ true) event events all))
+
+-- the parts of the test of events
+record AreValid (start : ℕ) (events : List Event) : Type 0 where
+  few : nat_le (length events) most_events ≡ true
+  within : list_all is_within_limits events ≡ true
+
+valid_parts : (start : ℕ) (events : List Event) → are_valid start events ≡ true → AreValid start events
+unfolding are_valid
+valid_parts start events valid =
+    let most = and_parts (nat_lt start moment_limit && nat_le (length events) most_events && list_all is_within_limits events) (are_in_order start events) valid in
+    let both = and_parts (nat_lt start moment_limit && nat_le (length events) most_events) (list_all is_within_limits events) most.0 in
+    record {
+      few = (and_parts (nat_lt start moment_limit) (nat_le (length events) most_events) both.0).1;
+      within = both.1;
+    }
+
+-- valid events are few
+pub few_events : (start : ℕ) (events : List Event) → are_valid start events ≡ true → length events ≤ 20000
+few_events start events valid = leb-true (length events) most_events (valid_parts start events valid).few
+
+-- and their moments are below 2^60
+pub moments_below : (start : ℕ) (events : List Event) (made : List (LifeEvent Packet)) → made ≡ numbered 1 events → are_valid start events ≡ true → All (λ (event : LifeEvent Packet). event.moment < 2 ^ 60) made
+moments_below start events made is valid =
+    let Below : List (LifeEvent Packet) → Type 0 = λ all. All (λ (event : LifeEvent Packet). event.moment < 2 ^ 60) all in
+    subst Below (sym is) (numbered_below 1 events (AllPass-from_list_all is_within_limits events (valid_parts start events valid).within))
+
+-- the error of a call that was valid
+pub error_of_valid : (valid : Bool) (error : ErrorParts) → valid ≡ true → IsRefusal valid error → error ≡ no_memory
+error_of_valid true error is refusal = refusal
+error_of_valid false error is refusal = absurd cc
+
+-- an error is out of memory where all is valid, and else InvalidArgument
+pub refusal_of_valid : (valid : Bool) (error : ErrorParts) → valid ≡ true → error ≡ no_memory → IsRefusal valid error
+refusal_of_valid true error is memory = memory
+refusal_of_valid false error is memory = absurd cc
+
+pub refusal_of_invalid : (valid : Bool) (error : ErrorParts) → valid ≡ false → error.kind ≡ InvalidArgument → IsRefusal valid error
+refusal_of_invalid true error is kind = absurd cc
+refusal_of_invalid false error is kind = kind

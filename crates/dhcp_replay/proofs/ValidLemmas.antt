@@ -1,0 +1,110 @@
+-- The client of a valid script can begin.
+use Rattle.std.proofs.Common.{◌≡◌, ℕ, suc, ◌+◌, ◌≤◌, Bool, true, List, [], ◌∷◌, length, Option, Some, None, refl, subst, sym, ap, ◌∙◌, arith}
+use Rattle.std.specs.Prelude.{◌&&◌, ◌==◌, nat_le, not, fold, option_map, IfErr, Result}
+use Rattle.std.specs.BTreeSet.{insert_key}
+use Rattle.std.specs.List.{list_any}
+use Rattle.std.specs.Option.{option_map_or}
+use Rattle.std.specs.Ordering.{match_ordering, nat_cmp}
+use Rattle.std.specs.Str.{IsUtf8, is_utf8}
+use Rattle.std.specs.declared.cmp.Ordering.TheVariants.{Less, Equal, Greater}
+use Rattle.std.proofs.lemmas.Bool.{and_from, and_parts, le-leb, leb-true}
+use Rattle.std.proofs.lemmas.List.{length-map}
+use Rattle.std.proofs.lemmas.Str.{IsUtf8-from_is_utf8}
+use Rattle.dhcp_wire.specs.Error.{ErrorParts}
+use Rattle.dhcp4_msg.specs.OptionCode.{code_of}
+use Rattle.dhcp4_lease.specs.Config as configs
+use Rattle.dhcp4_lease.specs.Config.{rising, rising_codes}
+use Rattle.dhcp4_lease.specs.Lease as leases
+use Rattle.dhcp_script.specs.Event.{are_valid}
+use Rattle.dhcp_script.specs.Lease4.{lease_with}
+use Rattle.dhcp_script.specs.Script4.{are_few, config_of, is_host_name, is_in_order, is_valid, most_client_bytes, most_host_bytes, requested}
+use Rattle.dhcp_script.specs.declared.event.Event.{Event}
+use Rattle.dhcp_script.specs.declared.lease4.Lease4.{Lease4}
+use Rattle.dhcp_script.specs.declared.script4.Script4.{Script4}
+use Rattle.dhcp_replay.specs.Replayed4.{IsRefusal, can_replay}
+
+-- numbers in rising order are no more than they were
+inserted : (keys : List ℕ) (k : ℕ) → length (insert_key nat_cmp keys k) ≤ suc (length keys)
+inserted [] k = omega arith
+inserted (x ∷ keys) k =
+    elim (nat_cmp k x) as (λ order. length (match_ordering order (k ∷ x ∷ keys) (x ∷ keys) (x ∷ insert_key nat_cmp keys k)) ≤ suc (length (x ∷ keys)))
+    [ Less ↦ omega arith | Equal ↦ omega arith | Greater ↦ omega (arith, inserted keys k) ]
+
+rising_from : (numbers keys : List ℕ) → length (fold (insert_key nat_cmp) keys numbers) ≤ length keys + length numbers
+rising_from [] keys = omega arith
+rising_from (number ∷ numbers) keys = omega (arith, rising_from numbers (insert_key nat_cmp keys number), inserted keys number)
+
+rising_few : (numbers : List ℕ) → length (rising_codes numbers) ≤ length numbers
+unfolding rising_codes
+rising_few numbers = rw (length-map (rising numbers) code_of) (omega (arith, rising_from numbers []))
+
+-- so many options are asked for at most
+requested_few : (codes : Option (List ℕ)) → are_few codes ≡ true → nat_le (length (requested codes (configs.config_of []).request_opts)) 255 ≡ true
+unfolding configs.config_of
+requested_few None few = refl
+requested_few (Some listed) few = le-leb (length (rising_codes listed)) 255 (omega (arith, rising_few listed, leb-true (length listed) 255 few))
+
+-- the lease that is held has the times of the script
+order_kept : (lease : Option Lease4) → is_in_order lease ≡ true → option_map_or leases.are_times_in_order (option_map lease_with lease) true ≡ true
+unfolding lease_with
+order_kept None order = refl
+order_kept (Some lease) order = order
+
+-- the parts of the test of a script
+record ValidParts (script : Script4) : Type 0 where
+  index : not (script.iface_index == 0) ≡ true
+  host : is_host_name script.host ≡ true
+  client : nat_le (length script.client) most_client_bytes ≡ true
+  codes : are_few script.codes ≡ true
+  lease : is_in_order script.lease ≡ true
+  events : are_valid script.start script.events ≡ true
+
+parts : (script : Script4) → is_valid script ≡ true → ValidParts script
+unfolding is_valid
+parts script valid =
+    let lease = and_parts (not (script.iface_index == 0) && is_host_name script.host && nat_le (length script.client) most_client_bytes && are_few script.codes && is_in_order script.lease) (are_valid script.start script.events) valid in
+    let codes = and_parts (not (script.iface_index == 0) && is_host_name script.host && nat_le (length script.client) most_client_bytes && are_few script.codes) (is_in_order script.lease) lease.0 in
+    let client = and_parts (not (script.iface_index == 0) && is_host_name script.host && nat_le (length script.client) most_client_bytes) (are_few script.codes) codes.0 in
+    let host = and_parts (not (script.iface_index == 0) && is_host_name script.host) (nat_le (length script.client) most_client_bytes) client.0 in
+    let index = and_parts (not (script.iface_index == 0)) (is_host_name script.host) host.0 in
+    record { index = index.0; host = index.1; client = host.1; codes = client.1; lease = codes.1; events = lease.1 }
+
+host_parts : (host : List ℕ) → is_host_name host ≡ true → ((nat_le (length host) most_host_bytes && not (list_any (λ byte. byte == 0) host)) ≡ true) × (is_utf8 host ≡ true)
+host_parts host valid = and_parts (nat_le (length host) most_host_bytes && not (list_any (λ byte. byte == 0) host)) (is_utf8 host) valid
+
+-- its host name is a text
+pub host_utf8 : (script : Script4) → is_valid script ≡ true → IsUtf8 script.host
+host_utf8 script valid = IsUtf8-from_is_utf8 script.host (host_parts script.host (parts script valid).host).1
+
+-- the configuration of a valid script is within its limits
+config_within : (script : Script4) → ValidParts script → configs.is_within_limits (config_of script) ≡ true
+unfolding config_of configs.is_within_limits
+config_within script valid =
+    and_from (nat_le (length script.host) most_host_bytes && not (list_any (λ byte. byte == 0) script.host) && nat_le (length script.client) most_client_bytes) (nat_le (length (requested script.codes (configs.config_of []).request_opts)) 255)
+    (and_from (nat_le (length script.host) most_host_bytes && not (list_any (λ byte. byte == 0) script.host)) (nat_le (length script.client) most_client_bytes) (host_parts script.host valid.host).0 valid.client)
+    (requested_few script.codes valid.codes)
+
+index_kept : (script : Script4) → not (script.iface_index == 0) ≡ true → not ((config_of script).iface_index == 0) ≡ true
+unfolding config_of
+index_kept script is = is
+
+-- so a valid script can be played
+pub valid_plays : (script : Script4) → is_valid script ≡ true → can_replay (config_of script) (option_map lease_with script.lease) script.start script.events ≡ true
+valid_plays script valid =
+    let all = parts script valid in
+    and_from (are_valid script.start script.events) (not ((config_of script).iface_index == 0) && configs.is_within_limits (config_of script) && option_map_or leases.are_times_in_order (option_map lease_with script.lease) true) all.events
+    (and_from (not ((config_of script).iface_index == 0) && configs.is_within_limits (config_of script)) (option_map_or leases.are_times_in_order (option_map lease_with script.lease) true)
+    (and_from (not ((config_of script).iface_index == 0)) (configs.is_within_limits (config_of script)) (index_kept script all.index) (config_within script all))
+    (order_kept script.lease all.lease))
+
+-- and its replay is refused as the script is
+pub played_refusal : {X : Type 0} (result : Result X ErrorParts) (script : Script4) (config : configs.Config) (lease : Option leases.Lease) (events : List Event) →
+    config ≡ config_of script → lease ≡ option_map lease_with script.lease → events ≡ script.events → is_valid script ≡ true →
+    IfErr result (IsRefusal (can_replay config lease script.start events)) → IfErr result (IsRefusal (is_valid script))
+played_refusal result script config lease events config_is lease_is events_is valid refused =
+    let same : can_replay config lease script.start events ≡ is_valid script =
+    ap (λ (c : configs.Config). can_replay c lease script.start events) config_is
+    ∙ ap (λ (l : Option leases.Lease). can_replay (config_of script) l script.start events) lease_is
+    ∙ ap (λ (e : List Event). can_replay (config_of script) (option_map lease_with script.lease) script.start e) events_is
+    ∙ valid_plays script valid ∙ sym valid in
+    subst (λ (b : Bool). IfErr result (IsRefusal b)) same refused

@@ -1,0 +1,24 @@
+//! What is promised of every client, over every script. A law is the clause of a function that does
+//! nothing.
+
+ghost use Rattle.std.specs.Prelude.{ℕ, List, Option};
+ghost use Rattle.dhcp4_lease.specs.Lease.{Lease};
+ghost use Rattle.dhcp_script.specs.declared.event.Event.{Event};
+ghost use Rattle.dhcp_replay.specs.Promises.{KeepsPromises};
+
+use dhcp4_client::{DhcpV4Client, laws};
+
+/// Over all words and events, and with whatever lease it begins, a client's Requests get rarer by
+/// half, its messages are far apart and few at an event, each names the offer or the lease of its
+/// state, and after the polls of an event it is in no state whose end has come.
+pub fn promises_are_kept(client: &DhcpV4Client)
+    ensures { (lease : Option Lease) (words : List ℕ) (events : List Event) →
+        KeepsPromises client.now.config lease words events }
+{
+    laws::table_is_lawful();
+    laws::requests_get_rarer(client);
+    laws::messages_are_far_apart(client);
+    laws::four_requests_of_a_lease(client);
+    laws::seven_polls_an_event(client);
+    laws::no_state_is_overdue(client);
+}

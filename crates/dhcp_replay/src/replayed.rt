@@ -1,0 +1,69 @@
+//! A script of either family, played.
+
+ghost use Rattle.std.specs.Prelude.{◌≡◌, IfErr, IfOk, OnOk, All, map, true};
+ghost use Rattle.dhcp_script.specs.Output.{HasFailureText, plain_output};
+ghost use Rattle.dhcp_script.specs.Script as scripts;
+ghost use Rattle.dhcp_script.specs.Script4 as v4;
+ghost use Rattle.dhcp_replay.specs.Promises.{KeepsPromisesOf, KeepsPromisesOfV4};
+ghost use Rattle.dhcp_replay.specs.Replayed as lives;
+ghost use Rattle.dhcp_replay.specs.Replayed.{outputs_in};
+ghost use Rattle.dhcp_replay.specs.Replayed4.{IsRefusal};
+
+use crate::{Replayed4, replay4};
+use dhcp_clock::WordList;
+use dhcp_script::{Output, Script, Script4};
+use dhcp_wire::{DhcpError, ErrorKind, FixedText};
+use std::alloc::Global;
+
+/// What happened to the client of a script, and the client at the end.
+#[derive(Drop)]
+pub enum Replayed {
+    /// Of an IPv4 script.
+    V4(Replayed4),
+}
+
+impl Replayed {
+    /// What is reported of each event, in order.
+    pub fn outputs(&self) -> &[Output]
+        ensures { result.now ≡ outputs_in self.now }
+    {
+        match self {
+            Replayed::V4(replayed) => replayed.outputs.as_slice(),
+        }
+    }
+}
+
+/// Plays a script. `InvalidArgument` if and only if it is not valid.
+pub fn replay(alloc: Global, script: &Script) -> Result<Replayed, DhcpError>
+    ensures valid { OnOk result (scripts.is_valid script.now ≡ true) }
+    ensures refused { IfErr result (IsRefusal (scripts.is_valid script.now)) }
+    ensures outputs { IfOk result (λ replayed.
+        map plain_output (outputs_in replayed) ≡ lives.outputs_of script.now) }
+    ensures failures { IfOk result (λ replayed. All HasFailureText (outputs_in replayed)) }
+    ensures client { IfOk result (λ replayed. lives.HasClientOf script.now replayed) }
+    ensures promises { OnOk result (KeepsPromisesOf script.now) }
+{
+    match script {
+        Script::V4(script) => Ok(Replayed::V4(replay_script4(alloc, script)?)),
+    }
+}
+
+// Plays an IPv4 script.
+fn replay_script4(alloc: Global, script: &Script4) -> Result<Replayed4, DhcpError>
+    ensures valid { OnOk result (v4.is_valid script.now ≡ true) }
+    ensures refused { IfErr result (IsRefusal (v4.is_valid script.now)) }
+    ensures outputs { IfOk result (λ replayed.
+        map plain_output replayed.outputs ≡ lives.outputs_of_v4 script.now) }
+    ensures failures { IfOk result (λ replayed. All HasFailureText replayed.outputs) }
+    ensures client { IfOk result (λ replayed. lives.HasClientOfV4 script.now replayed) }
+    ensures promises { OnOk result (KeepsPromisesOfV4 script.now) }
+{
+    if !script.is_valid() {
+        return Err(DhcpError::new_fixed(ErrorKind::InvalidArgument, FixedText::Script));
+    }
+    let config = script.config(alloc)?;
+    let lease = script.held_lease(alloc)?;
+    let mut words = WordList::new(script.words.as_slice().to_vec(alloc)?);
+    let events = script.events.as_slice();
+    replay4(alloc, config, lease, &mut words, script.start, events)
+}

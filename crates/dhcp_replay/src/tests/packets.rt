@@ -1,0 +1,159 @@
+//! The words in capitals of the worked scripts: packets in hex, and fields that come again and
+//! again.
+
+use std::alloc::AllocError;
+
+// The Ethernet header of what a client sends, and the headers of what the server 192.0.2.1 sends,
+// whose checksums are 0: payloads of 256, 268 and 302 bytes, and one of 256 to the wrong port.
+const CLIENT: &str = "ffffffffffff 020000000001 0800";
+
+const SERVER: &str = "ffffffffffff 020000000002 0800 4500011c 00000000 40110000 c0000201 ffffffff \
+    00430044 01080000";
+
+const SERVER_268: &str = "ffffffffffff 020000000002 0800 45000128 00000000 40110000 c0000201 \
+    ffffffff 00430044 01140000";
+
+const SERVER_302: &str = "ffffffffffff 020000000002 0800 4500014a 00000000 40110000 c0000201 \
+    ffffffff 00430044 01360000";
+
+const SERVER_TO_PORT_67: &str = "ffffffffffff 020000000002 0800 4500011c 00000000 40110000 \
+    c0000201 ffffffff 00430043 01080000";
+
+// IPv4 and UDP headers of what a client sends.
+const DISCOVER_IP: &str = "45000117 00004000 8011f9d6 00000000 ffffffff 00440043 01035c8d";
+
+const REQUEST_IP: &str = "45000123 00004000 8011f9ca 00000000 ffffffff 00440043 010f606e";
+
+const REBIND_IP: &str = "45000123 00004000 8011f9ca 00000000 ffffffff 00440043 010f9e63";
+
+const REBOOT_IP: &str = "4500011d 00004000 8011f9d0 00000000 ffffffff 00440043 01096672";
+
+const PROXY_IP: &str = "45000123 00004000 801175be c000020a c0000201 00440043 010fd861";
+
+// Messages up to `chaddr`: of a client without and with an address, of the server to the client's
+// transaction id and to another.
+const PLAIN: &str = "01010600 12345678 *20";
+
+const BOUND: &str = "01010600 12345678 00000000 c000020a *12";
+
+const REPLY: &str = "02010600 12345678 *8 c000020a c0000201 00000000";
+
+const FOREIGN: &str = "02010600 12345679 *8 c000020a c0000201 00000000";
+
+// Options.
+const DISCOVER: &str = "350101 3703010306 3d00 ff";
+
+const REQUEST: &str = "3204c000020a 350103 3604c0000201 3703010306 3d00 ff";
+
+const REBOOT: &str = "3204c000020a 350103 3703010306 3d00 ff";
+
+const RELEASE: &str = "3204c000020a 350107 3604c0000201 3703010306 3d00 ff";
+
+const OFFER: &str = "350102 3604c0000201 330400000064 ff";
+
+const ACK: &str = "350105 3604c0000201 330400000064 ff";
+
+const ACK_OF_NO_TIME: &str = "350105 3604c0000201 330400000000 ff";
+
+const NACK: &str = "350106 3604c0000201 330400000064 ff";
+
+const ACK_OF_600: &str = "350105 3604c0000201 330400000258 3a040000012c 3b040000020d ff";
+
+const USUAL_ACK: &str = "350105 3604c0000201 330400000e10 3a0400000708 3b0400000c4e 0104ffffff00 \
+    1c04c00002ff 0304c0000201 0604c0000201 0c03666f6f 0f036c616e ff";
+
+// Each packet: its name, its headers, its message up to `chaddr`, its options. A payload has no
+// headers. `*8` stands for eight zero bytes.
+const PACKETS: [(&str, &str, &str, &str, &str); 19] = [
+    ("DISCOVER", CLIENT, DISCOVER_IP, PLAIN, DISCOVER),
+    ("REQUEST", CLIENT, REQUEST_IP, PLAIN, REQUEST),
+    ("REBOOT", CLIENT, REBOOT_IP, PLAIN, REBOOT),
+    ("REBIND", CLIENT, REBIND_IP, BOUND, REQUEST),
+    ("PROXY_RELEASE", CLIENT, PROXY_IP, PLAIN, RELEASE),
+    ("RENEW", "", "", BOUND, REQUEST),
+    ("RELEASE", "", "", PLAIN, RELEASE),
+    ("OFFER", SERVER, "", REPLY, OFFER),
+    ("OFFER_TO_ANOTHER", SERVER, "", FOREIGN, OFFER),
+    ("OFFER_TO_PORT_67", SERVER_TO_PORT_67, "", REPLY, OFFER),
+    ("OFFER_PAYLOAD", "", "", REPLY, OFFER),
+    ("ACK", SERVER, "", REPLY, ACK),
+    ("ACK_OF_NO_TIME", SERVER, "", REPLY, ACK_OF_NO_TIME),
+    ("ACK_OF_600", SERVER_268, "", REPLY, ACK_OF_600),
+    ("ACK_OF_600_PAYLOAD", "", "", REPLY, ACK_OF_600),
+    ("USUAL_ACK", SERVER_302, "", REPLY, USUAL_ACK),
+    ("NACK", SERVER, "", REPLY, NACK),
+    ("NACK_PAYLOAD", "", "", REPLY, NACK),
+    ("ANOTHER_ACK", SERVER, "", FOREIGN, ACK),
+];
+
+// Fields that are no packets: the addresses of the lease; what else its text has where the Ack says
+// nothing of it; the carrier from the client's address to the server's.
+const FIELDS: [(&str, &str); 3] = [
+    ("LEASE", "192.0.2.10 192.0.2.1 192.0.2.1"),
+    ("REST", "0.0.0.0 none none none none none none none none"),
+    ("UNICAST", "udp4 192.0.2.10 192.0.2.1"),
+];
+
+/// Adds a text to another, each of its words in capitals replaced by what it stands for.
+pub(super) fn push_lines(text: &mut String, lines: &str) -> Result<(), AllocError> {
+    for line in lines.lines() {
+        push_words(text, line)?;
+        text.push_str("\n")?;
+    }
+    Ok(())
+}
+
+// Adds a line without its end.
+fn push_words(text: &mut String, line: &str) -> Result<(), AllocError> {
+    for (index, word) in line.split(' ').enumerate() {
+        if index > 0 {
+            text.push_str(" ")?;
+        }
+        push_word(text, word)?;
+    }
+    Ok(())
+}
+
+// Adds what a word stands for.
+fn push_word(text: &mut String, word: &str) -> Result<(), AllocError> {
+    for (name, headers, more_headers, front, options) in &PACKETS {
+        if *name == word {
+            push_hex(text, headers)?;
+            push_hex(text, more_headers)?;
+            return push_message(text, front, options);
+        }
+    }
+    for (name, field) in &FIELDS {
+        if *name == word {
+            return text.push_str(field);
+        }
+    }
+    text.push_str(word)
+}
+
+// Adds a message: what stands before `chaddr`; the MAC address 02:00:00:00:00:01 with zero bytes up
+// to the cookie; the options.
+fn push_message(text: &mut String, front: &str, options: &str) -> Result<(), AllocError> {
+    push_hex(text, front)?;
+    push_hex(text, "020000000001 *202 63825363")?;
+    push_hex(text, options)
+}
+
+// Adds hex whose words stand apart, with runs of zero bytes.
+fn push_hex(text: &mut String, words: &str) -> Result<(), AllocError> {
+    for word in words.split(' ') {
+        match word.strip_prefix('*') {
+            Some(count) => push_zeros(text, count.parse::<u32>().unwrap_or(0))?,
+            None => text.push_str(word)?,
+        }
+    }
+    Ok(())
+}
+
+// Adds so many zero bytes.
+fn push_zeros(text: &mut String, count: u32) -> Result<(), AllocError> {
+    for _ in 0..count {
+        text.push_str("00")?;
+    }
+    Ok(())
+}

@@ -1,0 +1,157 @@
+//! Each exit status by its cause.
+
+use super::lives::script;
+use crate::{MemSink, MemSource, replay_tool};
+use std::alloc::Global;
+use std::test::Fail;
+
+// Three events that lead to a lease.
+const LEASED: &str = "at 0 ok none\nat 1000 ok frame OFFER\nat 2000 ok frame ACK\n";
+
+/// The status of a run with these words over a source of these bytes, and what the sink took. The
+/// read with the first number and the write with the second fail. A run that is out of memory fails
+/// the test as any other call that is.
+pub(super) fn run(
+    alloc: Global,
+    words: &[&str],
+    input: &[u8],
+    failing: [u32; 2],
+) -> Result<(u8, Vec<u8>), Fail> {
+    let mut owned = Vec::new(alloc);
+    for word in words {
+        owned.push(String::from_str(alloc, word)?)?;
+    }
+    let fails = vec![in alloc; failing[0]]?;
+    let mut source = MemSource::new(input.to_vec(alloc)?, fails);
+    let mut sink = MemSink::new(alloc, 65536, vec![in alloc; failing[1]]?)?;
+    let status = replay_tool(alloc, owned.as_slice(), &mut source, &mut sink);
+    if status == 5 {
+        return Err(Fail::from("OutOfMemory"));
+    }
+    Ok((status, sink.bytes().to_vec(alloc)?))
+}
+
+#[test]
+fn other_words_are_wrong(rt: HostRuntime) -> Result<(), Fail> {
+    let alloc = rt.alloc();
+    let text = script(alloc, ("", ""), LEASED)?;
+    let cases: [&[&str]; 13] = [
+        &[],
+        &["run", "x"],
+        &["Run"],
+        &["run "],
+        &["upgrade", "1"],
+        &["upgrade", "run"],
+        &["demo"],
+        &["demo", "0"],
+        &["demo", "01"],
+        &["demo", "2001"],
+        &["demo", "+1"],
+        &["demo", "1", "1"],
+        &["Demo", "1"],
+    ];
+    for words in cases {
+        let (status, taken) = run(alloc, words, text.as_bytes(), [1, 1])?;
+        assert_eq!(rt; (status, taken.len()), (1, 0), "{words:?}");
+    }
+    Ok(())
+}
+
+#[test]
+fn texts_are_no_script_or_not_valid(rt: HostRuntime) -> Result<(), Fail> {
+    let alloc = rt.alloc();
+    let codes = repeated(alloc, "00", 256)?;
+    let packet = format!(in alloc; "at 0 ok frame {}\n", repeated(alloc, "00", 1501)?)?;
+    let events = repeated(alloc, "at 0 ok none\n", 20_001)?;
+    let cases = [
+        ("no text", "", "", "", 2),
+        (
+            "a MAC in upper case",
+            "iface",
+            "1 02000000000A 0 0",
+            LEASED,
+            2,
+        ),
+        (
+            "an index past its type",
+            "iface",
+            "4294967296 020000000001 0 0",
+            LEASED,
+            2,
+        ),
+        ("index 0", "iface", "0 020000000001 0 0", LEASED, 7),
+        ("256 codes", "codes", codes.as_str(), LEASED, 7),
+        ("a packet of 1,501 bytes", "", "", packet.as_str(), 7),
+        ("20,001 events", "", "", events.as_str(), 7),
+        (
+            "a moment that falls",
+            "",
+            "",
+            "at 5 ok none\nat 4 ok none\n",
+            7,
+        ),
+        (
+            "a moment before the start",
+            "start",
+            "1",
+            "at 0 ok none\n",
+            7,
+        ),
+        (
+            "a lease out of order",
+            "lease",
+            "LEASE 20 10 30 REST",
+            LEASED,
+            7,
+        ),
+    ];
+    for (name, tag, fields, events, expected) in cases {
+        let text = script(alloc, (tag, fields), events)?;
+        let input = if expected == 2 && tag.is_empty() {
+            ""
+        } else {
+            text.as_str()
+        };
+        let (status, taken) = run(alloc, &["run"], input.as_bytes(), [0, 0])?;
+        assert_eq!(rt; (status, taken.len()), (expected, 0), "{name}");
+    }
+    Ok(())
+}
+
+// A text so many times.
+fn repeated(alloc: Global, piece: &str, count: u32) -> Result<String, Fail> {
+    let mut text = String::new(alloc);
+    for _ in 0..count {
+        text.push_str(piece)?;
+    }
+    Ok(text)
+}
+
+#[test]
+fn more_than_the_limit_is_too_long(rt: HostRuntime) -> Result<(), Fail> {
+    let alloc = rt.alloc();
+    let input = vec![in alloc; b'a'; 16_777_217]?;
+    let (status, taken) = run(alloc, &["run"], input.as_slice(), [0, 0])?;
+    assert_eq!(rt; (status, taken.len()), (6, 0));
+    let line = run(alloc, &["run"], &input.as_slice()[1..], [0, 0])?;
+    assert_eq!(rt; line.0, 2);
+    Ok(())
+}
+
+#[test]
+fn each_failing_read_and_write_has_its_status(rt: HostRuntime) -> Result<(), Fail> {
+    let alloc = rt.alloc();
+    let text = script(alloc, ("", ""), LEASED)?;
+    let (_, whole) = run(alloc, &["run"], text.as_bytes(), [0, 0])?;
+    for number in 1..4u32 {
+        let (status, taken) = run(alloc, &["run"], text.as_bytes(), [number, 0])?;
+        assert!(rt;
+            status == 3 && taken.is_empty() || status == 0,
+            "read {number}"
+        );
+        let (status, taken) = run(alloc, &["run"], text.as_bytes(), [0, number])?;
+        let is_front = whole.as_slice().starts_with(taken.as_slice());
+        assert!(rt; status == 4 && is_front || status == 0, "write {number}");
+    }
+    Ok(())
+}

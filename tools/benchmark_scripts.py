@@ -1,0 +1,100 @@
+#!/usr/bin/env python3
+"""Times the program over long scripts.
+
+usage, at the top of the repository, after: cd crates/dhcp_main && rt run < stdin -- run
+  tools/benchmark_scripts.py [EVENTS..]        2000 and 20000 where none is given
+
+Three kinds of scripts: a client with a lease that is polled before T1; a lease that is renewed again and again; a
+client whose Discover is open, with a frame for another client in each event. Each figure is the best of five runs,
+the start of the process taken off; memory is the most that the process held.
+"""
+
+import os
+import subprocess
+import sys
+import time
+
+TOP = os.path.dirname(os.path.dirname(os.path.abspath(__file__)))
+PROGRAM = f"{TOP}/crates/dhcp_main/out/dhcp_main"
+ROUNDS = 5
+
+
+def parts_of_a_life():
+    """Returns the lines before the events of a worked script, and its Offer and its Ack in hex."""
+    with open(f"{TOP}/tools/scripts/renewal", encoding="ascii") as file:
+        lines = file.read().splitlines()
+    front = [line for line in lines if not line.startswith("at ") and line != "end"]
+    offer, ack = [line.split(" ")[4] for line in lines if " frame " in line]
+    return front, offer, ack
+
+
+def idle(count, offer, ack):
+    """A client with a lease, polled again and again before T1."""
+    yield f"at 0 ok frame {offer}"
+    yield f"at 0 ok frame {ack}"
+    for number in range(count - 2):
+        yield f"at {1 + number // 100} ok none"
+
+
+def renewed(count, offer, ack):
+    """A lease that is renewed every 300 seconds: an event at T1, and one with the Ack."""
+    yield f"at 0 ok frame {offer}"
+    yield f"at 0 ok frame {ack}"
+    # The payload of a frame stands behind 42 bytes of headers.
+    payload = ack[84:]
+    for number in range((count - 2) // 2):
+        start = 300_010 * number + 300_000
+        yield f"at {start} ok none"
+        yield f"at {start + 10} ok payload {payload}"
+
+
+def foreign(count, offer, _):
+    """A client whose Discover is open, with an Offer to another transaction id in each event."""
+    other = offer.replace("12345678", "12345679", 1)
+    for number in range(count):
+        yield f"at {number // 100} ok frame {other}"
+
+
+def seconds_of(text):
+    """Returns the time of the fastest run over this text, and what it printed."""
+    best, printed = None, b""
+    for _ in range(ROUNDS):
+        begin = time.perf_counter()
+        done = subprocess.run([PROGRAM, "run"], input=text, capture_output=True)
+        took = time.perf_counter() - begin
+        best, printed = min(took, best or took), done.stdout
+        if done.returncode not in (0, 2):
+            sys.exit(f"status {done.returncode}")
+    return best, printed
+
+
+def peak_of(text):
+    """Returns the most memory, in KiB, of a run over this text."""
+    with subprocess.Popen([PROGRAM, "run"], stdin=subprocess.PIPE, stdout=subprocess.DEVNULL) as child:
+        child.stdin.write(text)
+        child.stdin.close()
+        _, _, usage = os.wait4(child.pid, 0)
+        child.returncode = 0
+    return usage.ru_maxrss
+
+
+def main(words):
+    counts = [int(word) for word in words] or [2000, 20000]
+    front, offer, ack = parts_of_a_life()
+    start, _ = seconds_of(b"")
+    print("| script | events | seconds | events a second | MB read | MB printed | MB a second | MiB of memory |")
+    print("|---|---|---|---|---|---|---|---|")
+    for kind in (idle, renewed, foreign):
+        for count in counts:
+            text = "\n".join([*front, *kind(count, offer, ack), "end", ""]).encode()
+            took, printed = seconds_of(text)
+            took = max(took - start, 1e-6)
+            moved = (len(text) + len(printed)) / 1e6
+            cells = (kind.__name__, f"{count:,}", f"{took:.4f}", f"{count / took:,.0f}", f"{len(text) / 1e6:.2f}")
+            cells += (f"{len(printed) / 1e6:.2f}", f"{moved / took:.0f}", f"{peak_of(text) / 1024:.1f}")
+            print(f"| {' | '.join(cells)} |")
+    return 0
+
+
+if __name__ == "__main__":
+    sys.exit(main(sys.argv[1:]))

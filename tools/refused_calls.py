@@ -1,0 +1,116 @@
+#!/usr/bin/env python3
+"""Refuses calls of a program one at a time, and says how each run ends.
+
+usage, at the top of the repository:
+  tools/refused_calls.py scripts              the program over each script of tools/scripts: each allocation, each
+                                              read and each write refused in turn (first: cd crates/dhcp_main && rt run)
+  tools/refused_calls.py program NUMBER WORD..  the program with these words, and this one allocation refused
+  tools/refused_calls.py tests CRATE..        the tests of these crates, each allocation refused in turn (first, in each
+                                              crate's folder: rt test)
+
+A run of the program with an allocation refused must end with status 5 and nothing printed, or with 0 and all of it
+printed; with a read refused with 3 and nothing printed; with a write refused with 4 and a part of the text, from its
+front. A test must pass, or fail for out of memory. Exit status: 0 where all runs ended so, else 1.
+"""
+
+import os
+import subprocess
+import sys
+import tempfile
+
+TOP = os.path.dirname(os.path.dirname(os.path.abspath(__file__)))
+PROGRAM = f"{TOP}/crates/dhcp_main/out/dhcp_main"
+SCRIPTS = f"{TOP}/tools/scripts"
+OUT_OF_MEMORY = (b"OutOfMemory", b"AllocError", b"AllocFailed", b"NoMemory")
+
+
+class Runner:
+    """Runs commands with one call refused, by a library that is preloaded."""
+
+    def __init__(self, folder):
+        self.library = f"{folder}/refuse_call.so"
+        self.log = f"{folder}/log"
+        source = f"{TOP}/tools/refuse_call.c"
+        subprocess.run(["cc", "-O1", "-shared", "-fPIC", "-o", self.library, source], check=True)
+
+    def run(self, command, given, kind, number):
+        """Returns the finished command, and whether the call was made that was to be refused."""
+        if os.path.exists(self.log):
+            os.remove(self.log)
+        where = {"LD_PRELOAD": self.library, "REFUSE_LOG": self.log, f"REFUSE_{kind}": str(number)}
+        done = subprocess.run(command, input=given, capture_output=True, env={**os.environ, **where})
+        return done, os.path.exists(self.log)
+
+    def in_turn(self, command, given, kind):
+        """Gives each run of the command in which a call of this kind was refused, with the call's number."""
+        number = 1
+        while True:
+            done, was_made = self.run(command, given, kind, number)
+            if not was_made:
+                return
+            yield number, done
+            number += 1
+
+
+def is_lawful(kind, done, whole):
+    """Returns whether a run of the program ended as it must."""
+    if done.returncode == 0:
+        return kind == "ALLOCATION" and done.stdout == whole
+    wanted = {"ALLOCATION": 5, "READ": 3, "WRITE": 4}[kind]
+    is_front = whole.startswith(done.stdout) and done.stdout != whole
+    return done.returncode == wanted and (is_front if kind == "WRITE" else not done.stdout)
+
+
+def try_scripts(runner):
+    """Returns how many runs of the program over the scripts ended as they must not."""
+    wrong = 0
+    for name in sorted(os.listdir(SCRIPTS)):
+        with open(f"{SCRIPTS}/{name}", "rb") as file:
+            given = file.read()
+        whole = subprocess.run([PROGRAM, "run"], input=given, capture_output=True, check=True).stdout
+        for kind in ("ALLOCATION", "READ", "WRITE"):
+            statuses = {}
+            for number, done in runner.in_turn([PROGRAM, "run"], given, kind):
+                statuses[done.returncode] = statuses.get(done.returncode, 0) + 1
+                if not is_lawful(kind, done, whole):
+                    wrong += 1
+                    print(f"{name}: {kind.lower()} {number}: status {done.returncode}")
+            counts = ", ".join(f"{many} with status {status}" for status, many in sorted(statuses.items()))
+            print(f"{name}: each {kind.lower()} refused in turn: {counts or 'none'}")
+    return wrong
+
+
+def try_tests(runner, crate):
+    """Returns how many runs of the crate's tests failed for anything but out of memory."""
+    program = f"{TOP}/crates/{crate}/out/{crate}_tests"
+    listed = subprocess.run([program, "--list"], capture_output=True, check=True).stdout.decode()
+    tests = [line.removesuffix(": test") for line in listed.splitlines() if line.endswith(": test")]
+    wrong, runs = 0, 0
+    for test in tests:
+        for number, done in runner.in_turn([program, test], b"", "ALLOCATION"):
+            runs += 1
+            said = done.stdout + done.stderr
+            if done.returncode and not any(word in said for word in OUT_OF_MEMORY):
+                wrong += 1
+                print(f"{crate}: {test}: allocation {number}: status {done.returncode}\n{said.decode()}")
+    print(f"{crate}: {len(tests)} tests, {runs} allocations refused in turn, {wrong} runs that ended otherwise")
+    return wrong
+
+
+def main(words):
+    if not words or words[0] not in ("scripts", "program", "tests"):
+        print(__doc__, file=sys.stderr)
+        return 2
+    with tempfile.TemporaryDirectory() as folder:
+        runner = Runner(folder)
+        if words[0] == "scripts":
+            return 1 if try_scripts(runner) else 0
+        if words[0] == "program":
+            done, _ = runner.run([PROGRAM, *words[2:]], b"", "ALLOCATION", int(words[1]))
+            print(f"status {done.returncode}, {len(done.stdout)} bytes printed")
+            return 0 if done.returncode == 5 and not done.stdout else 1
+        return 1 if sum(try_tests(runner, crate) for crate in words[1:]) else 0
+
+
+if __name__ == "__main__":
+    sys.exit(main(sys.argv[1:]))
