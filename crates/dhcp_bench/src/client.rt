@@ -49,22 +49,38 @@ fn poll(exchange: &mut Exchange, now: u32, packet: Option<Packet>) -> Result<(),
     Ok(())
 }
 
-// A packet of these bytes.
-fn packet(alloc: Global, kind: PacketKind, bytes: &[u8]) -> Result<Option<Packet>, DhcpError> {
+// A poll with a packet of these bytes.
+fn hear(
+    alloc: Global,
+    exchange: &mut Exchange,
+    now: u32,
+    kind: PacketKind,
+    bytes: &[u8],
+) -> Result<(), DhcpError> {
     let bytes = Bytes::from_slice(alloc, bytes)?;
-    Ok(Some(Packet { kind, bytes }))
+    poll(exchange, now, Some(Packet { kind, bytes }))
 }
 
 /// Polls a client that has a lease, so many times, a millisecond apart, before T1.
 pub(crate) fn idle(alloc: Global, times: u32) -> Result<u64, DhcpError> {
     let mut exchange = begin(alloc)?;
+    exchange.client.done(long_lease(alloc), 0)?;
+    poll_often(&mut exchange, times)
+}
+
+// A lease without an end.
+fn long_lease(alloc: Global) -> DhcpV4Lease {
     let mut lease = DhcpV4Lease::empty(alloc);
     lease.t1_sec = u32::MAX;
     lease.t2_sec = u32::MAX;
     lease.lease_time_sec = u32::MAX;
-    exchange.client.done(lease, 0)?;
+    lease
+}
+
+// Polls without a packet, so many, a millisecond apart.
+fn poll_often(exchange: &mut Exchange, times: u32) -> Result<u64, DhcpError> {
     for now in 0..times {
-        poll(&mut exchange, now, None)?;
+        poll(exchange, now, None)?;
     }
     Ok(u64::from(times))
 }
@@ -72,9 +88,18 @@ pub(crate) fn idle(alloc: Global, times: u32) -> Result<u64, DhcpError> {
 /// Polls a client whose Discover is open, so many times, each time with this frame.
 pub(crate) fn foreign(alloc: Global, times: u32, frame: &[u8]) -> Result<u64, DhcpError> {
     let mut exchange = begin(alloc)?;
+    hear_often(alloc, &mut exchange, times, frame)
+}
+
+// Polls with this frame, so many.
+fn hear_often(
+    alloc: Global,
+    exchange: &mut Exchange,
+    times: u32,
+    frame: &[u8],
+) -> Result<u64, DhcpError> {
     for _ in 0..times {
-        let packet = packet(alloc, PacketKind::Frame, frame)?;
-        poll(&mut exchange, 0, packet)?;
+        hear(alloc, exchange, 0, PacketKind::Frame, frame)?;
     }
     Ok(u64::from(times))
 }
@@ -92,25 +117,18 @@ pub(crate) fn lives(alloc: Global, times: u32, answers: Answers) -> Result<u64, 
 // A whole life; whether it ended by a release.
 fn life(alloc: Global, answers: Answers) -> Result<bool, DhcpError> {
     let mut exchange = begin(alloc)?;
+    live(alloc, &mut exchange, answers)
+}
+
+// The life of a client that was not polled yet.
+fn live(alloc: Global, exchange: &mut Exchange, answers: Answers) -> Result<bool, DhcpError> {
     let payload = answers.ack.get(HEADERS..).unwrap_or(&[]);
-    poll(&mut exchange, 0, None)?;
-    poll(
-        &mut exchange,
-        1,
-        packet(alloc, PacketKind::Frame, answers.offer)?,
-    )?;
-    poll(
-        &mut exchange,
-        2,
-        packet(alloc, PacketKind::Frame, answers.ack)?,
-    )?;
-    let renewal = renewal(&exchange)?;
-    poll(&mut exchange, renewal, None)?;
-    poll(
-        &mut exchange,
-        renewal,
-        packet(alloc, PacketKind::Payload, payload)?,
-    )?;
+    poll(exchange, 0, None)?;
+    hear(alloc, exchange, 1, PacketKind::Frame, answers.offer)?;
+    hear(alloc, exchange, 2, PacketKind::Frame, answers.ack)?;
+    let renewal = renewal(exchange)?;
+    poll(exchange, renewal, None)?;
+    hear(alloc, exchange, renewal, PacketKind::Payload, payload)?;
     exchange
         .client
         .release_held(u64::from(renewal), &mut exchange.link)

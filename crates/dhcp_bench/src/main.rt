@@ -3,13 +3,15 @@
 //!
 //! `read` reads a message, `message` reads and writes it, `lease` reads it and its lease, `moved`
 //! does so and moves its options into the lease, `discover` builds and writes a Discover, and
-//! `frame` reads and writes a frame. Of a client, `idle` polls one that has a lease, `foreign` one
-//! whose Discover is open, each time with the frame of the line, and `life` has it live from its
-//! Discover to its release, with the frames of an Offer and of an Ack as two lines; these print how
-//! many polls or lives there were.
+//! `frame` reads and writes a frame. `read6` reads a list of DHCPv6 options, and `options6` reads
+//! and writes it. Of a client, `idle` polls one that has a lease, `foreign` one whose Discover is
+//! open, each time with the frame of the line, and `life` has it live from its Discover to its
+//! release, with the frames of an Offer and of an Ack as two lines; these print how many polls or
+//! lives there were.
 #![tactic(auto)]
 
 mod client;
+mod options6;
 
 use crate::client::Answers;
 use dhcp_clock::WordList;
@@ -114,6 +116,8 @@ fn total_of(alloc: Global, what: &str, times: u32, bytes: &[u8]) -> Result<u64, 
             "moved" => moved_to_lease(alloc, bytes)?,
             "discover" => discover(alloc)?,
             "frame" => frame(alloc, bytes)?,
+            "read6" => options6::read(alloc, bytes)?,
+            "options6" => options6::read_and_written(alloc, bytes)?,
             _ => return Err(Failure::Words),
         };
         total = total.saturating_add(count as u64);

@@ -4,11 +4,15 @@
 mod lease;
 mod manager;
 mod message;
+mod messages6;
 mod options;
+mod options6;
 mod rules;
 
 pub use lease::{Counter, address_of_lease, lease_of_ack};
-pub use manager::{Interface, turn};
+pub use manager::{Interface, new_client, turn};
 pub use message::{configuration, discover_payload, has_no_type, read_again};
+pub use messages6::{lease_of_reply, request_of_offer, solicit_payload};
 pub use options::{copy_option, insert_parsed, subnet_mask};
+pub use options6::{ask_for_prefix, status_of};
 pub use rules::Repeater;

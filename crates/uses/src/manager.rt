@@ -7,11 +7,14 @@ ghost use Rattle.std.specs.Prelude.{◌≡◌, ◌<◌, ◌^◌, ◌⊎◌, IfEr
 ghost use Rattle.dhcp_wire.specs.Error.{no_memory};
 ghost use Rattle.dhcp4_client.specs.Client.{timed_out};
 ghost use Rattle.dhcp4_client.specs.State.{plain_state};
+ghost use Rattle.dhcp4_client.specs.declared.client_state.ClientState.TheVariants.{InitReboot};
 ghost use Rattle.uses.specs.Manager.{SleepsUntil, address_after};
 
 use dhcp_clock::{DhcpLink, Words};
 use dhcp_wire::DhcpError;
 use dhcp4_client::{DhcpV4Client, DhcpV4State};
+use dhcp4_lease::DhcpV4Config;
+use std::alloc::Global;
 use std::net::Ipv4Addr;
 
 /// The interface that is managed.
@@ -37,6 +40,18 @@ impl Interface {
             DhcpV4State::InitReboot | DhcpV4State::Selecting => self.address = None,
         }
     }
+}
+
+/// A client on `eth0`, the interface with index 3, that is known by its MAC address.
+pub fn new_client<W: Words>(alloc: Global, words: &mut W) -> Result<DhcpV4Client, DhcpError>
+    ensures { IfOk result (λ client. client.client.state ≡ InitReboot) }
+{
+    let mut config = DhcpV4Config::new(alloc, "eth0")?;
+    config.set_iface_index(3);
+    config
+        .set_iface_mac(alloc, "02:00:00:00:00:01")?
+        .use_mac_as_client_id(alloc)?;
+    DhcpV4Client::init(alloc, config, None, words)
 }
 
 /// One turn of the loop, now and whenever a packet comes: polls until nothing changes any more, and

@@ -1,14 +1,13 @@
-use super::{Interface, turn};
-use crate::configuration;
+use super::{Interface, new_client, turn};
+use crate::{configuration, discover_payload};
 use dhcp_clock::{MemLink, WordList};
-use dhcp4_client::DhcpV4Client;
 use std::test::Fail;
 
 #[test]
 fn a_client_that_searches_sleeps_until_its_next_discover(rt: HostRuntime) -> Result<(), Fail> {
     let alloc = rt.alloc();
     let mut words = WordList::new(vec![in alloc; 1, 0, 0]?);
-    let mut client = DhcpV4Client::init(alloc, configuration(alloc)?, None, &mut words)?;
+    let mut client = new_client(alloc, &mut words)?;
     let mut interface = Interface::default();
     let wake = turn(
         &mut client,
@@ -18,5 +17,13 @@ fn a_client_that_searches_sleeps_until_its_next_discover(rt: HostRuntime) -> Res
         &mut MemLink::new(alloc),
     )?;
     assert_eq!(rt; wake, Some(3_000));
+    Ok(())
+}
+
+#[test]
+fn a_configuration_gives_a_discover(rt: HostRuntime) -> Result<(), Fail> {
+    let alloc = rt.alloc();
+    let config = configuration(alloc)?;
+    assert!(rt; discover_payload(alloc, 7, &config)?.is_some());
     Ok(())
 }

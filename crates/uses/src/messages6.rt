@@ -1,0 +1,72 @@
+//! Messages of a DHCPv6 client: the search for servers, and the lease of an answer.
+
+ghost use Rattle.std.specs.Prelude.{◌≡◌, IfOk, IfSome, IsTrue, Ok};
+ghost use Rattle.dhcp6_msg.specs.Config.{is_within_limits};
+ghost use Rattle.dhcp6_msg.specs.Lease.{Lease, are_times_in_order, read_lease};
+ghost use Rattle.dhcp6_msg.specs.Message.{parsed_message, written_message};
+ghost use Rattle.dhcp6_msg.specs.MessageTable.{request, solicit, table_message};
+ghost use Rattle.dhcp6_msg.specs.declared.message.DhcpV6Message.{DhcpV6Message};
+
+use dhcp_wire::{Bytes, DhcpError};
+use dhcp6_msg::{
+    DhcpV6Config, DhcpV6Lease, DhcpV6Message, DhcpV6MessageType, DhcpV6View, new_request_msg,
+    new_solicit_msg,
+};
+use std::alloc::Global;
+
+/// The payload of the Solicit with this transaction id and this identifier of the association that
+/// is asked for. None if the configuration is outside its limits.
+pub fn solicit_payload(
+    alloc: Global,
+    xid: u32,
+    config: &DhcpV6Config,
+    iaid: u32,
+) -> Result<Option<Bytes>, DhcpError>
+    ensures { IfOk result (λ found. IfSome found (λ payload.
+        payload ≡ written_message
+        (table_message xid config.now (solicit config.now.mode iaid 0)))) }
+{
+    if !config.is_within_limits() {
+        return Ok(None);
+    }
+    let message = new_solicit_msg(alloc, xid, config, 0, iaid)?;
+    Ok(Some(message.emit(alloc)?))
+}
+
+/// The lease that a Reply with this transaction id grants. None if the payload is another message;
+/// it is tested before anything is copied.
+pub fn lease_of_reply(
+    alloc: Global,
+    payload: &[u8],
+    xid: u32,
+) -> Result<Option<DhcpV6Lease>, DhcpError>
+    ensures { IfOk result (λ found. IfSome found (λ lease.
+        IsTrue (are_times_in_order lease))) }
+{
+    let Some(view) = DhcpV6View::new(payload) else {
+        return Ok(None);
+    };
+    if view.xid() != xid || view.msg_type() != DhcpV6MessageType::Reply {
+        return Ok(None);
+    }
+    let message = view.to_message(alloc)?;
+    Ok(Some(DhcpV6Lease::from_message(alloc, message)?))
+}
+
+/// The Request of the lease that an Advertise offers.
+pub fn request_of_offer(
+    alloc: Global,
+    xid: u32,
+    config: &DhcpV6Config,
+    offer: &[u8],
+) -> Result<DhcpV6Message, DhcpError>
+    requires { IsTrue (is_within_limits config.now) }
+    ensures { (message : DhcpV6Message) (lease : Lease)
+        → parsed_message offer.now ≡ Ok message
+        → read_lease message ≡ Ok lease
+        → IfOk result (λ built. built ≡ table_message xid config.now (request lease 0)) }
+{
+    let message = DhcpV6Message::parse(alloc, offer)?;
+    let lease = DhcpV6Lease::from_message(alloc, message)?;
+    new_request_msg(alloc, xid, config, 0, &lease)
+}
