@@ -14,6 +14,7 @@ use Rattle.dhcp_replay.specs.declared.request.Request.TheVariants.{Run, Upgrade,
 use Rattle.dhcp_replay.specs.declared.tool.Status.{Status}
 use Rattle.dhcp_replay.specs.declared.tool.Status.TheVariants.{Done, WrongWords, NoScript, ReadFault, WriteFault, NoMemory, TooLong, Invalid}
 use Rattle.dhcp_replay.specs.Tool.{status_number, Texts, IsTextOf, IsNoText, IsJudged, IsPrintedFor, IsAnsweredBy, HasRead, AnswersScript, AnswersText, AnswersSource, AnswersRequest, EndsReading, EndsPrinting, Ends, Moved, demo_summary, printed, scripts, scripts_v1}
+use Rattle.dhcp_replay.proofs.RequestLemmas.{one_request}
 
 -- what is said of the script that was read, is said of each script whose text the bytes are
 pub answers_text : (found : Option Script) (script : Script) (bytes : List ℕ) (result : Result (List ℕ) Status) → found ≡ Some script → IsReading script_text IsScript found bytes →
@@ -285,3 +286,9 @@ only_run (Demo rounds) status moved ends is = absurd (none ends.no_other)
     none (inl e) = omega (arith, e, is)
     none (inr (inl e)) = omega (arith, e, is)
     none (inr (inr e)) = omega (arith, e, is)
+
+-- what carrying a request out comes to
+pub ruleset carried_out = (ends_early, ends_done, ends_write_fault, is_asked)
+
+-- what the words ask for
+pub ruleset asked_for = (one_request, only_run)

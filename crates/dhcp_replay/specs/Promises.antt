@@ -47,8 +47,8 @@ SettlesAtEach config client (event ∷ events) =
     SettlesAt config (after_call event) (call_at (protocol config) event client).view
     × SettlesAtEach config (event_at (protocol config) event client).view events
 
--- The lease is read from a packet that comes in at one of these events, as the answer that is awaited
--- to a transaction id.
+-- The lease is read from a packet that comes in at one of these events, as the answer that is
+-- awaited to a transaction id.
 pub record IsReadFrom (events : List (LifeEvent Packet)) (xid : ℕ) (lease : Lease) : Type 0 where
   pub packet : Packet
   pub comes_in : Contains (map (λ event. event.input) events) (inputs.Arrival packet)

@@ -63,8 +63,8 @@ pub record IsJudged {S : Type 0} (texts : Texts S) (valid : Bool) (bytes : List 
 abbrev pub AreKept : {S : Type 0} → Texts S → List ℕ → Type 0
 AreKept texts bytes = (script : _) → IsTextOf texts script bytes → texts.IsKept script
 
--- the bytes are the text of a valid script, this is printed for each script whose text they are, and
--- what is promised of it is kept
+-- the bytes are the text of a valid script, this is printed for each script whose text they are,
+-- and what is promised of it is kept
 pub record IsPrintedFor {S : Type 0} (texts : Texts S) (text bytes : List ℕ) : Type 0 where
   pub valid : IsJudged texts true bytes
   pub each : (script : S) → IsTextOf texts script bytes → text ≡ texts.printed script
@@ -86,8 +86,8 @@ scripts = record {
   IsKept = KeepsPromisesOf;
 }
 
--- scripts in version 1 of the texts: they are printed in version 2; no test is made whether they are
--- valid, and nothing is promised of a client
+-- scripts in version 1 of the texts: they are printed in version 2; no test is made whether they
+-- are valid, and nothing is promised of a client
 abbrev pub scripts_v1 : Texts Script
 scripts_v1 = record {
   text = script_text_v1;
@@ -232,8 +232,8 @@ pub record EndsReading {S : Type 0} (texts : Texts S) (status : ℕ) (moved : Mo
   pub too_long : status ≡ 6 → HasReadTooMany moved.left moved.left_after
   pub invalid : status ≡ 7 →
       HasRead moved.left moved.left_after (IsJudged texts false) × HasInvalid texts
-  -- the text of no script, of a script that is not valid, and a text that is too long are refused as
-  -- such, unless out of memory or the source fails
+  -- the text of no script, of a script that is not valid, and a text that is too long are refused
+  -- as such, unless out of memory or the source fails
   pub refuses : ¬ (Rose moved.faults moved.faults_after)
       → IfSome moved.left (λ bytes. length bytes ≤ most_bytes
       → IsNoText texts bytes → (status ≡ 5) ⊎ (status ≡ 2))

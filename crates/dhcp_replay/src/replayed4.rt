@@ -92,7 +92,8 @@ fn input_of(alloc: Global, what: &EventWhat) -> Result<Input<Packet>, AllocError
 
 // A packet that comes in.
 fn arrival(alloc: Global, kind: PacketKind, bytes: &Bytes) -> Result<Input<Packet>, AllocError>
-    ensures { IfOk result (λ input. input ≡ Input.Arrival (record { kind = kind; bytes = bytes.now })) }
+    ensures { IfOk result (λ input.
+        input ≡ Input.Arrival (record { kind = kind; bytes = bytes.now })) }
 {
     let bytes = Bytes::from(bytes.as_slice().to_vec(alloc)?);
     Ok(Input::Arrival(Packet { kind, bytes }))

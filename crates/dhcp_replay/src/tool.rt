@@ -83,11 +83,11 @@ pub fn status_without_words(error: &io::Error) -> Status
 }
 
 /// Does what the words ask for, and returns the exit status. `run` runs the script that the source
-/// holds, and writes the text of what is reported of its client; `upgrade` writes the text in version
-/// 2 of the script whose text in version 1 the source holds; `demo` and a number from 1 to 2,000
-/// writes the summary of a demonstration of so many rounds, and reads nothing. With every status but
-/// 0 and 4 nothing is written.
-#[tactic(auto, using(crate::proofs::RequestLemmas::one_request, crate::proofs::ToolLemmas::only_run))]
+/// holds, and writes the text of what is reported of its client; `upgrade` writes the text in
+/// version 2 of the script whose text in version 1 the source holds; `demo` and a number from 1 to
+/// 2,000 writes the summary of a demonstration of so many rounds, and reads nothing. With every
+/// status but 0 and 4 nothing is written.
+#[tactic(auto, using(crate::proofs::ToolLemmas::asked_for))]
 pub fn replay_tool<S: Source, K: Sink>(
     alloc: Global,
     words: &[String],
@@ -136,7 +136,7 @@ pub fn replay_tool<S: Source, K: Sink>(
 }
 
 // Does what is asked for.
-#[tactic(auto, using(crate::proofs::ToolLemmas::ends_early, crate::proofs::ToolLemmas::ends_done, crate::proofs::ToolLemmas::ends_write_fault, crate::proofs::ToolLemmas::is_asked))]
+#[tactic(auto, using(crate::proofs::ToolLemmas::carried_out))]
 fn carry_out<S: Source, K: Sink>(
     alloc: Global,
     request: Request,
