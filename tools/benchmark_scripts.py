@@ -69,13 +69,10 @@ def seconds_of(text):
 
 
 def peak_of(text):
-    """Returns the most memory, in KiB, of a run over this text."""
-    with subprocess.Popen([PROGRAM, "run"], stdin=subprocess.PIPE, stdout=subprocess.DEVNULL) as child:
-        child.stdin.write(text)
-        child.stdin.close()
-        _, _, usage = os.wait4(child.pid, 0)
-        child.returncode = 0
-    return usage.ru_maxrss
+    """Returns the most memory, in KiB, of a run over this text, as the command `time` tells it."""
+    command = ["env", "time", "--format", "%M", PROGRAM, "run"]
+    done = subprocess.run(command, input=text, stdout=subprocess.DEVNULL, stderr=subprocess.PIPE, check=True)
+    return int(done.stderr)
 
 
 def main(words):
