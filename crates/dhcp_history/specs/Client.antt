@@ -1,8 +1,9 @@
 -- A client, as the protocol sees it.
 use Rattle.std.specs.Prelude.{ℕ, List, None}
 use Rattle.dhcp_history.specs.declared.client.Client.{Client}
+use Rattle.dhcp_history.specs.declared.client.Phase.{Phase}
 use Rattle.dhcp_history.specs.declared.client.Standing.{Standing}
-use Rattle.dhcp_history.specs.Machine.{View, Unpolled, Pausing}
+use Rattle.dhcp_history.specs.Machine.{View, Unpolled, Pausing, Listening, Resting, Stopped}
 
 -- a client that stands so in its state, with these words left
 abbrev pub view_with : {State Exchange : Type 0} → Client State Exchange → Standing Exchange →
@@ -30,3 +31,16 @@ unpolled exchange = record { exchange = exchange; entered = 0; phase = Unpolled;
 abbrev pub silent : {Exchange : Type 0} → ℕ → Exchange → Standing Exchange
 silent now exchange =
     record { exchange = exchange; entered = now; phase = Pausing; deadline = None }
+
+-- how one stands that was brought into a state with this exchange: it was not polled yet, and an
+-- error that is kept stays
+abbrev pub phase_anew : Phase → Phase
+phase_anew Unpolled = Unpolled
+phase_anew Pausing = Unpolled
+phase_anew Listening = Unpolled
+phase_anew Resting = Unpolled
+phase_anew Stopped = Stopped
+
+abbrev pub standing_anew : {Exchange : Type 0} → Phase → Exchange → Standing Exchange
+standing_anew phase exchange =
+    record { exchange = exchange; entered = 0; phase = phase_anew phase; deadline = None }

@@ -9,3 +9,5 @@ pub mod Run
 pub mod EventLoop
 pub mod Release
 pub mod Schedule
+pub mod BoundLease
+pub mod Errors

@@ -17,7 +17,7 @@ ghost use Rattle.dhcp_history.specs.Run.{
   IsUnsent,
 };
 
-use crate::machine::{exchange_at, unpolled};
+use crate::machine::exchange_at;
 use crate::{AttemptStart, Client, NewAttempt, Phase, Rules, Standing};
 use dhcp_clock::{DhcpLink, Handed, Sent, Words};
 use std::alloc::AllocError;
@@ -141,6 +141,6 @@ pub(crate) fn receive<R: Rules, W: Words, L: DhcpLink>(
     };
     let mut exchange = client.standing.exchange;
     let reported = rules.after_answer(&mut client.state, answer, now, &mut exchange)?;
-    client.standing = unpolled(exchange);
+    client.standing = Standing::unpolled(exchange);
     Ok(Some(reported))
 }

@@ -3,7 +3,9 @@
 #![tactic(auto)]
 
 mod attempt;
+mod bound_lease;
 mod client;
+mod errors;
 mod event_loop;
 pub mod laws;
 mod machine;
@@ -11,12 +13,14 @@ mod release;
 mod rules;
 mod schedule;
 mod script;
+mod standing;
 
 pub use attempt::send;
+pub use bound_lease::BoundLease;
 pub use client::{Client, Phase, Standing};
 pub use event_loop::{replay, run_event};
 pub use machine::{RunError, run};
-pub use release::{ReleaseError, clean_up, release_held};
+pub use release::{ReleaseError, clean_up, release_by, release_held};
 pub use rules::{AttemptStart, NewAttempt, Rules};
 pub use schedule::next_poll;
 pub use script::{Event, Failure, Input, Output, Report};

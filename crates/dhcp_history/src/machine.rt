@@ -45,18 +45,6 @@ fn has_come(now: u64, moment: Option<u64>) -> bool
     }
 }
 
-// How a client stands that was not polled in its state yet.
-pub(crate) fn unpolled<X: Copy>(exchange: X) -> Standing<X>
-    ensures { result ≡ unpolled exchange }
-{
-    Standing {
-        exchange,
-        entered: 0,
-        phase: Phase::Unpolled,
-        deadline: None,
-    }
-}
-
 // Step 1: whether an error is kept.
 fn is_stopped(phase: Phase) -> bool
     ensures { result ≡ is_stopped phase }
@@ -141,7 +129,7 @@ fn end_state<R: Rules>(
 {
     let mut exchange = exchange_at(rules, client.standing, now);
     let reported = rules.after_end(&mut client.state, &mut exchange);
-    client.standing = unpolled(exchange);
+    client.standing = Standing::unpolled(exchange);
     client.last_moment = now;
     reported
 }

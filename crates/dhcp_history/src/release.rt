@@ -1,16 +1,17 @@
 //! The release of a lease, and the clean-up.
 
-ghost use Rattle.std.specs.Prelude.{◌≡◌, ℕ, List, true, is_some, if◌then◌else◌, Err, OnErr, IfOk, IfSome};
+ghost use Rattle.std.specs.Prelude.{◌≡◌, ℕ, List, true, is_some, if◌then◌else◌, Err, OnErr, OnOk, IfOk, IfSome};
 ghost use Rattle.dhcp_wire.specs.Fault.{HasCause};
+ghost use Rattle.dhcp_clock.specs.Link.{HandsOver};
 ghost use Rattle.dhcp_history.specs.Machine.{clean_up};
 ghost use Rattle.dhcp_history.specs.Client.{view_of};
 ghost use Rattle.dhcp_history.specs.Schedule.{HasNextAttempt};
+ghost use Rattle.dhcp_history.specs.Errors.{sent_when};
 ghost use Rattle.dhcp_history.specs.Release.{UnlessUnreleased, release_held, HasReleased};
 
 use crate::attempt::send;
-use crate::machine::unpolled;
-use crate::{Client, Rules};
-use dhcp_clock::{DhcpLink, Sent};
+use crate::{Client, Rules, Standing};
+use dhcp_clock::{DhcpLink, Handed, Sent};
 
 /// Why a lease was not released.
 #[derive(Clone, Copy, Debug, PartialEq, Eq)]
@@ -31,7 +32,7 @@ pub fn clean_up<R: Rules>(rules: &R, client: &mut Client<R::State, R::Exchange>)
 {
     let mut exchange = client.standing.exchange;
     rules.after_clean_up(&mut client.state, &mut exchange);
-    client.standing = unpolled(exchange);
+    client.standing = Standing::unpolled(exchange);
 }
 
 /// Releases the lease that is held, and cleans up where the link took the message; returns false
@@ -67,11 +68,35 @@ pub fn release_held<R: Rules, L: DhcpLink>(
         Ok(Some(message)) => message,
         Err(_) => return Err(ReleaseError::OutOfMemory),
     };
-    match send(link, message) {
-        Sent::Taken => {}
-        Sent::Refused => return Err(ReleaseError::Refused),
-        Sent::NoMemory => return Err(ReleaseError::OutOfMemory),
-    }
-    clean_up(rules, client);
+    release_by(rules, client, message, link)?;
     Ok(true)
+}
+
+/// Hands the release of a lease to the link, and cleans up where the link took it.
+pub fn release_by<R: Rules, L: DhcpLink>(
+    rules: &R,
+    client: &mut Client<R::State, R::Exchange>,
+    message: Handed,
+    link: &mut L,
+) -> Result<(), ReleaseError>
+    ensures handed { HandsOver message (sent_when result) (L.shown link.old) (L.shown link.new) }
+    ensures cleaned { OnOk result ((drawn : List ℕ) → view_of client.new drawn
+        ≡ clean_up (R.protocol rules.now) (view_of client.old drawn)) }
+    ensures timeout { client.new.timeout_sec ≡ client.old.timeout_sec }
+    ensures moment { client.new.last_moment ≡ client.old.last_moment }
+    ensures state { OnErr result (client.new.state ≡ client.old.state) }
+    ensures standing { OnErr result (client.new.standing ≡ client.old.standing) }
+    ensures armed { HasNextAttempt (R.protocol rules.now).has_attempts client.old →
+        HasNextAttempt (R.protocol rules.now).has_attempts client.new }
+    ensures faults { HasCause (result ≡ Err ReleaseError.Refused)
+        (L.faults link.old) (L.faults link.new) }
+{
+    match send(link, message) {
+        Sent::Taken => {
+            clean_up(rules, client);
+            Ok(())
+        }
+        Sent::Refused => Err(ReleaseError::Refused),
+        Sent::NoMemory => Err(ReleaseError::OutOfMemory),
+    }
 }

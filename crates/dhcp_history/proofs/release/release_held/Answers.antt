@@ -6,5 +6,5 @@ use Rattle.dhcp_history.proofs.release.release_held.Goals as goal
 pub returns-clause-released : goal.returns-clause-released
 returns-clause-released g c =
     let p = g.R.Rules.protocol c.args.rules.now in
-    release_sent p (p.held_lease c.args.client.now.state) (view_of c.args.client.now) (view_of c.clean_up.new.client) c.in-Ok-Some.message c.args.client.now.standing.exchange
-    (g.L.DhcpLink.shown c.args.link.now) (g.L.DhcpLink.shown c.send.new.link) (λ words. refl) (rw c.in-Ok-Some.field-0-is at c.in-Ok-Some.ensures.message) c.in-Taken.ensures.hands_over c.clean_up.ensures.client
+    release_sent p (p.held_lease c.args.client.now.state) (view_of c.args.client.now) (view_of c.release_by.new.client) c.in-Ok-Some.message c.args.client.now.standing.exchange
+    (g.L.DhcpLink.shown c.args.link.now) (g.L.DhcpLink.shown c.release_by.new.link) (λ words. refl) (rw c.in-Ok-Some.field-0-is at c.in-Ok-Some.ensures.message) c.in_ok-release_by.ensures.handed c.in_ok-release_by.ensures.cleaned
