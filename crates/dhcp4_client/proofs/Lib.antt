@@ -1,4 +1,2 @@
 mod Lawful
-mod Released
-mod Replaying
 mod Traffic

@@ -1,9 +1,9 @@
 -- The traffic of a client's history: its waits, by the laws of histories.
-use Rattle.std.proofs.Common.{◌≡◌, ℕ, ◌+◌, ◌-◌, ◌*◌, ◌^◌, ◌≤◌, ◌<◌, List, [], ◌∷◌, refl, Bool, true, false, arith, ◌⊎◌, inl, inr}
+use Rattle.std.proofs.Common.{◌≡◌, ℕ, ◌+◌, ◌-◌, ◌*◌, ◌^◌, ◌≤◌, ◌<◌, List, refl, Bool, true, false, arith, ◌⊎◌, inl, inr}
 use Rattle.std.specs.Prelude.{Option, Some, None, All, ◌||◌, nat_le}
-use Rattle.std.specs.List.{AllByRecursion}
+use Rattle.std.specs.List.{Contains}
 use Rattle.std.proofs.lemmas.Bool.{leb-true, leb-false, le-leb}
-use Rattle.std.proofs.lemmas.List.Elements.{All-from_recursion, recursion_from_All}
+use Rattle.std.proofs.lemmas.List.Elements.{All-contains, All-contains_itself, All-weaker}
 use Rattle.dhcp_clock.specs.declared.link.Handed.{Handed}
 use Rattle.dhcp_clock.specs.declared.link.Packet.{Packet}
 use Rattle.dhcp_clock.specs.Wait.{half_wait}
@@ -25,14 +25,6 @@ use Rattle.dhcp4_client.specs.Bounds.{HalvesIn, HalvesFor, GetsRarer, FourFor, H
 use Rattle.dhcp4_client.specs.Client.{first_state}
 use Rattle.dhcp4_client.specs.Rules.{protocol, after_answer, after_end, ending_moment, is_last_attempt}
 use Rattle.dhcp4_client.proofs.Lawful.{discovery_wait_long}
-
-both : {X : Type 0} (P Q R : X → Type 0) → ((x : X) → P x → Q x → R x) → (xs : List X) → AllByRecursion P xs → AllByRecursion Q xs → AllByRecursion R xs
-both P Q R go [] p q = tt
-both P Q R go (x ∷ xs) p q = (go x p.0 q.0, both P Q R go xs p.1 q.1)
-
-each : {X : Type 0} (P R : X → Type 0) → ((x : X) → P x → R x) → (xs : List X) → AllByRecursion P xs → AllByRecursion R xs
-each P R go [] p = tt
-each P R go (x ∷ xs) p = (go x p.0, each P R go xs p.1)
 
 -- a lease is renewed from T1 on, and rebound from T2 on
 abbrev is_due : ClientState → ℕ → Bool
@@ -104,11 +96,11 @@ pub rarer_history : (config : Config) →
 rarer_history config entries halves lease script begins =
     let stays : List (Stay ClientState Handed) = history (protocol config) script in
     let begun : (now : ℕ) → is_due script.state now ≡ true = λ now. rw begins (first_due lease now) in
-    All-from_recursion GetsRarer stays
-    (both (λ (stay : Stay ClientState Handed). is_due stay.setting.state stay.setting.entered ≡ true) (generic.IsSparse (protocol config)) GetsRarer
-    (λ stay due h. rarer_by config stay.setting.state stay.setting.entered (taken_count (attempts_of stay.acts)) due h) stays
-    (recursion_from_All (λ (stay : Stay ClientState Handed). is_due stay.setting.state stay.setting.entered ≡ true) stays (entries is_due (due_at_entries config) script begun))
-    (recursion_from_All (generic.IsSparse (protocol config)) stays (halves script)))
+    All-weaker (Contains stays) GetsRarer
+    (λ stay at. rarer_by config stay.setting.state stay.setting.entered (taken_count (attempts_of stay.acts))
+    (All-contains (λ (stay : Stay ClientState Handed). is_due stay.setting.state stay.setting.entered ≡ true) stays stay (entries is_due (due_at_entries config) script begun) at)
+    (All-contains (generic.IsSparse (protocol config)) stays stay (halves script) at))
+    stays (All-contains_itself stays)
 
 -- a lease that was held before is requested four times
 four : (config : Config) (lease : Lease) → EndsAfter (protocol config) (Rebooting lease) 4
@@ -132,9 +124,7 @@ pub four_history : (config : Config) (script : Script Packet ClientState Exchang
     All HasFourRequests (history (protocol config) script)
 four_history config script h =
     let stays : List (Stay ClientState Handed) = history (protocol config) script in
-    All-from_recursion HasFourRequests stays
-    (each (HasAtMost (protocol config)) HasFourRequests (λ stay few. four_by config stay.setting.state (taken_count (attempts_of stay.acts)) few) stays
-    (recursion_from_All (HasAtMost (protocol config)) stays h))
+    All-weaker (HasAtMost (protocol config)) HasFourRequests (λ stay few. four_by config stay.setting.state (taken_count (attempts_of stay.acts)) few) stays h
 
 -- each exchange will do
 always : Exchange → Bool
@@ -174,6 +164,5 @@ pub far_history : (config : Config) →
 unfolding always
 far_history config law script =
     let stays : List (Stay ClientState Handed) = history (protocol config) script in
-    All-from_recursion AreFarApart stays
-    (each (IsTakenDistant (protocol config) always) AreFarApart (λ stay far. far (distance stay.setting.state) (distant config stay.setting.state)) stays
-    (recursion_from_All (IsTakenDistant (protocol config) always) stays (law always (kept config) script refl)))
+    All-weaker (IsTakenDistant (protocol config) always) AreFarApart (λ stay far. far (distance stay.setting.state) (distant config stay.setting.state)) stays
+    (law always (kept config) script refl)

@@ -131,9 +131,13 @@ needs_memory state exchange packet = is_some (message_for (awaited state) exchan
 abbrev pub entering : ClientState → Exchange → NextState ClientState Exchange
 entering state exchange = record { state = state; exchange = exchange }
 
--- the next state, with a new retry count
+-- an exchange whose count begins anew
+abbrev pub restarted : Exchange → Exchange
+restarted exchange = record exchange { retry_count = 0 }
+
+-- the next state, with no count
 abbrev pub starting : ClientState → Exchange → NextState ClientState Exchange
-starting state exchange = entering state (record exchange { retry_count = 0 })
+starting state exchange = entering state (restarted exchange)
 
 -- BOUND from this moment on
 abbrev pub bound_from : ℕ → Lease → Exchange → NextState ClientState Exchange

@@ -6,16 +6,16 @@ mod replay;
 ghost use Rattle.std.specs.Prelude.{◌≡◌, ◌≤◌, ◌<◌, ◌^◌, ◌⊎◌, ◌||◌, ℕ, List, Bool, Ok, None, true, false, IfErr, IfOk, IfSome, IsSomeAnd, OnErr, OnOk, is_ok, is_some, not};
 ghost use Rattle.dhcp_wire.specs.Error.{no_memory};
 ghost use Rattle.dhcp_wire.specs.Outcome.{Finds};
-ghost use Rattle.dhcp_history.specs.Client as standing;
+ghost use Rattle.dhcp_history.specs.Errors.{run_answer, timed_out};
 ghost use Rattle.dhcp4_client.specs.Client as clients;
+ghost use Rattle.dhcp4_client.specs.State.{plain_state};
 
 use crate::DhcpV4State;
-use crate::bound_lease::BoundLease;
 use crate::client_state::{ClientState, Exchange};
-use crate::rules::ClientRules;
+use crate::rules::{ClientRules, restarted};
 use crate::state::ReportedState;
 use dhcp_clock::{DhcpLink, Words};
-use dhcp_history::{Client, Phase, RunError, Standing, clean_up, next_poll, run};
+use dhcp_history::{BoundLease, Client, RunError, Standing, clean_up, next_poll, run};
 use dhcp_wire::{DhcpError, ErrorKind, FixedText};
 use dhcp4_lease::{DhcpV4Config, DhcpV4Lease};
 use std::alloc::Global;
@@ -76,7 +76,7 @@ impl DhcpV4Client {
     };
     ghost use Rattle.dhcp_history.specs.Schedule as schedule;
     ghost use Rattle.dhcp_history.specs.Schedule.{IsActive, IsIdle};
-    ghost use Rattle.dhcp4_client.specs.Client.{Begins, IsDone, can_begin, run_answer, timed_out};
+    ghost use Rattle.dhcp4_client.specs.Client.{Begins, IsDone, can_begin};
     ghost use Rattle.dhcp4_lease.specs.Lease.{are_times_in_order};
     ghost use Rattle.dhcp4_client.specs.Rules.{protocol, held_lease, needs_memory, public_state};
 
@@ -110,7 +110,7 @@ impl DhcpV4Client {
             client: Client {
                 state: first_state(lease),
                 timeout_sec,
-                standing: unpolled(exchange),
+                standing: Standing::unpolled(exchange),
                 last_moment: 0,
             },
         })
@@ -130,49 +130,49 @@ impl DhcpV4Client {
         requires { now < 2 ^ 60 }
 
         // where words and link are known, this is the poll of the protocol
-        ensures polled { UnlessNoMemory (run_answer result) (WhereKnown
+        ensures polled { UnlessNoMemory (run_answer plain_state result) (WhereKnown
             (W.left words.old) (L.shown link.old) (λ drawn before.
             HasPolled (protocol self.old.config)
             (poll (protocol self.old.config) now before.refuses (input_of before.waiting)
             (view_of self.old.client drawn))
-            (run_answer result) (view_of self.new.client) (W.left words.new)
+            (run_answer plain_state result) (view_of self.new.client) (W.left words.new)
             before (L.shown link.new))) }
 
         // over all words and links: the steps that use neither, and what is never touched
         ensures quiet { (drawn : List ℕ) →
             IfSome (quiet_poll (protocol self.old.config) now (view_of self.old.client drawn))
             (λ once. HasPolledQuietly (protocol self.old.config) once
-            (run_answer result) (view_of self.new.client drawn)
+            (run_answer plain_state result) (view_of self.new.client drawn)
             (W.left words.old) (W.left words.new) (L.shown link.old) (L.shown link.new)
             (L.faults link.old) (L.faults link.new)) }
         ensures errors { IfErr result (λ error. (error ≡ timed_out) ⊎ (error ≡ no_memory)) }
-        ensures cause { OnTimeout (run_answer result) ((drawn : List ℕ) →
+        ensures cause { OnTimeout (run_answer plain_state result) ((drawn : List ℕ) →
             (is_stopped self.old.client.standing.phase ||
             limit_is_over (protocol self.old.config) now (view_of self.old.client drawn))
             ≡ true) }
         ensures config { self.new.config ≡ self.old.config }
         ensures timeout { self.new.client.timeout_sec ≡ self.old.client.timeout_sec }
-        ensures moment { UnlessNoMemory (run_answer result)
+        ensures moment { UnlessNoMemory (run_answer plain_state result)
             (self.new.client.last_moment ≡ now) }
         ensures state { OnErr result (self.new.client.state ≡ self.old.client.state) }
-        ensures still { run_answer result ≡ Ok None → IsStill now
+        ensures still { run_answer plain_state result ≡ Ok None → IsStill now
             self.old.client self.new.client (L.faults link.old) (L.faults link.new) }
-        ensures reported { IfOk (run_answer result) (λ change. IfSome change (λ reported.
-            reported ≡ public_state self.new.client.state)) }
+        ensures reported { IfOk (run_answer plain_state result) (λ change. IfSome change
+            (λ reported. reported ≡ public_state self.new.client.state)) }
 
         // out of memory: as at entry, or right after the send
-        ensures memory { OnNoMemory (run_answer result)
+        ensures memory { OnNoMemory (run_answer plain_state result)
             (IsUnsent self.old.client self.new.client (L.shown link.old) (L.shown link.new)
             ⊎ IsSent (protocol self.old.config) now
             (λ drawn. begin_stay (protocol self.old.config) now (view_of self.old.client drawn))
             self.new.client (W.left words.old) (L.shown link.old) (L.shown link.new)) }
-        ensures needed { OnNoMemory (run_answer result)
+        ensures needed { OnNoMemory (run_answer plain_state result)
             (is_unpolled self.old.client.standing.phase ≡ false →
             has_come now self.old.client.standing.deadline ≡ false →
             NeedsMemory needs_memory self.old.client (L.shown link.old)) }
 
-        ensures due { OnNoMemory (run_answer result) (IfSome (W.left words.old) (λ drawn.
-            (has_come now (begin_stay (protocol self.old.config) now
+        ensures due { OnNoMemory (run_answer plain_state result) (IfSome (W.left words.old)
+            (λ drawn. (has_come now (begin_stay (protocol self.old.config) now
             (view_of self.old.client drawn)).deadline ≡ true)
             ⊎ NeedsMemory needs_memory self.old.client (L.shown link.old))) }
 
@@ -232,7 +232,8 @@ impl DhcpV4Client {
             return Err(DhcpError::new_fixed(ErrorKind::InvalidArgument, FixedText::Times));
         }
         self.client.state = ClientState::Done(BoundLease::new(lease, now));
-        self.client.standing = standing_when_done(self.client.standing);
+        let exchange = restarted(self.client.standing.exchange);
+        self.client.standing = self.client.standing.anew(exchange);
         self.client.last_moment = now;
         Ok(())
     }
@@ -266,56 +267,15 @@ fn first_state(lease: Option<DhcpV4Lease>) -> ClientState
     }
 }
 
-// Where a client stands in a state in which it was not polled yet.
-fn unpolled(exchange: Exchange) -> Standing<Exchange>
-    ensures { result ≡ standing.unpolled exchange }
-{
-    Standing {
-        exchange,
-        entered: 0,
-        phase: Phase::Unpolled,
-        deadline: None,
-    }
-}
-
 // The answer of a poll of the rules, as the client's own.
 fn answer_of(
     answer: Result<Option<ReportedState>, RunError>,
 ) -> Result<Option<DhcpV4State>, DhcpError>
-    ensures same { clients.run_answer result ≡ answer }
-    ensures errors { IfErr result (λ error. (error ≡ clients.timed_out) ⊎ (error ≡ no_memory)) }
+    ensures same { run_answer plain_state result ≡ answer }
+    ensures errors { IfErr result (λ error. (error ≡ timed_out) ⊎ (error ≡ no_memory)) }
 {
-    match answer {
-        Ok(None) => Ok(None),
-        Ok(Some(reported)) => Ok(Some(reported.into_state())),
-        Err(RunError::TimedOut) => {
-            Err(DhcpError::new_fixed(ErrorKind::Timeout, FixedText::TimedOut))
-        }
-        Err(RunError::OutOfMemory) => Err(DhcpError::out_of_memory()),
-    }
-}
-
-// How a client stands once it was given a lease.
-fn standing_when_done(standing: Standing<Exchange>) -> Standing<Exchange>
-    ensures { result ≡ clients.standing_when_done standing }
-{
-    Standing {
-        exchange: Exchange {
-            xid: standing.exchange.xid,
-            retry_count: 0,
-        },
-        entered: 0,
-        phase: phase_when_done(standing.phase),
-        deadline: None,
-    }
-}
-
-// A client that was not polled yet; an error that is kept stays.
-fn phase_when_done(phase: Phase) -> Phase
-    ensures { result ≡ clients.phase_when_done phase }
-{
-    match phase {
-        Phase::Stopped => Phase::Stopped,
-        _ => Phase::Unpolled,
+    match answer? {
+        Some(reported) => Ok(Some(reported.into_state())),
+        None => Ok(None),
     }
 }

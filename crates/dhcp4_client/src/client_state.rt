@@ -4,7 +4,7 @@ ghost use Rattle.std.specs.Prelude.{◌≡◌};
 ghost use Rattle.dhcp_wire.specs.Outcome.{Finds};
 ghost use Rattle.dhcp4_client.specs.Rules as table;
 
-use crate::bound_lease::BoundLease;
+use dhcp_history::BoundLease;
 use dhcp4_lease::DhcpV4Lease;
 
 /// What a client is in, with what that rests on.
@@ -17,11 +17,11 @@ pub enum ClientState {
     /// REBOOTING: it requests this lease, which it held before.
     Rebooting(DhcpV4Lease),
     /// BOUND: T1 of this lease is still to come.
-    Done(BoundLease),
+    Done(BoundLease<DhcpV4Lease>),
     /// RENEWING: T1 of this lease is past, and T2 is still to come.
-    Renewing(BoundLease),
+    Renewing(BoundLease<DhcpV4Lease>),
     /// REBINDING: T2 of this lease is past, and its end is still to come.
-    Rebinding(BoundLease),
+    Rebinding(BoundLease<DhcpV4Lease>),
 }
 
 impl ClientState {

@@ -10,12 +10,12 @@ ghost use Rattle.dhcp4_client.specs.Rules as table;
 
 use crate::DhcpV4State;
 use crate::answer::{Answer, Awaited, read_answer};
-use crate::bound_lease::BoundLease;
+use crate::bound_lease::{expiry, rebinding, renewal};
 use crate::client_state::{ClientState, Exchange};
 use crate::message::{attempt_message, release_message};
 use crate::state::ReportedState;
 use dhcp_clock::{Handed, Packet, Words, discovery_wait, draw, half_wait};
-use dhcp_history::{AttemptStart, NewAttempt, Rules};
+use dhcp_history::{AttemptStart, BoundLease, NewAttempt, Rules};
 use dhcp4_lease::{DhcpV4Config, DhcpV4Lease};
 use std::alloc::{AllocError, Global};
 use std::mem;
@@ -52,9 +52,9 @@ impl Rules for ClientRules {
             ClientState::InitReboot => None,
             ClientState::Selecting(_) => None,
             ClientState::Rebooting(_) => None,
-            ClientState::Done(bound) => Some(bound.renewal()),
-            ClientState::Renewing(bound) => Some(bound.rebinding()),
-            ClientState::Rebinding(bound) => Some(bound.expiry()),
+            ClientState::Done(bound) => Some(renewal(bound)),
+            ClientState::Renewing(bound) => Some(rebinding(bound)),
+            ClientState::Rebinding(bound) => Some(expiry(bound)),
         }
     }
 
@@ -170,7 +170,7 @@ impl Rules for ClientRules {
             }
             ClientState::Renewing(bound) => {
                 *state = ClientState::Rebinding(bound);
-                exchange.retry_count = 0;
+                *exchange = restarted(*exchange);
                 ReportedState::new(DhcpV4State::Rebinding)
             }
             ClientState::Rebinding(_) => ReportedState::new(DhcpV4State::InitReboot),
@@ -246,8 +246,18 @@ impl ClientRules {
             Err(_) => return Err(AllocError),
         };
         *state = ClientState::Done(BoundLease::new(lease, now));
-        exchange.retry_count = 0;
+        *exchange = restarted(*exchange);
         Ok(reported)
+    }
+}
+
+/// An exchange whose count begins anew.
+pub fn restarted(exchange: Exchange) -> Exchange
+    ensures { result ≡ table.restarted exchange }
+{
+    Exchange {
+        xid: exchange.xid,
+        retry_count: 0,
     }
 }
 
@@ -274,9 +284,9 @@ fn wait<W: Words>(state: &ClientState, exchange: Exchange, now: u64, words: &mut
         ClientState::InitReboot => growing_wait(exchange, words),
         ClientState::Selecting(_) => growing_wait(exchange, words),
         ClientState::Rebooting(_) => growing_wait(exchange, words),
-        ClientState::Done(bound) => half_wait(bound.renewal().saturating_sub(now)),
-        ClientState::Renewing(bound) => half_wait(bound.rebinding().saturating_sub(now)),
-        ClientState::Rebinding(bound) => half_wait(bound.expiry().saturating_sub(now)),
+        ClientState::Done(bound) => half_wait(renewal(bound).saturating_sub(now)),
+        ClientState::Renewing(bound) => half_wait(rebinding(bound).saturating_sub(now)),
+        ClientState::Rebinding(bound) => half_wait(expiry(bound).saturating_sub(now)),
     }
 }
 

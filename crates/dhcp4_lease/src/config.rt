@@ -39,8 +39,8 @@ pub struct DhcpV4Config {
     pub iface_index: u32,
     /// Whether the client obtains a lease for another host, from whose MAC address it sends.
     pub is_proxy: bool,
-    /// How long the client stays in a state without a lease before it gives up, in seconds; 0 is
-    /// no limit.
+    /// How long the client stays in a state other than done before it gives up, in seconds, counted
+    /// anew in each state; 0 is no limit.
     pub timeout_sec: u32,
     // The MAC address, which is sent as chaddr.
     pub(crate) src_mac: [u8; 6],
@@ -170,7 +170,7 @@ impl DhcpV4Config {
         self
     }
 
-    /// Sets how long the client stays in a state without a lease, in seconds; 0 is no limit.
+    /// Sets how long the client stays in a state other than done, in seconds; 0 is no limit.
     pub fn set_timeout_sec(&mut self, timeout_sec: u32) -> &mut Self
         ensures set { result.now ≡ record self.old { timeout_sec = timeout_sec } }
         ensures same { result.ghost_name ≡ self.entry.ghost_name }

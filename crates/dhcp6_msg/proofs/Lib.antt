@@ -1,6 +1,8 @@
 pub mod AssociationLemmas
+pub mod BuiltMessages
 pub mod ConfigLemmas
 pub mod Configs
+pub mod DuidLemmas
 pub mod LawLemmas
 pub mod LeaseLemmas
 pub mod LimitLemmas

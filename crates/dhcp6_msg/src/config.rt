@@ -2,7 +2,7 @@
 
 mod setters;
 
-ghost use Rattle.std.specs.Prelude.{◌≡◌, [], ◌++◌, map, IfOk, Some};
+ghost use Rattle.std.specs.Prelude.{◌≡◌, ◌||◌, [], ◌++◌, length, map, IfOk, IsTrue, Some};
 ghost use Rattle.std.specs.Borrow.{sem};
 ghost use Rattle.dhcp_wire.specs.Outcome.{Makes};
 ghost use Rattle.dhcp_clock.specs.Words.{Draws};
@@ -10,6 +10,7 @@ ghost use Rattle.dhcp6_opt.specs.declared.duid.DhcpV6Duid.{DhcpV6Duid};
 ghost use Rattle.dhcp6_opt.specs.OptionCode.{code_of};
 ghost use Rattle.dhcp6_msg.specs.declared.mode.DhcpV6Mode.TheVariants as modes;
 ghost use Rattle.dhcp6_msg.specs.Setter.{UnchangedIfRefused};
+ghost use Rattle.dhcp6_msg.specs.Lease.{is_duid, is_no_duid};
 ghost use Rattle.dhcp6_msg.specs.Config as configs;
 ghost use Rattle.dhcp6_msg.specs.Config.{
   SetsDuid,
@@ -51,8 +52,8 @@ pub struct DhcpV6Config {
     pub mode: DhcpV6Mode,
     /// The link-local address from which the client sends; :: is none.
     pub src_ip: Ipv6Addr,
-    /// How long the client stays in a state without a lease before it gives up, in seconds; 0 is
-    /// no limit.
+    /// How long the client stays in a state other than done before it gives up, in seconds, counted
+    /// anew in each state; 0 is no limit.
     pub timeout_sec: u32,
     /// The codes of the options that the client asks for, option 6.
     pub request_opts: Sequence<DhcpV6OptionCode>,
@@ -171,7 +172,7 @@ impl DhcpV6Config {
         self
     }
 
-    /// Sets how long the client stays in a state without a lease, in seconds; 0 is no limit.
+    /// Sets how long the client stays in a state other than done, in seconds; 0 is no limit.
     pub fn set_timeout_sec(&mut self, timeout_sec: u32) -> &mut Self
         ensures set { result.now ≡ record self.old { timeout_sec = timeout_sec } }
         ensures same { result.ghost_name ≡ self.entry.ghost_name }
@@ -205,11 +206,14 @@ impl DhcpV6Config {
     }
 
     /// Sets the client's identifier if it has no bytes: to that of the MAC address (RFC 8415,
-    /// section 11.4), or if there is none to one of four random words. Out of memory is the only
-    /// error: nothing has then changed, but words that were drawn stay drawn.
+    /// section 11.4), or if there is none to one of four random words. One that is made has 2 to
+    /// 65,535 bytes. Out of memory is the only error: nothing has then changed, but words that were
+    /// drawn stay drawn.
     pub fn init_duid<W: Words>(&mut self, alloc: Global, words: &mut W) -> Result<(), DhcpError>
-        ensures { Draws (W.left words.old) (W.left words.new) (client_duid self.old)
+        ensures set { Draws (W.left words.old) (W.left words.new) (client_duid self.old)
             (λ duid. SetsDuid result self.old self.new duid) }
+        ensures sendable { IsTrue (is_no_duid self.old.duid || is_duid self.old.duid)
+            → IfOk result (λ _. IsTrue (is_duid self.new.duid)) }
     {
         if !self.duid.is_empty() {
             return Ok(());
@@ -219,9 +223,10 @@ impl DhcpV6Config {
 
     // Sets the client's identifier to one that is made.
     fn make_duid<W: Words>(&mut self, alloc: Global, words: &mut W) -> Result<(), DhcpError>
-        ensures { Draws (W.left words.old) (W.left words.new)
+        ensures set { Draws (W.left words.old) (W.left words.new)
             (configs.made_duid self.old.src_mac)
             (λ duid. SetsDuid result self.old self.new duid) }
+        ensures sendable { IfOk result (λ _. IsTrue (is_duid self.new.duid)) }
     {
         let made = made_duid(alloc, self.src_mac, words);
         self.keep_duid(made)
@@ -229,8 +234,10 @@ impl DhcpV6Config {
 
     // Sets the client's identifier to one that was made.
     fn keep_duid(&mut self, made: Result<DhcpV6Duid, DhcpError>) -> Result<(), DhcpError>
-        ensures { (duid : DhcpV6Duid) → Makes (λ made. made) made duid
+        ensures set { (duid : DhcpV6Duid) → Makes (λ made. made) made duid
             → SetsDuid result self.old self.new duid }
+        ensures sendable { IfOk made (λ duid. IsTrue (is_duid duid))
+            → IfOk result (λ _. IsTrue (is_duid self.new.duid)) }
     {
         self.set_duid(made?);
         Ok(())
@@ -299,13 +306,24 @@ fn made_duid<W: Words>(
     src_mac: Option<[u8; 6]>,
     words: &mut W,
 ) -> Result<DhcpV6Duid, DhcpError>
-    ensures { Draws (W.left words.old) (W.left words.new) (configs.made_duid src_mac)
+    ensures drawn { Draws (W.left words.old) (W.left words.new) (configs.made_duid src_mac)
         (λ duid. Makes (λ made. made) result duid) }
+    ensures sendable { IfOk result (λ duid. IsTrue (is_duid duid)) }
 {
     match src_mac {
-        Some(mac) => ethernet_duid(alloc, &mac),
+        Some(mac) => {
+            has_six_bytes(mac);
+            ethernet_duid(alloc, &mac)
+        }
         None => DhcpV6Duid::random(alloc, words),
     }
+}
+
+// What the type of a MAC address keeps.
+fn has_six_bytes(mac: [u8; 6])
+    ensures { length mac ≡ 6 }
+{
+    let [_, _, _, _, _, _] = mac;
 }
 
 // The numbers of these codes.

@@ -3,14 +3,19 @@
 ghost use Rattle.std.specs.Prelude.{◌≡◌, ◌<◌, ◌^◌, ◌%◌, ℕ, List, Ok, Some, IsTrue, length};
 ghost use Rattle.dhcp6_msg.specs.declared.message.DhcpV6Message.{DhcpV6Message};
 ghost use Rattle.dhcp6_msg.specs.Config.{Config};
-ghost use Rattle.dhcp6_msg.specs.Lease.{Lease, is_within_limits, read_lease};
+ghost use Rattle.dhcp6_msg.specs.Laws.{AreSendable, ReadsBackAs};
+ghost use Rattle.dhcp6_msg.specs.Lease.{Lease, is_duid, is_within_limits, read_lease};
 ghost use Rattle.dhcp6_msg.specs.Message.{
   id_bytes,
   id_number,
   ReadsBack,
   read_message,
 };
+ghost use Rattle.dhcp6_msg.specs.MessageTable as table;
 ghost use Rattle.dhcp6_msg.specs.MessageTable.{RowParts, table_message};
+
+use crate::DhcpV6Message;
+use dhcp6_opt::laws::option_list_reads_back;
 
 /// A message reads back as it is written: with its type, its transaction id of three bytes, and the
 /// options that its options are written as. So does each message of the table.
@@ -19,6 +24,30 @@ pub fn messages_read_back()
     ensures built { (id : ℕ) (config : Config) (row : RowParts)
         → ReadsBack (table_message id config row) }
 {}
+
+/// The messages that a client builds, with identifiers of 2 to 65,535 bytes, read back: as the
+/// table of messages has them, with the codes that they request under their names, and with an
+/// identifier that is kept as its bytes alone by its type.
+pub fn built_message_reads_back(message: &DhcpV6Message)
+    ensures solicit { (id : ℕ) (config : Config) (iaid elapsed_ms : ℕ)
+        → IsTrue (is_duid config.duid)
+        → ReadsBackAs message.now
+        (table_message id config (table.solicit config.mode iaid elapsed_ms)) }
+    ensures request { (id : ℕ) (config : Config) (offer : Lease) (elapsed_ms : ℕ)
+        → AreSendable config offer
+        → ReadsBackAs message.now (table_message id config (table.request offer elapsed_ms)) }
+    ensures renew { (id : ℕ) (config : Config) (held : Lease) (elapsed_ms : ℕ)
+        → AreSendable config held
+        → ReadsBackAs message.now (table_message id config (table.renew held elapsed_ms)) }
+    ensures rebind { (id : ℕ) (config : Config) (held : Lease) (elapsed_ms : ℕ)
+        → IsTrue (is_duid config.duid)
+        → ReadsBackAs message.now (table_message id config (table.rebind held elapsed_ms)) }
+    ensures release { (id : ℕ) (config : Config) (held : Lease)
+        → AreSendable config held
+        → ReadsBackAs message.now (table_message id config (table.release held)) }
+{
+    option_list_reads_back(&message.options);
+}
 
 /// The lower 24 bits of a number read back as the transaction id that they are written as.
 pub fn ids_read_back()

@@ -14,7 +14,9 @@ mod tests;
 mod view;
 
 pub use config::DhcpV6Config;
-pub use laws::{ids_read_back, leases_are_within_limits, messages_read_back};
+pub use laws::{
+    built_message_reads_back, ids_read_back, leases_are_within_limits, messages_read_back,
+};
 pub use lease::DhcpV6Lease;
 pub use message::DhcpV6Message;
 pub use message_table::{

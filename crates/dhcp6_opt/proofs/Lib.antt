@@ -3,6 +3,7 @@ pub mod DuidLaws
 pub mod DuidLemmas
 pub mod EqualityLemmas
 pub mod IaLaws
+pub mod IndexBuildLemmas
 pub mod InsideLemmas
 pub mod LawLemmas
 pub mod ListLaws

@@ -5,7 +5,7 @@ use Rattle.std.specs.Cmp.{nat_cmp_total, unsigned_tied}
 use Rattle.std.specs.FinMap as map
 use Rattle.std.specs.FinMap.{nat_cmp-IsAntisymmetric}
 use Rattle.std.specs.FinMap.Entries.{below_all}
-use Rattle.std.specs.List.{AllByRecursion, filter, flat_map}
+use Rattle.std.specs.List.{AllByRecursion, cons_option, filter, flat_map}
 use Rattle.std.specs.Ordering.{is_lt, nat_cmp}
 use Rattle.std.proofs.lemmas.Bool.{and_parts, eq-eqb, eqb-true, false≢true, ne_eqb}
 use Rattle.std.proofs.lemmas.List.Concat.{flat_map-cons}
@@ -18,13 +18,17 @@ use Rattle.dhcp6_opt.specs.declared.option.DhcpV6Option.TheVariants.{RapidCommit
 use Rattle.dhcp6_opt.specs.declared.options.index.IndexEntry.{IndexEntry}
 use Rattle.dhcp6_opt.specs.Laws.{AllStand, AllStandUnder, AreInRange, HasWidths, IsInRange, StandsUnder, options_read_back, read_back}
 use Rattle.dhcp6_opt.specs.OptionIndex.{entry_in, first_place, has_number, IsIndexed}
-use Rattle.dhcp6_opt.specs.Options.{lists_of, OptionLists, read_options, reading_of, with_option, with_options, with_reading, written_options}
+use Rattle.dhcp6_opt.specs.Options.{lists_of, OptionLists, options_in, read_options, reading_of, with_option, with_options, written_options}
 use Rattle.dhcp6_opt.specs.Value.{fits, option_number, written_option, written_value}
 use Rattle.dhcp6_opt.proofs.LawLemmas.{option_number-read_back, raw_option_back, value_back}
-use Rattle.dhcp6_opt.proofs.OptionListLemmas.{entries-lists_of, get-lists_of, has_some, is_some-position, joined}
-use Rattle.dhcp6_opt.proofs.OptionReadLemmas.{entered, entered_more, read_options-entered}
+use Rattle.dhcp6_opt.proofs.OptionListLemmas.{entries-lists_of, get-lists_of, has_some, is_some-position, joined, with_options-append}
+use Rattle.dhcp6_opt.proofs.OptionReadLemmas.{options_in-found}
 
 -- ---- options one after the other
+
+-- the options so far, and those of some bytes
+abbrev entered : OptionLists → List ℕ → OptionLists
+entered options bytes = with_options options (options_in bytes)
 
 -- options that are written are entered as they read back, and then what follows
 entered_all : (before : OptionLists) (number : ℕ) (options : List DhcpV6Option) (rest : List ℕ) → AllByRecursion (StandsUnder number) options → AllByRecursion IsInRange options → entered before (flat_map written_option options ++ rest) ≡ entered (with_options before (map read_back options)) rest
@@ -35,8 +39,8 @@ entered_all before number (option ∷ options) rest stand range =
     let raw = raw_option_back option later stand.0.fit stand.0.widths in
     ap (λ bytes. entered before (bytes ++ rest)) (flat_map-cons written_option option options)
     ∙ ap (entered before) (append_assoc (written_option option) (flat_map written_option options) rest)
-    ∙ sym (entered_more before whole later (record { code = option_number option; value = written_value option }) (entered before whole) refl raw)
-    ∙ ap (λ read. entered (with_reading before read) later) (value_back option stand.0.fit stand.0.widths range.0)
+    ∙ ap (with_options before) (options_in-found whole later (record { code = option_number option; value = written_value option }) raw)
+    ∙ ap (λ read. with_options before (cons_option read (options_in later))) (value_back option stand.0.fit stand.0.widths range.0)
     ∙ entered_all (with_option before (read_back option)) number options rest stand.1 range.1
 
 -- ---- lists by rising number
@@ -52,10 +56,6 @@ read_entries es = flat_map (λ entry. map read_back entry.1) es
 -- each entry with its options as they read back
 abbrev back_entries : List Entry → List Entry
 back_entries es = map (λ entry. (entry.0, map read_back entry.1)) es
-
-with_options-append : (before : OptionLists) (options more : List DhcpV6Option) → with_options before (options ++ more) ≡ with_options (with_options before options) more
-with_options-append before [] more = refl
-with_options-append before (option ∷ options) more = with_options-append (with_option before option) options more
 
 entered_entries : (before : OptionLists) (es : List Entry) (rest : List ℕ) → AllByRecursion (λ entry. AllStandUnder entry.0 entry.1) es → AllByRecursion (AllByRecursion IsInRange) (map (λ entry. entry.1) es) → entered before (flat_map (flat_map written_option) (map (λ entry. entry.1) es) ++ rest) ≡ entered (with_options before (read_entries es)) rest
 entered_entries before [] rest stand range = refl
@@ -124,11 +124,10 @@ under_each q (e ∷ es) sorted stand =
 
 -- the options that are written read back, and then those of what follows
 pub options_back : (options : OptionLists) (rest : List ℕ) → AllStand options → AreInRange options → read_options (written_options options ++ rest) ≡ with_options (options_read_back options) (filter_map reading_of (raw_options DhcpV6 rest))
-unfolding written_options
+unfolding written_options read_options
 options_back options rest stand range =
     let es : List Entry = map.entries options in
-    sym (read_options-entered _)
-    ∙ entered_entries map.empty es rest stand range
+    entered_entries map.empty es rest stand range
     ∙ ap (λ lists. entered lists rest) (map.same_map nat_cmp_total nat_cmp-IsAntisymmetric (lists_of (read_entries es)) (options_read_back options) (λ q.
     get-lists_of (read_entries es) q ∙ under_each q es (is_passed _ (map.entries_sorted options)) stand ∙ sym (map.get-from_entries nat_cmp_total (back_entries es) q)))
 

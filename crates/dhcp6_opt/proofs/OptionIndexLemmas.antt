@@ -15,7 +15,7 @@ above_at n zero (e ∷ es) d all inside = all.0
 above_at n (suc k) (e ∷ es) d all inside = above_at n k es d all.1 (omega (arith, inside))
 
 -- a smaller number is below all too
-weaken_above : (n m : ℕ) (es : List IndexEntry) → n < m → AllAbove m es → AllAbove n es
+pub weaken_above : (n m : ℕ) (es : List IndexEntry) → n < m → AllAbove m es → AllAbove n es
 weaken_above n m [] less all = tt
 weaken_above n m (e ∷ es) less all = (omega (arith, less, all.0), weaken_above n m es less all.1)
 

@@ -173,13 +173,14 @@ first_of-placed kept q i d is =
 pub first_of-missing : (kept : List DhcpV6Option) (q : ℕ) → position (has_number q) kept ≡ None → first_of (lists_of kept) q ≡ None
 first_of-missing kept q none = ap (λ found. first_in (unwrap_or found [])) (get-missing kept q none)
 
--- one option more
-with_options-push : (options : OptionLists) (kept : List DhcpV6Option) (option : DhcpV6Option) → with_options options (kept ++ option ∷ []) ≡ with_option (with_options options kept) option
-with_options-push options [] option = refl
-with_options-push options (first ∷ kept) option = with_options-push (with_option options first) kept option
+-- some options, and then more
+pub with_options-append : (options : OptionLists) (some more : List DhcpV6Option) → with_options options (some ++ more) ≡ with_options (with_options options some) more
+with_options-append options [] more = refl
+with_options-append options (option ∷ some) more = with_options-append (with_option options option) some more
 
+-- one option more
 pub lists_of-push : (kept : List DhcpV6Option) (option : DhcpV6Option) → lists_of (kept ++ option ∷ []) ≡ with_option (lists_of kept) option
-lists_of-push kept option = with_options-push map.empty kept option
+lists_of-push kept option = with_options-append map.empty kept (option ∷ [])
 
 -- ---- without a number
 
@@ -298,9 +299,6 @@ fit_at zero (option ∷ kept) d fit inside = fit.0
 fit_at (suc i) (option ∷ kept) d fit inside = fit_at i kept d fit.1 (omega (arith, inside))
 
 -- ---- the index
-
-pub IsIndexed-nil : IsIndexed [] []
-IsIndexed-nil = record { fit = tt; rises = tt; firsts = λ number. refl }
 
 -- one option more, of a number that is there
 pub IsIndexed-more : (kept : List DhcpV6Option) (es : List IndexEntry) (option : DhcpV6Option) (first : ℕ) → IsIndexed kept es → IsTrue (fits option) → first_place (option_number option) es ≡ Some first → IsIndexed (kept ++ option ∷ []) es

@@ -50,14 +50,13 @@ with_options options (option ∷ more) = with_options (with_option options optio
 abbrev pub lists_of : List DhcpV6Option → OptionLists
 lists_of options = with_options map.empty options
 
--- the options with the reading of one more, if it has one
-abbrev pub with_reading : OptionLists → Option DhcpV6Option → OptionLists
-with_reading options None = options
-with_reading options (Some option) = with_option options option
-
 -- the options of a list of bytes: those that read, from the first on
+abbrev pub options_in : List ℕ → List DhcpV6Option
+options_in bytes = filter_map reading_of (raw_options DhcpV6 bytes)
+
+-- the same, by their numbers
 unfoldable pub read_options : List ℕ → OptionLists
-read_options bytes = lists_of (filter_map reading_of (raw_options DhcpV6 bytes))
+read_options bytes = lists_of (options_in bytes)
 
 -- the first of a list
 abbrev pub first_in : List DhcpV6Option → Option DhcpV6Option

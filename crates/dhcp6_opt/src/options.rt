@@ -3,7 +3,7 @@
 mod equality;
 mod index;
 
-ghost use Rattle.std.specs.Prelude.{◌≡◌, ◌+◌, ◌-◌, ◌*◌, ◌^◌, ◌≤◌, ◌==◌, ◌&&◌, length, map, IfErr, IfOk, IfSome, IsTrue, MatchResult, OnOk, option_copied, option_map, vec_items};
+ghost use Rattle.std.specs.Prelude.{◌≡◌, ◌+◌, ◌-◌, ◌*◌, ◌^◌, ◌≤◌, ◌==◌, ◌&&◌, length, map, IfErr, IfOk, IfSome, IsTrue, OnOk, option_copied, option_map, vec_items};
 ghost use Rattle.std.specs.List.{filter, flat_map, All, AllByRecursion};
 ghost use Rattle.std.specs.Cmp.{on_per, on_equiv, and_per, and_equiv, nat_eq_equiv, partial_equiv_from_equiv};
 ghost use Rattle.std.specs.Cmp.Lexicographic.{pointwise, lists_per, lists_equiv};
@@ -15,7 +15,7 @@ ghost use Rattle.dhcp6_opt.specs.contracts.option.DhcpV6OptionEq.TheImpl.Laws as
 ghost use Rattle.dhcp6_opt.specs.Laws.{AllStand};
 ghost use Rattle.dhcp6_opt.specs.OptionCode.{number_of};
 ghost use Rattle.dhcp6_opt.specs.OptionIndex.{AreGroups, has_number, same_entry};
-ghost use Rattle.dhcp6_opt.specs.Options.{first_of, read_options, reading_of, with_option, with_reading, written_options};
+ghost use Rattle.dhcp6_opt.specs.Options.{first_of, options_in, read_options, reading_of, with_option, written_options};
 ghost use Rattle.dhcp6_opt.specs.RawOption.{parts_of};
 ghost use Rattle.dhcp6_opt.specs.Value.{fits, option_number, written_option};
 
@@ -25,7 +25,7 @@ use crate::widths::all_have;
 use crate::{DhcpV6Option, DhcpV6OptionCode, Steps};
 use dhcp_wire::{BufferMut, DhcpError, OptionFormat, RawOption, TryClone, none_if_refused};
 use equality::{same_in_order, same_lists};
-use index::{IndexEntry, entry_of, first_of, set_firsts};
+use index::{IndexEntry, entry_of, first_of, index_of, set_firsts};
 use std::alloc::Global;
 use std::marker::Model;
 use std::sync::ledger::Ledger;
@@ -168,25 +168,9 @@ impl DhcpV6Options {
     pub fn parse(alloc: Global, raw: &[u8]) -> Result<Self, DhcpError>
         ensures { Makes (λ options. options) result (read_options raw.now) }
     {
-        let mut options = DhcpV6Options::new(alloc);
-        let mut rest = raw;
-        while let Some((raw, later)) = OptionFormat::DhcpV6.raw_option_at(rest) {
-            options.keep(alloc, raw)?;
-            rest = later;
-        }
-        Ok(options)
-    }
-
-    // Keeps the option that a raw option reads as, if it reads.
-    fn keep(&mut self, alloc: Global, raw: RawOption) -> Result<(), DhcpError>
-        ensures { MatchResult result
-            (λ _. self.new ≡ with_reading self.old (reading_of (parts_of raw.entry)))
-            (λ e. e ≡ no_memory) }
-    {
-        match reading_of(alloc, raw)? {
-            Some(option) => self.insert(option),
-            None => Ok(()),
-        }
+        let kept = options_in(alloc, raw)?;
+        let index = index_of(alloc, &kept)?;
+        Ok(DhcpV6Options { alloc, kept, index })
     }
 
     /// Writes the options by rising code, those of one code in order of insertion. Out of memory is
@@ -271,6 +255,23 @@ impl TryClone for DhcpV6Options {
     fn try_clone(&self, alloc: Global) -> Result<Self, DhcpError> {
         DhcpV6Options::try_clone(self, alloc)
     }
+}
+
+// The options of a list of bytes that read, from the first on. Out of memory is the only error.
+fn options_in(alloc: Global, bytes: &[u8]) -> Result<Vec<DhcpV6Option>, DhcpError>
+    ensures value { Makes (λ options. options.items) result (options_in bytes.now) }
+    ensures fit { IfOk result (λ options.
+        AllByRecursion (λ option. IsTrue (fits option)) options.items) }
+{
+    let mut options = Vec::new(alloc);
+    let mut rest = bytes;
+    while let Some((raw, later)) = OptionFormat::DhcpV6.raw_option_at(rest) {
+        if let Some(option) = reading_of(alloc, raw)? {
+            options.push(option)?;
+        }
+        rest = later;
+    }
+    Ok(options)
 }
 
 // The reading of a raw option, if it has one.

@@ -14,6 +14,7 @@ mod rules;
 mod schedule;
 mod script;
 mod standing;
+mod timed_release;
 
 pub use attempt::send;
 pub use bound_lease::BoundLease;
@@ -24,3 +25,4 @@ pub use release::{ReleaseError, clean_up, release_by, release_held};
 pub use rules::{AttemptStart, NewAttempt, Rules};
 pub use schedule::next_poll;
 pub use script::{Event, Failure, Input, Output, Report};
+pub use timed_release::{release_at, release_held_at};

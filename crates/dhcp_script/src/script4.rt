@@ -26,7 +26,7 @@ pub struct Script4 {
     pub mac: [u8; 6],
     /// Whether the client obtains a lease for another host.
     pub is_proxy: bool,
-    /// How long the client stays in a state without a lease, in seconds; 0 is no limit.
+    /// How long the client stays in a state other than done, in seconds; 0 is no limit.
     pub timeout_sec: u32,
     /// The host name, in UTF-8; empty is none.
     pub host: Bytes,

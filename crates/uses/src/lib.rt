@@ -10,7 +10,7 @@ mod options6;
 mod rules;
 
 pub use lease::{Counter, address_of_lease, lease_of_ack};
-pub use manager::{Interface, new_client, turn};
+pub use manager::{Follow, Interface, ManagedClient, new_client, new_client6, turn};
 pub use message::{configuration, discover_payload, has_no_type, read_again};
 pub use messages6::{lease_of_reply, request_of_offer, solicit_payload};
 pub use options::{copy_option, insert_parsed, subnet_mask};

@@ -1,70 +1,61 @@
-//! The loop of a network manager.
+//! The loop of a network manager, for clients of both families.
 
+mod clients;
+mod interface;
 #[cfg(test)]
 mod tests;
 
-ghost use Rattle.std.specs.Prelude.{◌≡◌, ◌<◌, ◌^◌, ◌⊎◌, IfErr, IfOk, Some, is_some, true};
+ghost use Rattle.std.specs.Prelude.{◌≡◌, ◌<◌, ◌^◌, ◌⊎◌, ℕ, Option, IfErr, IfOk, is_some, true};
 ghost use Rattle.dhcp_wire.specs.Error.{no_memory};
-ghost use Rattle.dhcp4_client.specs.Client.{timed_out};
-ghost use Rattle.dhcp4_client.specs.State.{plain_state};
-ghost use Rattle.dhcp4_client.specs.declared.client_state.ClientState.TheVariants.{InitReboot};
-ghost use Rattle.uses.specs.Manager.{SleepsUntil, address_after};
+ghost use Rattle.dhcp_history.specs.Errors.{timed_out};
+
+pub use clients::{new_client, new_client6};
+pub use interface::Interface;
 
 use dhcp_clock::{DhcpLink, Words};
 use dhcp_wire::DhcpError;
-use dhcp4_client::{DhcpV4Client, DhcpV4State};
-use dhcp4_lease::DhcpV4Config;
-use std::alloc::Global;
-use std::net::Ipv4Addr;
 
-/// The interface that is managed.
-#[derive(Clone, Copy, Debug, Default, PartialEq, Eq)]
-pub struct Interface {
-    /// Its address, if it has one.
-    pub address: Option<Ipv4Addr>,
-    /// How many bits of the address are those of its network.
-    pub prefix_length: u8,
+/// A client of either family, as its manager runs it.
+pub trait ManagedClient {
+    /// A state that it reports.
+    type State: Drop;
+
+    /// That it has nothing to do before a moment.
+    ghost sleeps_until: { Option ℕ → Self → Type 0 };
+
+    /// One poll at a moment, in milliseconds: the new state, or none if it has not changed.
+    fn run<W: Words, L: DhcpLink>(
+        &mut self,
+        now: u64,
+        words: &mut W,
+        link: &mut L,
+    ) -> Result<Option<Self::State>, DhcpError>
+        requires { now < 2 ^ 60 }
+        ensures { IfErr result (λ error. (error ≡ timed_out) ⊎ (error ≡ no_memory)) };
+
+    /// The moment, in milliseconds, before which it has nothing to do without a packet.
+    fn next_poll(&self) -> Option<u64>
+        ensures { is_some result ≡ true → sleeps_until result self.now };
 }
 
-impl Interface {
-    /// Sets the interface up as the state of its client asks.
-    pub fn follow(&mut self, state: &DhcpV4State)
-        ensures { self.new.address ≡ address_after (plain_state state.now) self.old.address }
-    {
-        match state {
-            DhcpV4State::Done(lease) => {
-                self.address = Some(lease.yiaddr);
-                self.prefix_length = lease.prefix_length();
-            }
-            DhcpV4State::Renewing | DhcpV4State::Rebinding => {}
-            DhcpV4State::InitReboot | DhcpV4State::Selecting => self.address = None,
-        }
-    }
-}
-
-/// A client on `eth0`, the interface with index 3, that is known by its MAC address.
-pub fn new_client<W: Words>(alloc: Global, words: &mut W) -> Result<DhcpV4Client, DhcpError>
-    ensures { IfOk result (λ client. client.client.state ≡ InitReboot) }
-{
-    let mut config = DhcpV4Config::new(alloc, "eth0")?;
-    config.set_iface_index(3);
-    config
-        .set_iface_mac(alloc, "02:00:00:00:00:01")?
-        .use_mac_as_client_id(alloc)?;
-    DhcpV4Client::init(alloc, config, None, words)
+/// What is set up as the states of a client ask.
+pub trait Follow<S> {
+    /// Does what a new state asks.
+    fn follow(&mut self, state: &S);
 }
 
 /// One turn of the loop, now and whenever a packet comes: polls until nothing changes any more, and
 /// returns the moment, in milliseconds, until which the manager may sleep.
-pub fn turn<W: Words, L: DhcpLink>(
-    client: &mut DhcpV4Client,
-    interface: &mut Interface,
+pub fn turn<C: ManagedClient, I: Follow<C::State>, W: Words, L: DhcpLink>(
+    client: &mut C,
+    interface: &mut I,
     now: u64,
     words: &mut W,
     link: &mut L,
 ) -> Result<Option<u64>, DhcpError>
     requires { now < 2 ^ 60 }
-    ensures asleep { IfOk result (λ moment. is_some moment ≡ true → SleepsUntil moment client.new) }
+    ensures asleep { IfOk result (λ moment.
+        is_some moment ≡ true → C.sleeps_until moment client.new) }
     ensures errors { IfErr result (λ error. (error ≡ timed_out) ⊎ (error ≡ no_memory)) }
 {
     for _ in 0..7u32 {

@@ -4,13 +4,13 @@ ghost use Rattle.std.specs.Prelude.{◌≡◌, ◌⊎◌, ℕ, List, true, is_so
 ghost use Rattle.dhcp_wire.specs.Error.{no_memory};
 ghost use Rattle.dhcp_wire.specs.Fault.{HasCause};
 ghost use Rattle.dhcp_clock.specs.Link.{HandsOver};
-ghost use Rattle.dhcp4_client.specs.Release as releases;
+ghost use Rattle.dhcp_history.specs.Errors.{release_answer, send_refused, sent_of};
 
 use super::DhcpV4Client;
 use crate::message::release_message;
 use dhcp_clock::{DhcpLink, Sent};
-use dhcp_history::{ReleaseError, clean_up, release_held, send};
-use dhcp_wire::{DhcpError, ErrorKind, FixedText};
+use dhcp_history::{release_at, release_held_at};
+use dhcp_wire::DhcpError;
 use dhcp4_lease::DhcpV4Lease;
 
 impl DhcpV4Client {
@@ -18,7 +18,7 @@ impl DhcpV4Client {
     ghost use Rattle.dhcp_history.specs.Client.{view_of};
     ghost use Rattle.dhcp_history.specs.Release as release;
     ghost use Rattle.dhcp_history.specs.Release.{HasReleased, UnlessUnreleased};
-    ghost use Rattle.dhcp4_client.specs.Release.{release_answer, release_by, send_refused, sent_of};
+    ghost use Rattle.dhcp4_client.specs.Release.{release_by};
     ghost use Rattle.dhcp4_client.specs.Rules.{protocol, held_lease};
 
     /// Releases a lease at a moment, in milliseconds, and cleans up. As a proxy, or if no lease is
@@ -46,18 +46,10 @@ impl DhcpV4Client {
         ensures moment { UnlessUnreleased (release_answer result)
             (self.new.client.last_moment ≡ now) }
     {
-        match self.send_release(lease, link) {
-            Sent::Taken => {
-                clean_up(&self.rules, &mut self.client);
-                self.client.last_moment = now;
-                Ok(())
-            }
-            Sent::Refused => {
-                self.client.last_moment = now;
-                Err(DhcpError::new_fixed(ErrorKind::IoError, FixedText::Refused))
-            }
-            Sent::NoMemory => Err(DhcpError::out_of_memory()),
-        }
+        let xid = self.client.standing.exchange.xid;
+        let config = &self.rules.config;
+        let message = release_message(self.rules.alloc, xid, config, self.lease(), lease)?;
+        release_at(&self.rules, &mut self.client, message, now, link)
     }
 
     /// Releases the lease that is held, at a moment in milliseconds, and cleans up; returns false
@@ -86,30 +78,6 @@ impl DhcpV4Client {
         ensures moment { UnlessUnreleased (release_answer result)
             (self.new.client.last_moment ≡ now) }
     {
-        match release_held(&self.rules, &mut self.client, link) {
-            Ok(released) => {
-                self.client.last_moment = now;
-                Ok(released)
-            }
-            Err(ReleaseError::Refused) => {
-                self.client.last_moment = now;
-                Err(DhcpError::new_fixed(ErrorKind::IoError, FixedText::Refused))
-            }
-            Err(ReleaseError::OutOfMemory) => Err(DhcpError::out_of_memory()),
-        }
-    }
-
-    // Hands the release of a lease to the link.
-    fn send_release<L: DhcpLink>(&self, lease: &DhcpV4Lease, link: &mut L) -> Sent
-        ensures handed { HandsOver (release_by self.now lease.now) result
-            (L.shown link.old) (L.shown link.new) }
-        ensures faults { HasCause (result ≡ Sent.Refused) (L.faults link.old) (L.faults link.new) }
-    {
-        let xid = self.client.standing.exchange.xid;
-        let config = &self.rules.config;
-        match release_message(self.rules.alloc, xid, config, self.lease(), lease) {
-            Ok(message) => send(link, message),
-            Err(_) => Sent::NoMemory,
-        }
+        release_held_at(&self.rules, &mut self.client, now, link)
     }
 }

@@ -1,10 +1,15 @@
 //! An index from each code to its first option.
 
-ghost use Rattle.std.specs.Prelude.{◌≡◌, ◌+◌, ◌-◌, ◌*◌, ◌^◌, ◌≤◌, ℕ, length, is_some, position, MatchResult};
-ghost use Rattle.dhcp6_opt.specs.OptionIndex.{first_place, GoesAt, has_number, IsEntryAt, Rises};
+ghost use Rattle.std.specs.Prelude.{◌≡◌, ◌+◌, ◌-◌, ◌*◌, ◌^◌, ◌≤◌, ℕ, length, is_some, position, IsTrue, MatchResult};
+ghost use Rattle.std.specs.List.{AllByRecursion};
+ghost use Rattle.dhcp_wire.specs.Error.{no_memory};
+ghost use Rattle.dhcp6_opt.specs.OptionIndex.{first_place, GoesAt, has_number, IsEntryAt, IsIndexed, Rises};
+ghost use Rattle.dhcp6_opt.specs.Value.{fits};
 
 use crate::DhcpV6Option;
 use crate::steps::{StepCounter, Uncounted};
+use dhcp_wire::DhcpError;
+use std::alloc::Global;
 use std::cmp::Ordering;
 
 // Where the first option of a code is.
@@ -14,6 +19,24 @@ pub(crate) struct IndexEntry {
     pub(crate) number: u16,
     // The position of its first option.
     pub(crate) first: usize,
+}
+
+// The index of some options: an entry for each code, by rising number. Out of memory is the only
+// error.
+pub(crate) fn index_of(alloc: Global, kept: &[DhcpV6Option]) -> Result<Vec<IndexEntry>, DhcpError>
+    requires { AllByRecursion (λ option. IsTrue (fits option)) kept.now }
+    ensures { MatchResult result
+        (λ entries. IsIndexed kept.now entries.items) (λ e. e ≡ no_memory) }
+{
+    let mut entries = Vec::with_capacity(alloc, kept.len())?;
+    for option in kept {
+        let number = u16::from(option.code());
+        let first = entries.len();
+        entries.push(IndexEntry { number, first })?;
+    }
+    entries.sort_by_key(|entry| entry.number)?;
+    entries.dedup_by_key(|entry| entry.number);
+    Ok(entries)
 }
 
 // Where the entry of this number is, or else where it would go. A step is a comparison of numbers.

@@ -1,6 +1,7 @@
-use super::{Interface, new_client, turn};
+use super::{Interface, new_client, new_client6, turn};
 use crate::{configuration, discover_payload};
 use dhcp_clock::{MemLink, WordList};
+use std::net::Ipv6Addr;
 use std::test::Fail;
 
 #[test]
@@ -17,6 +18,23 @@ fn a_client_that_searches_sleeps_until_its_next_discover(rt: HostRuntime) -> Res
         &mut MemLink::new(alloc),
     )?;
     assert_eq!(rt; wake, Some(3_000));
+    Ok(())
+}
+
+#[test]
+fn a_client_of_ipv6_sleeps_until_its_first_solicit(rt: HostRuntime) -> Result<(), Fail> {
+    let alloc = rt.alloc();
+    let mut words = WordList::new(vec![in alloc; 1, 600]?);
+    let mut client = new_client6(alloc, Ipv6Addr::LOCALHOST, &mut words)?;
+    let mut interface = Interface::default();
+    let wake = turn(
+        &mut client,
+        &mut interface,
+        0,
+        &mut words,
+        &mut MemLink::new(alloc),
+    )?;
+    assert_eq!(rt; wake, Some(600));
     Ok(())
 }
 

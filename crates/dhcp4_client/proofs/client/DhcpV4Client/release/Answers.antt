@@ -1,5 +1,5 @@
 -- A release that the link took cleans up.
 use Rattle.dhcp4_client.proofs.client.DhcpV4Client.release.Goals as goal
 
-pub returns-in-Taken-clause-cleaned : goal.returns-in-Taken-clause-cleaned
-returns-in-Taken-clause-cleaned g c = rw (← c.self.view_is) c.clean_up.ensures.client
+pub returns-clause-cleaned : goal.returns-clause-cleaned
+returns-clause-cleaned g c = rw (← c.self.view_is) c.release_at.ensures.cleaned

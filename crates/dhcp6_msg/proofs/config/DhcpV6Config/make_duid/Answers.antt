@@ -5,6 +5,9 @@ use Rattle.dhcp6_msg.proofs.ConfigLemmas.{made_is_set}
 use Rattle.dhcp6_msg.proofs.config.DhcpV6Config.make_duid.Goals as goal
 
 pub returns : goal.returns
-returns g c =
-    made_is_set _ _ c.made_duid-made.result c.keep_duid.result _ c.args.self.now _
-    (ap (λ (config : Config). config.src_mac) c.self.view_is) c.keep_duid.ensures c.made_duid-made.ensures
+returns g c = record {
+  set =
+      made_is_set _ _ c.made_duid-made.result c.keep_duid.result _ c.args.self.now _
+      (ap (λ (config : Config). config.src_mac) c.self.view_is) c.keep_duid.ensures.set c.made_duid-made.ensures.drawn;
+  sendable = c.keep_duid.ensures.sendable c.made_duid-made.ensures.sendable;
+}

@@ -1,0 +1,4 @@
+mod Beginnings
+mod Lawful
+mod Limits
+mod Traffic

@@ -1,0 +1,8 @@
+pub mod Answer
+pub mod BoundLease
+pub mod Bounds
+pub mod Client
+pub mod Message
+pub mod Release
+pub mod Rules
+pub mod State

@@ -1,0 +1,81 @@
+//! A packet as the awaited answer, RFC 8415 sections 16.3, 16.10 and 18.2.10. It is tested in the
+//! bytes that it was received in: its carrier, its type, its transaction id; only a packet that may
+//! answer is copied.
+
+ghost use Rattle.std.specs.Prelude.{◌≡◌, ◌≤◌, IfOk, IfSome, None, Ok, Some, false, is_some, length};
+ghost use Rattle.dhcp_wire.specs.Outcome.{Finds};
+ghost use Rattle.dhcp6_opt.specs.Duid.{written_duid};
+ghost use Rattle.dhcp6_client.specs.Answer as answers;
+
+use crate::client_state::ClientState;
+use crate::granted_lease::GrantedLease;
+use dhcp_clock::{Packet, PacketKind};
+use dhcp_wire::{DhcpError, none_if_refused};
+use dhcp6_msg::{DhcpV6Lease, DhcpV6MessageType, DhcpV6View};
+use std::alloc::Global;
+
+/// The type that a state awaits.
+pub fn awaited(state: &ClientState) -> Option<DhcpV6MessageType>
+    ensures { result ≡ answers.awaited state.now }
+{
+    match state {
+        ClientState::Solicit => Some(DhcpV6MessageType::Advertise),
+        ClientState::Request(_) => Some(DhcpV6MessageType::Reply),
+        ClientState::Done(_) => None,
+        ClientState::Temporary(_) => None,
+        ClientState::Renew(_) => Some(DhcpV6MessageType::Reply),
+        ClientState::Rebind(_) => Some(DhcpV6MessageType::Reply),
+    }
+}
+
+/// The lease that a packet answers to an attempt with this transaction id which awaits this type,
+/// if it answers. Out of memory is the only error, and comes only of a packet that may answer.
+pub fn read_answer(
+    alloc: Global,
+    kind: DhcpV6MessageType,
+    xid: u32,
+    packet: &Packet,
+) -> Result<Option<GrantedLease>, DhcpError>
+    ensures answer { IfOk result (λ answer.
+        answer ≡ answers.answer_of (answers.message_for (Some kind) xid packet.now)) }
+    ensures free { is_some (answers.message_for (Some kind) xid packet.now) ≡ false →
+        result ≡ Ok None }
+{
+    let Some(payload) = payload_in(packet) else {
+        return Ok(None);
+    };
+    let Some(view) = DhcpV6View::new(payload) else {
+        return Ok(None);
+    };
+    if !concerns(kind, xid, &view) {
+        return Ok(None);
+    }
+    lease_of(alloc, &view)
+}
+
+// The payload of a packet; a frame has none here.
+fn payload_in(packet: &Packet) -> Option<&[u8]>
+    ensures { Finds (λ bytes. bytes.now) result (answers.payload_in packet.now) }
+{
+    match packet.kind {
+        PacketKind::Frame => None,
+        PacketKind::Payload => Some(packet.bytes.as_slice()),
+    }
+}
+
+// Whether a message is of this type and has this transaction id.
+#[tactic(auto, unfolding(dhcp6_msg::specs::MessageType::type_number))]
+fn concerns(kind: DhcpV6MessageType, xid: u32, message: &DhcpV6View) -> bool
+    ensures { result ≡ answers.concerns kind xid message.now }
+{
+    message.msg_type() == kind && message.xid() == xid
+}
+
+// The lease that a message grants, if it grants one.
+fn lease_of(alloc: Global, message: &DhcpV6View) -> Result<Option<GrantedLease>, DhcpError>
+    ensures { IfOk result (λ lease. lease ≡ answers.granted_by message.now) }
+{
+    let message = message.to_message(alloc)?;
+    let lease = none_if_refused(DhcpV6Lease::from_message(alloc, message))?;
+    Ok(lease.map(GrantedLease::new))
+}

@@ -1,0 +1,343 @@
+//! The client as a poll, RFC 8415 section 18.2.
+
+mod release;
+mod replay;
+
+ghost use Rattle.std.specs.Prelude.{◌≡◌, ◌≤◌, ◌<◌, ◌^◌, ◌⊎◌, ◌||◌, ℕ, List, Bool, Ok, None, true, false, IfErr, IfOk, IfSome, IsSomeAnd, OnErr, OnOk, is_ok, is_some, not};
+ghost use Rattle.dhcp_wire.specs.Error.{no_memory};
+ghost use Rattle.dhcp_wire.specs.Outcome.{Finds};
+ghost use Rattle.dhcp_history.specs.Errors.{run_answer, timed_out};
+ghost use Rattle.dhcp6_msg.specs.Lease.{is_within_limits};
+ghost use Rattle.dhcp6_client.specs.Client as clients;
+ghost use Rattle.dhcp6_client.specs.State.{plain_state};
+
+use crate::DhcpV6State;
+use crate::client_state::{ClientState, Exchange};
+use crate::draws::{new_id, restarted};
+use crate::granted_lease::{GrantedLease, is_duid};
+use crate::rules::{ClientRules, bound_state};
+use crate::state::ReportedState;
+use dhcp_clock::{DhcpLink, Words};
+use dhcp_history::{BoundLease, Client, RunError, Standing, clean_up, next_poll, run};
+use dhcp_wire::{DhcpError, ErrorKind, FixedText};
+use dhcp6_msg::{DhcpV6Config, DhcpV6Lease, DhcpV6Mode};
+use std::alloc::Global;
+use std::marker::Model;
+
+/// A client. It does nothing by itself: `run` polls it. Contracts see its configuration and the
+/// client of its rules.
+#[derive(Drop)]
+pub struct DhcpV6Client {
+    pub(crate) rules: ClientRules,
+    client: Client<ClientState, Exchange>,
+}
+
+impl Model for DhcpV6Client {
+    ghost use Rattle.std.specs.Coded.{codes};
+    ghost use Rattle.dhcp_history.specs.Schedule.{HasNextAttempt};
+    ghost use Rattle.dhcp6_msg.specs.contracts.lease.DhcpV6Lease as lease_model;
+    ghost use Rattle.dhcp6_client.specs.Client.{ClientParts};
+    ghost use Rattle.dhcp6_client.specs.Rules.{has_attempts};
+
+    ghost Value = { ClientParts };
+
+    ghost coded = { Prim.hlevel (codes, lease_model.the_row.coded) };
+
+    ghost view = { λ client. record { config = client.rules.config; client = client.client } };
+
+    ghost invariant = { λ client. HasNextAttempt has_attempts client.client };
+}
+
+impl DhcpV6Client {
+    ghost use Rattle.dhcp_history.specs.Rules.{GivesDrawn};
+    ghost use Rattle.dhcp_history.specs.Protocol.{has_come};
+    ghost use Rattle.dhcp_history.specs.declared.script.Input.TheVariants.{Nothing};
+    ghost use Rattle.dhcp_history.specs.Machine as machine;
+    ghost use Rattle.dhcp_history.specs.Machine.{
+      begin_stay,
+      is_listening,
+      is_stopped,
+      is_unpolled,
+      limit_is_over,
+      poll,
+    };
+    ghost use Rattle.dhcp_history.specs.Client.{view_of};
+    ghost use Rattle.dhcp_history.specs.Run.{
+      input_of,
+      quiet_poll,
+      HasPolled,
+      HasPolledQuietly,
+      IsSent,
+      IsStill,
+      IsUnsent,
+      NeedsMemory,
+      OnNoMemory,
+      OnTimeout,
+      UnlessNoMemory,
+      UsesLink,
+      WhereKnown,
+    };
+    ghost use Rattle.dhcp_history.specs.Schedule as schedule;
+    ghost use Rattle.dhcp_history.specs.Schedule.{IsActive, IsIdle};
+    ghost use Rattle.dhcp6_client.specs.Client.{
+      Begins,
+      IsDone,
+      IsReset,
+      can_begin,
+      drawn_for,
+      first_draws,
+    };
+    ghost use Rattle.dhcp6_msg.specs.Lease.{is_within_limits};
+    ghost use Rattle.dhcp6_client.specs.Rules.{protocol, held_lease, needs_memory, public_state};
+
+    /// A client with this configuration, and with a lease that it held before, if there is one,
+    /// whose times count from this moment, in milliseconds: it renews that lease, unless it asks
+    /// for temporary addresses. It fills an empty identifier, from the MAC address or at random,
+    /// and draws its transaction id. `InvalidArgument` if and only if the interface index is 0, the
+    /// address to send from is ::, the identifier is neither empty nor 2 to 65,535 bytes, there are
+    /// more than 32,767 codes, or the lease is one that `done` refuses; then no word is drawn. Else
+    /// out of memory is the only error.
+    pub fn init<W: Words>(
+        alloc: Global,
+        config: DhcpV6Config,
+        lease: Option<DhcpV6Lease>,
+        now: u64,
+        words: &mut W,
+    ) -> Result<Self, DhcpError>
+        requires { now < 2 ^ 60 }
+        ensures begins { OnOk result (can_begin config lease ≡ true) }
+        ensures begun { IfOk result (Begins config lease now) }
+        ensures drawn { IfOk result (λ client. GivesDrawn (first_draws config)
+            (W.left words.old) (drawn_for client) (W.left words.new)) }
+        ensures refused { can_begin config lease ≡ false → IfErr result
+            (λ error. error.kind ≡ ErrorKind.InvalidArgument) }
+        ensures errors { can_begin config lease ≡ true → IfErr result
+            (λ error. error ≡ no_memory) }
+        ensures undrawn { can_begin config lease ≡ false → W.left words.new ≡ W.left words.old }
+    {
+        if !can_begin(&config, &lease) {
+            return Err(DhcpError::new_fixed(ErrorKind::InvalidArgument, FixedText::Config));
+        }
+        let mut config = config;
+        config.init_duid(alloc, words)?;
+        let exchange = first_exchange(new_id(words.next_word()));
+        let timeout_sec = config.timeout_sec;
+        let state = first_state(config.mode, lease, now);
+        Ok(DhcpV6Client {
+            rules: ClientRules { alloc, config },
+            client: Client {
+                state,
+                timeout_sec,
+                standing: Standing::unpolled(exchange),
+                last_moment: now,
+            },
+        })
+    }
+
+    /// One poll at a moment, in milliseconds: a kept error, the time limit, the end of the state,
+    /// the pause, an attempt, the wait of a refused attempt, the packet. Returns the new state, or
+    /// none if it has not changed. `Timeout` if and only if the time limit of the state is over,
+    /// and from then on until a clean-up or a release. When out of memory the client is as it was,
+    /// or as it was right after its message was sent.
+    pub fn run<W: Words, L: DhcpLink>(
+        &mut self,
+        now: u64,
+        words: &mut W,
+        link: &mut L,
+    ) -> Result<Option<DhcpV6State>, DhcpError>
+        requires { now < 2 ^ 60 }
+
+        // where words and link are known, this is the poll of the protocol
+        ensures polled { UnlessNoMemory (run_answer plain_state result) (WhereKnown
+            (W.left words.old) (L.shown link.old) (λ drawn before.
+            HasPolled (protocol self.old.config)
+            (poll (protocol self.old.config) now before.refuses (input_of before.waiting)
+            (view_of self.old.client drawn))
+            (run_answer plain_state result) (view_of self.new.client) (W.left words.new)
+            before (L.shown link.new))) }
+
+        // over all words and links: the steps that use neither, and what is never touched
+        ensures quiet { (drawn : List ℕ) →
+            IfSome (quiet_poll (protocol self.old.config) now (view_of self.old.client drawn))
+            (λ once. HasPolledQuietly (protocol self.old.config) once
+            (run_answer plain_state result) (view_of self.new.client drawn)
+            (W.left words.old) (W.left words.new) (L.shown link.old) (L.shown link.new)
+            (L.faults link.old) (L.faults link.new)) }
+        ensures errors { IfErr result (λ error. (error ≡ timed_out) ⊎ (error ≡ no_memory)) }
+        ensures cause { OnTimeout (run_answer plain_state result) ((drawn : List ℕ) →
+            (is_stopped self.old.client.standing.phase ||
+            limit_is_over (protocol self.old.config) now (view_of self.old.client drawn))
+            ≡ true) }
+        ensures config { self.new.config ≡ self.old.config }
+        ensures timeout { self.new.client.timeout_sec ≡ self.old.client.timeout_sec }
+        ensures moment { UnlessNoMemory (run_answer plain_state result)
+            (self.new.client.last_moment ≡ now) }
+        ensures state { OnErr result (self.new.client.state ≡ self.old.client.state) }
+        ensures still { run_answer plain_state result ≡ Ok None → IsStill now
+            self.old.client self.new.client (L.faults link.old) (L.faults link.new) }
+        ensures reported { IfOk (run_answer plain_state result) (λ change. IfSome change
+            (λ reported. reported ≡ public_state self.new.client.state)) }
+
+        // out of memory: as at entry, or right after the send
+        ensures memory { OnNoMemory (run_answer plain_state result)
+            (IsUnsent self.old.client self.new.client (L.shown link.old) (L.shown link.new)
+            ⊎ IsSent (protocol self.old.config) now
+            (λ drawn. begin_stay (protocol self.old.config) now (view_of self.old.client drawn))
+            self.new.client (W.left words.old) (L.shown link.old) (L.shown link.new)) }
+        ensures needed { OnNoMemory (run_answer plain_state result)
+            (is_unpolled self.old.client.standing.phase ≡ false →
+            has_come now self.old.client.standing.deadline ≡ false →
+            NeedsMemory needs_memory self.old.client (L.shown link.old)) }
+
+        ensures due { OnNoMemory (run_answer plain_state result) (IfSome (W.left words.old)
+            (λ drawn. (has_come now (begin_stay (protocol self.old.config) now
+            (view_of self.old.client drawn)).deadline ≡ true)
+            ⊎ NeedsMemory needs_memory self.old.client (L.shown link.old))) }
+
+        // one message and one packet at most
+        ensures uses { IfSome (L.shown link.old) (λ before. IsSomeAnd (L.shown link.new)
+            (λ after. UsesLink (is_listening self.old.client.standing.phase) before after)) }
+        ensures later { L.faults link.old ≤ L.faults link.new }
+    {
+        answer_of(run(&self.rules, &mut self.client, now, words, link))
+    }
+
+    /// Drops the lease, the offer, the attempt and a kept error: the client searches anew, with its
+    /// transaction id as it is, and no count and no previous wait.
+    pub fn clean_up(&mut self)
+        ensures client { (drawn : List ℕ) → view_of self.new.client drawn
+            ≡ machine.clean_up (protocol self.old.config) (view_of self.old.client drawn) }
+        ensures config { self.new.config ≡ self.old.config }
+        ensures timeout { self.new.client.timeout_sec ≡ self.old.client.timeout_sec }
+        ensures moment { self.new.client.last_moment ≡ self.old.client.last_moment }
+    {
+        clean_up(&self.rules, &mut self.client);
+    }
+
+    /// Begins the count of attempts and their waits anew within a stay, and counts the elapsed time
+    /// from this moment, in milliseconds, or from the first poll of the stay if that comes later.
+    /// An attempt that is open stays open, with its transaction id.
+    pub fn reset_retransmit_counters(&mut self, now: u64)
+        requires { now < 2 ^ 60 }
+        ensures { IsReset now self.old self.new }
+    {
+        let mut exchange = restarted(self.client.standing.exchange);
+        exchange.counted_from = now;
+        self.client.standing.exchange = exchange;
+        self.client.last_moment = now;
+    }
+
+    /// The moment, in milliseconds, at which a poll next does something without a packet: before it
+    /// such a poll does nothing; at or after it a poll returns a change or `Timeout`, sends, or
+    /// begins a pause. None if and only if an error is kept. Does not allocate.
+    pub fn next_poll(&self) -> Option<u64>
+        ensures moment { result ≡ schedule.next_poll (protocol self.now.config) self.now.client }
+        ensures before { (now : ℕ) (refuse : Bool) (drawn : List ℕ) →
+            is_stopped self.now.client.standing.phase ≡ false →
+            self.now.client.last_moment ≤ now → has_come now result ≡ false →
+            IsIdle (protocol self.now.config) now (view_of self.now.client drawn)
+            (poll (protocol self.now.config) now refuse Nothing
+            (view_of self.now.client drawn)) }
+        ensures after { (now : ℕ) (refuse : Bool) (drawn : List ℕ) →
+            has_come now result ≡ true →
+            IsActive (view_of self.now.client drawn)
+            (poll (protocol self.now.config) now refuse Nothing
+            (view_of self.now.client drawn)) }
+        ensures stopped { is_some result ≡ not (is_stopped self.now.client.standing.phase) }
+    {
+        next_poll(&self.rules, &self.client)
+    }
+
+    /// Gives the client a lease that is granted at this moment, in milliseconds. It drops what the
+    /// client held, its offer and its attempt, and begins its count and its waits anew; an error
+    /// that is kept stays. `InvalidArgument` if and only if T1, T2 and the valid lifetime are out
+    /// of order, the preferred lifetime is longer than that, the address is ::, the type of the
+    /// identity association is not known, or the server's identifier is not 2 to 65,535 bytes; then
+    /// the client is unchanged. Does not allocate.
+    pub fn done(&mut self, lease: DhcpV6Lease, now: u64) -> Result<(), DhcpError>
+        requires { now < 2 ^ 60 }
+        ensures taken { is_ok result ≡ is_within_limits lease }
+        ensures done { OnOk result (IsDone lease now self.old self.new) }
+        ensures refused { IfErr result (λ error. error.kind ≡ ErrorKind.InvalidArgument) }
+        ensures unchanged { OnErr result (self.new ≡ self.old) }
+    {
+        if !lease.is_within_limits() {
+            return Err(DhcpError::new_fixed(ErrorKind::InvalidArgument, FixedText::Unreadable));
+        }
+        self.client.state = bound_state(self.rules.config.mode, bound(lease, now));
+        let exchange = restarted(self.client.standing.exchange);
+        self.client.standing = self.client.standing.anew(exchange);
+        self.client.last_moment = now;
+        Ok(())
+    }
+
+    /// The lease that is held, if one is.
+    pub fn lease(&self) -> Option<&DhcpV6Lease>
+        ensures { Finds (λ lease. lease.now) result (held_lease self.now.client.state) }
+    {
+        self.client.state.held_lease()
+    }
+}
+
+// Whether a client can begin with this configuration and this lease.
+fn can_begin(config: &DhcpV6Config, lease: &Option<DhcpV6Lease>) -> bool
+    ensures { result ≡ clients.can_begin config.now lease.now }
+{
+    let is_held = match lease {
+        Some(lease) => lease.is_within_limits(),
+        None => true,
+    };
+    config.iface_index != 0
+        && !config.src_ip.is_unspecified()
+        && (config.duid.is_empty() || is_duid(&config.duid))
+        && config.is_within_limits()
+        && is_held
+}
+
+// A lease that is within its limits, from this moment on.
+fn bound(lease: DhcpV6Lease, now: u64) -> BoundLease<GrantedLease>
+    requires limits { is_within_limits lease ≡ true }
+    requires moment { now < 2 ^ 60 }
+    ensures { result ≡ record { lease = lease; since = now } }
+{
+    BoundLease::new(GrantedLease::new(lease), now)
+}
+
+// The state in which a client begins.
+fn first_state(mode: DhcpV6Mode, lease: Option<DhcpV6Lease>, now: u64) -> ClientState
+    requires limits { IfSome lease (λ lease. is_within_limits lease ≡ true) }
+    requires moment { now < 2 ^ 60 }
+    ensures { result ≡ clients.first_state mode lease now }
+{
+    match (lease, mode) {
+        (None, _) => ClientState::Solicit,
+        (Some(_), DhcpV6Mode::TemporaryAddresses) => ClientState::Solicit,
+        (Some(lease), DhcpV6Mode::NonTemporaryAddresses) => ClientState::Renew(bound(lease, now)),
+        (Some(lease), DhcpV6Mode::PrefixDelegation(_)) => ClientState::Renew(bound(lease, now)),
+    }
+}
+
+// The exchange in which it begins, with this transaction id.
+fn first_exchange(xid: u32) -> Exchange
+    ensures { result ≡ clients.first_exchange xid }
+{
+    Exchange {
+        xid,
+        retransmit_count: 0,
+        previous_wait: 0,
+        counted_from: 0,
+    }
+}
+
+// The answer of a poll of the rules, as the client's own.
+fn answer_of(
+    answer: Result<Option<ReportedState>, RunError>,
+) -> Result<Option<DhcpV6State>, DhcpError>
+    ensures same { run_answer plain_state result ≡ answer }
+    ensures errors { IfErr result (λ error. (error ≡ timed_out) ⊎ (error ≡ no_memory)) }
+{
+    match answer? {
+        Some(reported) => Ok(Some(reported.into_state())),
+        None => Ok(None),
+    }
+}

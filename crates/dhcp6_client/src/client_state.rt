@@ -1,0 +1,59 @@
+//! The states of a client with what each rests on, RFC 8415 section 18.2.
+
+ghost use Rattle.std.specs.Prelude.{◌≡◌, ◌≤◌, IfSome, length, option_copied};
+ghost use Rattle.dhcp_wire.specs.Outcome.{Finds};
+ghost use Rattle.dhcp6_opt.specs.Duid.{written_duid};
+ghost use Rattle.dhcp6_client.specs.Rules as table;
+
+use crate::granted_lease::GrantedLease;
+use dhcp_history::BoundLease;
+use dhcp6_msg::DhcpV6Lease;
+
+/// What a client is in, with what that rests on.
+#[derive(Drop)]
+pub enum ClientState {
+    /// It searches for servers.
+    Solicit,
+    /// It requests the lease of this offer.
+    Request(GrantedLease),
+    /// It has this lease, whose T1 is still to come.
+    Done(BoundLease<GrantedLease>),
+    /// It has this lease of temporary addresses, which are not renewed: their end is still to come.
+    Temporary(BoundLease<GrantedLease>),
+    /// T1 of this lease is past, and T2 is still to come.
+    Renew(BoundLease<GrantedLease>),
+    /// T2 of this lease is past, and its end is still to come.
+    Rebind(BoundLease<GrantedLease>),
+}
+
+impl ClientState {
+    /// The lease that is held.
+    pub fn held_lease(&self) -> Option<&DhcpV6Lease>
+        ensures found { Finds (λ lease. lease.now) result (table.held_lease self.now) }
+        ensures server { IfSome (option_copied result)
+            (λ lease. length (written_duid lease.srv_duid) ≤ 65535) }
+    {
+        match self {
+            ClientState::Solicit => None,
+            ClientState::Request(_) => None,
+            ClientState::Done(bound) => Some(bound.lease().lease()),
+            ClientState::Temporary(bound) => Some(bound.lease().lease()),
+            ClientState::Renew(bound) => Some(bound.lease().lease()),
+            ClientState::Rebind(bound) => Some(bound.lease().lease()),
+        }
+    }
+}
+
+/// What a client keeps from one attempt to the next, RFC 8415 sections 15 and 16.1.
+#[derive(Clone, Copy, Debug, PartialEq, Eq)]
+pub struct Exchange {
+    /// The transaction id that was drawn last, of three bytes.
+    pub xid: u32,
+    /// RC: how many attempts of this stay that the link took went without an answer.
+    pub retransmit_count: u32,
+    /// RTprev: the wait of the attempt before in this stay, in milliseconds; 0 if there was none.
+    pub previous_wait: u32,
+    /// The moment from which the elapsed time counts, if it comes after the first poll of the stay;
+    /// in milliseconds.
+    pub counted_from: u64,
+}

@@ -1,0 +1,125 @@
+//! What a client draws for an attempt, RFC 8415 sections 15, 16.1 and 18.2.
+
+ghost use Rattle.std.specs.Prelude.{◌≡◌, ◌≤◌, ◌<◌, ◌-◌, min};
+ghost use Rattle.dhcp_clock.specs.Wait as retransmit;
+ghost use Rattle.dhcp_history.specs.Rules.{GivesDrawn};
+ghost use Rattle.dhcp6_client.specs.Rules as table;
+
+use crate::bound_lease::{expiry, rebinding, renewal};
+use crate::client_state::{ClientState, Exchange};
+use dhcp_clock::{Words, retransmit_wait};
+
+// SOL_TIMEOUT and REQ_TIMEOUT, SOL_MAX_RT, REQ_MAX_RT, RFC 8415 section 7.6, in milliseconds.
+const FIRST_WAIT: u64 = 1_000;
+
+const LONGEST_SOLICIT: u64 = 3_600_000;
+
+const LONGEST_REQUEST: u64 = 30_000;
+
+// REN_TIMEOUT and REB_TIMEOUT, REN_MAX_RT and REB_MAX_RT.
+const FIRST_RENEW: u64 = 10_000;
+
+const LONGEST_RENEW: u64 = 600_000;
+
+/// How long an answer is awaited in a state, in milliseconds.
+pub fn wait<W: Words>(state: &ClientState, exchange: Exchange, now: u64, words: &mut W) -> u64
+    ensures drawn { GivesDrawn (table.wait state.now exchange now)
+        (W.left words.old) result (W.left words.new) }
+    ensures short { result ≤ 3960000 }
+{
+    match state {
+        ClientState::Solicit => next_wait(exchange, FIRST_WAIT, LONGEST_SOLICIT, words),
+        ClientState::Request(_) => next_wait(exchange, FIRST_WAIT, LONGEST_REQUEST, words),
+        ClientState::Done(bound) => wait_until(renewal(bound), exchange, now, words),
+        ClientState::Temporary(bound) => wait_until(expiry(bound), exchange, now, words),
+        ClientState::Renew(bound) => wait_until(rebinding(bound), exchange, now, words),
+        ClientState::Rebind(bound) => wait_until(expiry(bound), exchange, now, words),
+    }
+}
+
+// The next wait of a stay, until this moment at most.
+fn wait_until<W: Words>(moment: u64, exchange: Exchange, now: u64, words: &mut W) -> u64
+    ensures drawn { GivesDrawn (table.wait_until moment exchange now)
+        (W.left words.old) result (W.left words.new) }
+    ensures short { result ≤ 3960000 }
+{
+    let wait = next_wait(exchange, FIRST_RENEW, LONGEST_RENEW, words);
+    moment.saturating_sub(now).min(wait)
+}
+
+// The next wait of a stay, by the one before.
+fn next_wait<W: Words>(exchange: Exchange, first: u64, longest: u64, words: &mut W) -> u64
+    requires first { first ≤ 3600000 }
+    requires longest { longest ≤ 3600000 }
+    ensures drawn { GivesDrawn (retransmit.retransmit_wait exchange.previous_wait first longest)
+        (W.left words.old) result (W.left words.new) }
+    ensures short { result ≤ 3960000 }
+{
+    retransmit_wait(u64::from(exchange.previous_wait), first, longest, words)
+}
+
+/// The transaction id of an attempt: a new one for the first of a stay that is no search.
+pub fn transaction_id<W: Words>(
+    state: &ClientState,
+    is_first: bool,
+    exchange: Exchange,
+    words: &mut W,
+) -> u32
+    ensures { GivesDrawn (table.transaction_id state.now is_first exchange)
+        (W.left words.old) result (W.left words.new) }
+{
+    match state {
+        ClientState::Solicit => exchange.xid,
+        ClientState::Request(_) => id_for(is_first, exchange, words),
+        ClientState::Done(_) => id_for(is_first, exchange, words),
+        ClientState::Temporary(_) => id_for(is_first, exchange, words),
+        ClientState::Renew(_) => id_for(is_first, exchange, words),
+        ClientState::Rebind(_) => id_for(is_first, exchange, words),
+    }
+}
+
+// A new transaction id for the first attempt of a stay, and that of the exchange for the others.
+fn id_for<W: Words>(is_first: bool, exchange: Exchange, words: &mut W) -> u32
+    ensures { GivesDrawn (table.id_for is_first exchange)
+        (W.left words.old) result (W.left words.new) }
+{
+    if is_first {
+        new_id(words.next_word())
+    } else {
+        exchange.xid
+    }
+}
+
+/// The transaction id of a random word: a number of three bytes.
+pub fn new_id(word: u32) -> u32
+    ensures { result ≡ table.new_id word }
+{
+    word % 16_777_215
+}
+
+/// The identifier of the identity association that is asked for: drawn at each Solicit.
+pub fn association_id<W: Words>(state: &ClientState, words: &mut W) -> u32
+    ensures { GivesDrawn (table.association_id state.now)
+        (W.left words.old) result (W.left words.new) }
+{
+    match state {
+        ClientState::Solicit => words.next_word(),
+        ClientState::Request(_) => 0,
+        ClientState::Done(_) => 0,
+        ClientState::Temporary(_) => 0,
+        ClientState::Renew(_) => 0,
+        ClientState::Rebind(_) => 0,
+    }
+}
+
+/// An exchange whose count and previous wait begin anew.
+pub fn restarted(exchange: Exchange) -> Exchange
+    ensures { result ≡ table.restarted exchange }
+{
+    Exchange {
+        xid: exchange.xid,
+        retransmit_count: 0,
+        previous_wait: 0,
+        counted_from: exchange.counted_from,
+    }
+}

@@ -1,0 +1,87 @@
+//! Laws of the client, over every configuration and every script. Each is the clause of a function
+//! that does nothing.
+
+ghost use Rattle.std.specs.Prelude.{◌≡◌, ◌≤◌, ℕ, All};
+ghost use Rattle.dhcp_clock.specs.declared.link.Packet.{Packet};
+ghost use Rattle.dhcp_history.specs.declared.script.Event.{Event};
+ghost use Rattle.dhcp_history.specs.Bounds.{IsWithinState, count_of, is_change, is_send, poll_count};
+ghost use Rattle.dhcp_history.specs.History.{history, outputs};
+ghost use Rattle.dhcp_history.specs.Machine.{View, polls, replay};
+ghost use Rattle.dhcp_history.specs.Protocol.{Lawful};
+ghost use Rattle.dhcp_history.specs.Script.{Script};
+ghost use Rattle.dhcp6_msg.specs.Config.{Config};
+ghost use Rattle.dhcp6_client.specs.declared.client_state.ClientState.{ClientState};
+ghost use Rattle.dhcp6_client.specs.declared.client_state.Exchange.{Exchange};
+ghost use Rattle.dhcp6_client.specs.Bounds.{AreFarApart, HasElevenRequests};
+ghost use Rattle.dhcp6_client.specs.Rules.{protocol};
+
+use crate::DhcpV6Client;
+use dhcp_history::laws;
+
+/// The table of states is lawful, whatever the configuration: its waits are at least a millisecond
+/// and over by the end of the state, and the changes of one event come to an end. So each law of
+/// dhcp_history holds of the client.
+pub fn table_is_lawful()
+    ensures { (config : Config) → Lawful (protocol config) }
+{}
+
+/// What the calls and polls of a client report over a script, event by event, is what the history
+/// of the script reports.
+pub fn polls_give_the_history(client: &DhcpV6Client)
+    ensures { (script : Script Packet ClientState Exchange) →
+        replay (protocol client.now.config) script
+        ≡ outputs (protocol client.now.config) (history (protocol client.now.config) script) }
+{
+    table_is_lawful();
+    laws::polls_give_the_history(&client.rules);
+}
+
+/// At an event the client is polled at most seven times, and changes its state at most six times.
+pub fn seven_polls_an_event(client: &DhcpV6Client)
+    ensures polls { (fuel : ℕ) (event : Event Packet) (view : View ClientState Exchange) →
+        poll_count (protocol client.now.config) fuel event view ≤ 7 }
+    ensures changes { (fuel : ℕ) (event : Event Packet) (view : View ClientState Exchange) →
+        count_of is_change (polls (protocol client.now.config) fuel event view).outputs ≤ 6 }
+{
+    table_is_lawful();
+    laws::seven_polls_an_event(&client.rules);
+}
+
+/// At an event the polls of the client hand at most two messages to the link.
+pub fn two_messages_an_event(client: &DhcpV6Client)
+    ensures { (fuel : ℕ) (event : Event Packet) (view : View ClientState Exchange) →
+        count_of is_send (polls (protocol client.now.config) fuel event view).outputs ≤ 2 }
+{
+    table_is_lawful();
+    laws::two_messages_an_event(&client.rules);
+}
+
+/// After the polls of an event a client without a kept error does not hold a lease at or past its
+/// T1, or its end if it is of temporary addresses, is not in Renew at or past T2, and not in Rebind
+/// at or past the end of its lease.
+pub fn no_state_is_overdue(client: &DhcpV6Client)
+    ensures { (event : Event Packet) (view : View ClientState Exchange) →
+        IsWithinState (protocol client.now.config) event.moment
+        (polls (protocol client.now.config) 7 event view).view }
+{
+    table_is_lawful();
+    laws::no_state_is_overdue(&client.rules);
+}
+
+/// In a history an offer is requested at most eleven times in a stay.
+pub fn eleven_requests_of_an_offer(client: &DhcpV6Client)
+    ensures { (script : Script Packet ClientState Exchange) →
+        All HasElevenRequests (history (protocol client.now.config) script) }
+{
+    laws::attempts_run_out(&client.rules);
+}
+
+/// In a history of a client that begins without a previous wait, successive messages of a stay that
+/// the link took are at least 0.9 seconds apart, and those in Renew and in Rebind 9 seconds.
+pub fn messages_are_far_apart(client: &DhcpV6Client)
+    ensures { (script : Script Packet ClientState Exchange) →
+        script.exchange.previous_wait ≡ 0 →
+        All AreFarApart (history (protocol client.now.config) script) }
+{
+    laws::messages_are_far_apart(&client.rules);
+}

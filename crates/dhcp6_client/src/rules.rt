@@ -1,0 +1,283 @@
+//! The table of states, RFC 8415 section 18.2, as rules of dhcp_history: one method for each
+//! column, every state named.
+
+ghost use Rattle.std.specs.Prelude.{◌≡◌, ◌<◌, ◌^◌, false, IfOk, IsTrue, OnOk, OnErr};
+ghost use Rattle.dhcp_history.specs.Rules.{GivesDrawn, IsNext};
+ghost use Rattle.dhcp6_msg.specs.Config.{is_within_limits};
+ghost use Rattle.dhcp6_client.specs.Rules as table;
+ghost use Rattle.dhcp6_client.specs.State.{done};
+ghost use Rattle.dhcp6_client.specs.declared.client_state.Exchange.{Exchange};
+
+use crate::DhcpV6State;
+use crate::answer::{awaited, read_answer};
+use crate::bound_lease::{expiry, rebinding, renewal};
+use crate::client_state::{ClientState, Exchange};
+use crate::draws::{association_id, restarted, transaction_id, wait};
+use crate::granted_lease::GrantedLease;
+use crate::message::{attempt_message, release_message};
+use crate::state::ReportedState;
+use dhcp_clock::{Handed, Packet, Words, draw};
+use dhcp_history::{AttemptStart, BoundLease, NewAttempt, Rules};
+use dhcp6_msg::{DhcpV6Config, DhcpV6Lease, DhcpV6Mode};
+use std::alloc::{AllocError, Global};
+use std::mem;
+
+/// The rules of a client with this configuration.
+#[derive(Drop)]
+pub struct ClientRules {
+    /// Where its messages and leases are allocated.
+    pub alloc: Global,
+    /// Its configuration.
+    pub config: DhcpV6Config,
+    pub ghost within: { IsTrue (is_within_limits config) },
+}
+
+impl Rules for ClientRules {
+    ghost use Rattle.dhcp6_client.specs.Rules as table;
+
+    type PublicState = ReportedState;
+
+    type State = ClientState;
+
+    type Exchange = Exchange;
+
+    type Answer = GrantedLease;
+
+    type Lease = DhcpV6Lease;
+
+    ghost protocol = { λ rules. table.protocol rules.config };
+
+    ghost needs_memory = { λ rules. table.needs_memory };
+
+    fn ending_moment(&self, state: &ClientState) -> Option<u64> {
+        match state {
+            ClientState::Solicit => None,
+            ClientState::Request(_) => None,
+            ClientState::Done(bound) => Some(renewal(bound)),
+            ClientState::Temporary(bound) => Some(expiry(bound)),
+            ClientState::Renew(bound) => Some(rebinding(bound)),
+            ClientState::Rebind(bound) => Some(expiry(bound)),
+        }
+    }
+
+    fn has_time_limit(&self, state: &ClientState) -> bool {
+        match state {
+            ClientState::Solicit => true,
+            ClientState::Request(_) => true,
+            ClientState::Done(_) => false,
+            ClientState::Temporary(_) => false,
+            ClientState::Renew(_) => true,
+            ClientState::Rebind(_) => true,
+        }
+    }
+
+    fn has_attempts(&self, state: &ClientState) -> bool {
+        match state {
+            ClientState::Solicit => true,
+            ClientState::Request(_) => true,
+            ClientState::Done(_) => false,
+            ClientState::Temporary(_) => false,
+            ClientState::Renew(_) => true,
+            ClientState::Rebind(_) => true,
+        }
+    }
+
+    fn is_last_attempt(&self, state: &ClientState, exchange: Exchange) -> bool {
+        match state {
+            ClientState::Solicit => false,
+            ClientState::Request(_) => exchange.retransmit_count >= 10,
+            ClientState::Done(_) => false,
+            ClientState::Temporary(_) => false,
+            ClientState::Renew(_) => false,
+            ClientState::Rebind(_) => false,
+        }
+    }
+
+    fn after_wait(&self, exchange: Exchange) -> Exchange {
+        Exchange {
+            xid: exchange.xid,
+            retransmit_count: exchange.retransmit_count.saturating_add(1),
+            previous_wait: exchange.previous_wait,
+            counted_from: exchange.counted_from,
+        }
+    }
+
+    fn pause<W: Words>(&self, state: &ClientState, exchange: Exchange, words: &mut W) -> u64 {
+        match state {
+            ClientState::Solicit => draw(0, 1000, words.next_word()),
+            ClientState::Request(_) => 0,
+            ClientState::Done(_) => 0,
+            ClientState::Temporary(_) => 0,
+            ClientState::Renew(_) => 0,
+            ClientState::Rebind(_) => 0,
+        }
+    }
+
+    fn attempt<W: Words>(
+        &self,
+        state: &ClientState,
+        exchange: Exchange,
+        start: AttemptStart,
+        words: &mut W,
+    ) -> Result<NewAttempt<Exchange, Handed>, AllocError> {
+        let xid = transaction_id(state, start.is_first, exchange, words);
+        let wait = wait(state, exchange, start.now, words);
+        let iaid = association_id(state, words);
+        let elapsed_ms = elapsed(start, exchange);
+        match attempt_message(self.alloc, xid, &self.config, elapsed_ms, iaid, state) {
+            Ok(message) => Ok(NewAttempt {
+                wait,
+                message,
+                exchange: Exchange {
+                    xid,
+                    retransmit_count: exchange.retransmit_count,
+                    previous_wait: wait as u32,
+                    counted_from: exchange.counted_from,
+                },
+            }),
+            Err(_) => Err(AllocError),
+        }
+    }
+
+    fn reading<W: Words>(
+        &self,
+        state: &ClientState,
+        exchange: Exchange,
+        packet: Packet,
+        words: &mut W,
+    ) -> Result<Option<GrantedLease>, AllocError> {
+        let Some(kind) = awaited(state) else {
+            return Ok(None);
+        };
+        match read_answer(self.alloc, kind, exchange.xid, &packet) {
+            Ok(answer) => Ok(answer),
+            Err(_) => Err(AllocError),
+        }
+    }
+
+    fn after_answer(
+        &self,
+        state: &mut ClientState,
+        answer: GrantedLease,
+        now: u64,
+        exchange: &mut Exchange,
+    ) -> Result<ReportedState, AllocError> {
+        match state {
+            ClientState::Solicit => {
+                *state = ClientState::Request(answer);
+                *exchange = restarted(*exchange);
+                Ok(ReportedState::new(DhcpV6State::Request))
+            }
+            ClientState::Request(_) => self.bind(state, answer, now, exchange),
+            ClientState::Done(_) => self.bind(state, answer, now, exchange),
+            ClientState::Temporary(_) => self.bind(state, answer, now, exchange),
+            ClientState::Renew(_) => self.bind(state, answer, now, exchange),
+            ClientState::Rebind(_) => self.bind(state, answer, now, exchange),
+        }
+    }
+
+    fn after_end(&self, state: &mut ClientState, exchange: &mut Exchange) -> ReportedState {
+        *exchange = restarted(*exchange);
+        let reported = reported_after(state);
+        let ended = mem::replace(state, ClientState::Solicit);
+        *state = state_after(ended);
+        reported
+    }
+
+    fn after_clean_up(&self, state: &mut ClientState, exchange: &mut Exchange) {
+        *exchange = restarted(*exchange);
+        *state = ClientState::Solicit;
+    }
+
+    fn release_message(
+        &self,
+        state: &ClientState,
+        exchange: Exchange,
+    ) -> Result<Option<Handed>, AllocError> {
+        let Some(lease) = state.held_lease() else {
+            return Ok(None);
+        };
+        match release_message(self.alloc, exchange.xid, &self.config, lease) {
+            Ok(message) => Ok(Some(message)),
+            Err(_) => Err(AllocError),
+        }
+    }
+}
+
+impl ClientRules {
+    // Goes to the state of a client that has this lease, from now on.
+    fn bind(
+        &self,
+        state: &mut ClientState,
+        lease: GrantedLease,
+        now: u64,
+        exchange: &mut Exchange,
+    ) -> Result<ReportedState, AllocError>
+        requires { now < 2 ^ 60 }
+        ensures next { OnOk result (IsNext
+            (table.bound_from self.now.config.mode now lease exchange.old)
+            state.new exchange.new) }
+        ensures reported { IfOk result (λ reported.
+            reported ≡ table.public_state state.new) }
+        ensures unchanged { OnErr result (state.new ≡ state.old) }
+    {
+        let reported = match ReportedState::done(self.alloc, lease.lease()) {
+            Ok(reported) => reported,
+            Err(_) => return Err(AllocError),
+        };
+        *state = bound_state(self.config.mode, BoundLease::new(lease, now));
+        *exchange = restarted(*exchange);
+        Ok(reported)
+    }
+}
+
+// The state after the end of one.
+fn state_after(state: ClientState) -> ClientState
+    ensures { (exchange : Exchange) → result ≡ (table.after_end state exchange).state }
+{
+    match state {
+        ClientState::Solicit => ClientState::Solicit,
+        ClientState::Request(_) => ClientState::Solicit,
+        ClientState::Done(bound) => ClientState::Renew(bound),
+        ClientState::Temporary(_) => ClientState::Solicit,
+        ClientState::Renew(bound) => ClientState::Rebind(bound),
+        ClientState::Rebind(_) => ClientState::Solicit,
+    }
+}
+
+// What is reported of that state.
+fn reported_after(state: &ClientState) -> ReportedState
+    ensures { (exchange : Exchange) → result ≡
+        table.public_state (table.after_end state.now exchange).state }
+{
+    match state {
+        ClientState::Solicit => ReportedState::new(DhcpV6State::Solicit),
+        ClientState::Request(_) => ReportedState::new(DhcpV6State::Solicit),
+        ClientState::Done(_) => ReportedState::new(DhcpV6State::Renew),
+        ClientState::Temporary(_) => ReportedState::new(DhcpV6State::Solicit),
+        ClientState::Renew(_) => ReportedState::new(DhcpV6State::Rebind),
+        ClientState::Rebind(_) => ReportedState::new(DhcpV6State::Solicit),
+    }
+}
+
+/// The state of a client that has this lease, by what it asks for.
+pub fn bound_state(mode: DhcpV6Mode, bound: BoundLease<GrantedLease>) -> ClientState
+    ensures state { result ≡ table.bound_state mode bound }
+    ensures reported { table.public_state result ≡ done bound.lease }
+    ensures silent { table.has_attempts result ≡ false }
+{
+    match mode {
+        DhcpV6Mode::NonTemporaryAddresses => ClientState::Done(bound),
+        DhcpV6Mode::TemporaryAddresses => ClientState::Temporary(bound),
+        DhcpV6Mode::PrefixDelegation(_) => ClientState::Done(bound),
+    }
+}
+
+// For how many milliseconds the client has tried.
+fn elapsed(start: AttemptStart, exchange: Exchange) -> u64
+    ensures { result ≡ table.elapsed start exchange }
+{
+    start
+        .now
+        .saturating_sub(start.entered.max(exchange.counted_from))
+}

@@ -1,0 +1,115 @@
+//! The states of a client, RFC 8415 section 18.2.
+
+#[cfg(test)]
+mod tests;
+
+ghost use Rattle.std.specs.Prelude.{◌≡◌, Some};
+ghost use Rattle.dhcp_wire.specs.Outcome.{Makes};
+ghost use Rattle.dhcp6_client.specs.State.{PlainState, done, is_done, plain_state, state_text};
+
+use dhcp_wire::DhcpError;
+use dhcp6_msg::DhcpV6Lease;
+use std::alloc::Global;
+use std::fmt;
+use std::marker::Model;
+
+/// The state of a client, RFC 8415 section 18.2. The default is `Solicit`.
+#[derive(Debug, Default, PartialEq, Eq, Drop)]
+pub enum DhcpV6State {
+    /// It has this lease, and need not renew it yet.
+    Done(Box<DhcpV6Lease>),
+    /// It searches for servers.
+    #[default]
+    Solicit,
+    /// It requests the lease of an offer.
+    Request,
+    /// T1 is past, and it asks the server of its lease to renew it.
+    Renew,
+    /// T2 is past, and it asks any server to extend its lease.
+    Rebind,
+}
+
+impl DhcpV6State {
+    /// Whether the client is done: it has a lease that it need not renew yet.
+    pub fn is_done(&self) -> bool
+        ensures { result ≡ is_done self.now }
+    {
+        matches!(self, DhcpV6State::Done(_))
+    }
+
+    /// A copy. Out of memory is the only error.
+    pub fn try_clone(&self, alloc: Global) -> Result<Self, DhcpError>
+        ensures { Makes plain_state result (plain_state self.now) }
+    {
+        match self {
+            DhcpV6State::Done(lease) => {
+                let copy = lease.try_clone(alloc)?;
+                Ok(DhcpV6State::Done(Box::new(alloc, copy)?))
+            }
+            DhcpV6State::Solicit => Ok(DhcpV6State::Solicit),
+            DhcpV6State::Request => Ok(DhcpV6State::Request),
+            DhcpV6State::Renew => Ok(DhcpV6State::Renew),
+            DhcpV6State::Rebind => Ok(DhcpV6State::Rebind),
+        }
+    }
+}
+
+impl fmt::Display for DhcpV6State {
+    ghost output = { λ state. Some (state_text state) };
+
+    #[tactic(auto, unfolding(crate::specs::State::state_text))]
+    fn fmt<W: fmt::Write>(&self, f: &mut fmt::Formatter<W>) -> fmt::Result {
+        match self {
+            DhcpV6State::Done(lease) => {
+                let address = lease.address;
+                write!(f, "done({address})")
+            }
+            DhcpV6State::Solicit => f.write_str("solicit"),
+            DhcpV6State::Request => f.write_str("request"),
+            DhcpV6State::Renew => f.write_str("renew"),
+            DhcpV6State::Rebind => f.write_str("rebind"),
+        }
+    }
+}
+
+/// A state as it is reported. Contracts see its plain contents.
+#[derive(Drop)]
+pub struct ReportedState {
+    state: DhcpV6State,
+}
+
+impl Model for ReportedState {
+    ghost use Rattle.std.specs.Coded.{codes};
+    ghost use Rattle.dhcp6_msg.specs.contracts.lease.DhcpV6Lease as lease_model;
+    ghost use Rattle.dhcp6_client.specs.State.{PlainState, plain_state};
+
+    ghost Value = { PlainState };
+
+    ghost coded = { Prim.hlevel (codes, lease_model.the_row.coded) };
+
+    ghost view = { λ reported. plain_state reported.state };
+}
+
+impl ReportedState {
+    /// Reports this state.
+    pub fn new(state: DhcpV6State) -> Self
+        ensures { result ≡ plain_state state }
+    {
+        ReportedState { state }
+    }
+
+    /// Reports a lease that is held, by a copy of it. Out of memory is the only error.
+    pub fn done(alloc: Global, lease: &DhcpV6Lease) -> Result<Self, DhcpError>
+        ensures { Makes (λ reported. reported) result (done lease.now) }
+    {
+        let copy = lease.try_clone(alloc)?;
+        Ok(ReportedState::new(DhcpV6State::Done(Box::new(alloc, copy)?)))
+    }
+
+    /// The state.
+    pub fn into_state(self) -> DhcpV6State
+        ensures { plain_state result ≡ self }
+    {
+        self.state
+    }
+}

@@ -1,0 +1,87 @@
+//! The clients that a manager runs.
+
+ghost use Rattle.std.specs.Prelude.{◌≡◌, IfOk, None, Some};
+ghost use Rattle.dhcp4_client.specs.Rules as rules4;
+ghost use Rattle.dhcp4_client.specs.declared.client_state.ClientState.TheVariants.{InitReboot};
+ghost use Rattle.dhcp6_client.specs.Rules as rules6;
+ghost use Rattle.dhcp6_client.specs.declared.client_state.ClientState.TheVariants.{Solicit};
+ghost use Rattle.uses.specs.Manager.{SleepsUntil};
+
+use super::ManagedClient;
+use dhcp_clock::{DhcpLink, Words};
+use dhcp_wire::DhcpError;
+use dhcp4_client::{DhcpV4Client, DhcpV4State};
+use dhcp4_lease::DhcpV4Config;
+use dhcp6_client::{DhcpV6Client, DhcpV6State};
+use dhcp6_msg::{DhcpV6Config, DhcpV6Mode};
+use std::alloc::Global;
+use std::net::Ipv6Addr;
+
+impl ManagedClient for DhcpV4Client {
+    type State = DhcpV4State;
+
+    ghost sleeps_until = { λ moment parts.
+        SleepsUntil (rules4.protocol parts.config) moment parts.client };
+
+    fn run<W: Words, L: DhcpLink>(
+        &mut self,
+        now: u64,
+        words: &mut W,
+        link: &mut L,
+    ) -> Result<Option<DhcpV4State>, DhcpError> {
+        DhcpV4Client::run(self, now, words, link)
+    }
+
+    fn next_poll(&self) -> Option<u64> {
+        DhcpV4Client::next_poll(self)
+    }
+}
+
+impl ManagedClient for DhcpV6Client {
+    type State = DhcpV6State;
+
+    ghost sleeps_until = { λ moment parts.
+        SleepsUntil (rules6.protocol parts.config) moment parts.client };
+
+    fn run<W: Words, L: DhcpLink>(
+        &mut self,
+        now: u64,
+        words: &mut W,
+        link: &mut L,
+    ) -> Result<Option<DhcpV6State>, DhcpError> {
+        DhcpV6Client::run(self, now, words, link)
+    }
+
+    fn next_poll(&self) -> Option<u64> {
+        DhcpV6Client::next_poll(self)
+    }
+}
+
+/// A client of IPv4 on `eth0`, the interface with index 3, that is known by its MAC address.
+pub fn new_client<W: Words>(alloc: Global, words: &mut W) -> Result<DhcpV4Client, DhcpError>
+    ensures { IfOk result (λ client. client.client.state ≡ InitReboot) }
+{
+    let mut config = DhcpV4Config::new(alloc, "eth0")?;
+    config.set_iface_index(3);
+    config
+        .set_iface_mac(alloc, "02:00:00:00:00:01")?
+        .use_mac_as_client_id(alloc)?;
+    DhcpV4Client::init(alloc, config, None, words)
+}
+
+/// A client of IPv6 on `eth0`, the interface with index 3, that sends from this link-local address
+/// and is known by the identifier of its MAC address.
+pub fn new_client6<W: Words>(
+    alloc: Global,
+    link_local: Ipv6Addr,
+    words: &mut W,
+) -> Result<DhcpV6Client, DhcpError>
+    ensures { IfOk result (λ client. client.client.state ≡ Solicit) }
+{
+    let mut config = DhcpV6Config::new(alloc, "eth0", DhcpV6Mode::NonTemporaryAddresses)?;
+    config
+        .set_iface_index(3)
+        .set_link_local_ip(link_local)
+        .set_src_mac([2, 0, 0, 0, 0, 1]);
+    DhcpV6Client::init(alloc, config, None, 0, words)
+}
