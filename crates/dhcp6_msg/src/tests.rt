@@ -4,9 +4,10 @@ mod configurations;
 mod leases;
 mod messages;
 
-use crate::{DhcpV6Config, DhcpV6Lease, DhcpV6Message, DhcpV6Mode};
-use dhcp_wire::{BufferMut, Bytes, DhcpError};
+use crate::{DhcpV6Config, DhcpV6Lease, DhcpV6Message, DhcpV6Mode, new_solicit_msg};
+use dhcp_wire::{BufferMut, Bytes, DhcpError, ErrorKind};
 use std::alloc::Global;
+use std::test::Fail;
 
 // The MAC address of every configuration.
 const MAC: [u8; 6] = [2, 0, 0, 0, 0, 1];
@@ -46,6 +47,21 @@ fn reply(alloc: Global) -> Result<Bytes, DhcpError> {
     joined(alloc, &[&REPLY, &CLIENT, &SERVER, &ASSOCIATION])
 }
 
+// The same, read.
+fn reply_message(alloc: Global) -> Result<DhcpV6Message, DhcpError> {
+    let payload = reply(alloc)?;
+    DhcpV6Message::parse(alloc, payload.as_slice())
+}
+
+// How an answer is refused, if it is; out of memory is an error of the test.
+fn refusal<T: Drop>(answer: Result<T, DhcpError>) -> Result<Option<ErrorKind>, Fail> {
+    match answer {
+        Ok(_answer) => Ok(None),
+        Err(error) if error.kind() == ErrorKind::OutOfMemory => Err(Fail::from(error)),
+        Err(error) => Ok(Some(error.kind())),
+    }
+}
+
 // The lease of a payload.
 fn lease_of(alloc: Global, payload: &[u8]) -> Result<DhcpV6Lease, DhcpError> {
     DhcpV6Lease::from_message(alloc, DhcpV6Message::parse(alloc, payload)?)
@@ -55,6 +71,14 @@ fn lease_of(alloc: Global, payload: &[u8]) -> Result<DhcpV6Lease, DhcpError> {
 fn plain_lease(alloc: Global) -> Result<DhcpV6Lease, DhcpError> {
     let payload = reply(alloc)?;
     lease_of(alloc, payload.as_slice())
+}
+
+// The bytes of the Solicit of a configuration.
+fn solicit_of(alloc: Global, config: &DhcpV6Config) -> Result<Bytes, Fail> {
+    if !config.is_within_limits() {
+        return Err(Fail::from("the configuration is outside its limits"));
+    }
+    Ok(new_solicit_msg(alloc, 0xabcdef, config, 0, 0)?.emit(alloc)?)
 }
 
 // A configuration that asks for an address and for name servers.

@@ -2,7 +2,8 @@
 
 mod identifiers;
 
-ghost use Rattle.std.specs.Prelude.{◌≡◌, ◌<◌};
+ghost use Rattle.std.specs.Prelude.{◌≡◌, ◌<◌, IsTrue};
+ghost use Rattle.dhcp6_opt.specs.Value.{fits};
 
 use super::*;
 use dhcp_wire::{Buffer, BufferMut, Bytes, DhcpError, ErrorKind, Text, TryClone};
@@ -37,20 +38,21 @@ fn equal_codes_hash_alike(rt: HostRuntime) {
 #[test]
 fn codes_are_printed_by_name(rt: HostRuntime) -> Result<(), Fail> {
     let alloc = rt.alloc();
-    let named = format!(in alloc; "{}", DhcpV6OptionCode::IAPD)?;
-    assert_eq!(rt; named.as_str(), "OPTION_IA_PD");
-    let number = format!(in alloc; "{}", DhcpV6OptionCode::Other(99))?;
-    assert_eq!(rt; number.as_str(), "Unknown(99)");
+    let (named, number) = (DhcpV6OptionCode::IAPD, DhcpV6OptionCode::Other(99));
+    assert_eq!(rt; format!(in alloc; "{named}")?.as_str(), "OPTION_IA_PD");
+    assert_eq!(rt; format!(in alloc; "{number}")?.as_str(), "Unknown(99)");
     Ok(())
 }
 
 #[test]
 fn status_codes_are_printed_by_name(rt: HostRuntime) -> Result<(), Fail> {
     let alloc = rt.alloc();
-    let named = format!(in alloc; "{}", DhcpV6OptionStatusCode::from(6))?;
-    assert_eq!(rt; named.as_str(), "no_prefix_avail");
-    let number = format!(in alloc; "{}", DhcpV6OptionStatusCode::from(7))?;
-    assert_eq!(rt; number.as_str(), "other(7)");
+    let (named, number) = (
+        DhcpV6OptionStatusCode::from(6),
+        DhcpV6OptionStatusCode::from(7),
+    );
+    assert_eq!(rt; format!(in alloc; "{named}")?.as_str(), "no_prefix_avail");
+    assert_eq!(rt; format!(in alloc; "{number}")?.as_str(), "other(7)");
     assert!(rt; u16::from(DhcpV6OptionStatusCode::NotOnLink) == 4);
     Ok(())
 }
@@ -65,10 +67,11 @@ fn status(alloc: Global, code: u16) -> Result<DhcpV6OptionStatus, DhcpError> {
 
 #[test]
 fn an_association_succeeds_by_its_address_and_statuses(rt: HostRuntime) -> Result<(), Fail> {
+    let refused = status(rt.alloc(), 3)?;
     let address = DhcpV6OptionIaAddr::new(Ipv6Addr::LOCALHOST, 1, 2);
     let mut ia = DhcpV6OptionIaNa::new(7, 3, 4, address);
     assert!(rt; ia.is_success());
-    ia.status = Some(status(rt.alloc(), 3)?);
+    ia.status = Some(refused);
     assert!(rt; !ia.is_success());
     assert!(rt; !DhcpV6OptionIaTa::empty(0).is_success());
     Ok(())
@@ -88,29 +91,41 @@ fn a_hint_is_a_prefix_zero_of_a_length(rt: HostRuntime) {
 }
 
 // Whether a copy of a value is equal to it.
-fn is_copied<T: TryClone + PartialEq>(alloc: Global, value: &T) -> Result<bool, DhcpError> {
-    Ok(value.try_clone(alloc)? == *value)
+fn is_copied<T: TryClone + PartialEq + Drop>(alloc: Global, value: T) -> Result<bool, DhcpError> {
+    Ok(value.try_clone(alloc)? == value)
 }
 
 #[test]
 fn copies_are_equal(rt: HostRuntime) -> Result<(), Fail> {
-    assert!(rt; is_copied(rt.alloc(), &DhcpV6OptionUnknown::empty(rt.alloc()))?);
-    assert!(rt; is_copied(rt.alloc(), &DhcpV6OptionIaTa::empty(0))?);
-    assert!(rt; is_copied(rt.alloc(), &status(rt.alloc(), 0)?)?);
-    assert!(rt; is_copied(rt.alloc(), &DhcpV6OptionIaPd::new_with_hint(60, 0))?);
-    assert!(rt; is_copied(rt.alloc(), &DhcpV6Options::parse(rt.alloc(), OPTIONS[4])?)?);
-    let option = DhcpV6Option::empty(rt.alloc());
-    assert!(rt; is_copied(rt.alloc(), &option)?);
-    assert!(rt; option.code() == DhcpV6OptionCode::Other(0));
+    let alloc = rt.alloc();
+    assert!(rt; is_copied(alloc, DhcpV6OptionUnknown::empty(alloc))?);
+    assert!(rt; is_copied(alloc, DhcpV6OptionIaTa::empty(0))?);
+    assert!(rt; is_copied(alloc, status(alloc, 0)?)?);
+    assert!(rt; is_copied(alloc, DhcpV6OptionIaPd::new_with_hint(60, 0))?);
+    assert!(rt; is_copied(alloc, DhcpV6Options::parse(alloc, OPTIONS[4])?)?);
+    assert!(rt; is_copied(alloc, DhcpV6Option::empty(alloc))?);
     Ok(())
+}
+
+#[test]
+fn an_empty_option_has_code_0(rt: HostRuntime) {
+    let option = DhcpV6Option::empty(rt.alloc());
+    assert!(rt; option.code() == DhcpV6OptionCode::Other(0));
+}
+
+// An option as it is written.
+fn option_bytes(alloc: Global, option: &DhcpV6Option) -> Result<Bytes, DhcpError>
+    requires { IsTrue (fits option.now) }
+{
+    let mut buf = BufferMut::new(alloc);
+    option.emit(&mut buf)?;
+    Ok(buf.into_bytes())
 }
 
 // The option at the front of some bytes as it is written.
 fn written_again(alloc: Global, bytes: &[u8]) -> Result<Bytes, DhcpError> {
     let option = DhcpV6Option::parse(alloc, &mut Buffer::new(bytes))?;
-    let mut buf = BufferMut::new(alloc);
-    option.emit(&mut buf)?;
-    Ok(buf.into_bytes())
+    option_bytes(alloc, &option)
 }
 
 // Options as they stand on the wire: a status without addresses, a server's and a client's
@@ -175,23 +190,8 @@ fn options_are_written_as_they_were_read(rt: HostRuntime) -> Result<(), Fail> {
 fn each_option_is_copied(rt: HostRuntime) -> Result<(), Fail> {
     for bytes in OPTIONS {
         let option = DhcpV6Option::parse(rt.alloc(), &mut Buffer::new(bytes))?;
-        assert!(rt; is_copied(rt.alloc(), &option)?);
+        assert!(rt; is_copied(rt.alloc(), option)?);
     }
-    Ok(())
-}
-
-#[test]
-fn a_hint_is_written_with_its_length(rt: HostRuntime) -> Result<(), Fail> {
-    let option = DhcpV6Option::IAPD(DhcpV6OptionIaPd::new_with_hint(60, 0));
-    let mut options = DhcpV6Options::new(rt.alloc());
-    assert!(rt; option.fits());
-    if option.fits() {
-        options.insert(option)?;
-    }
-    assert_eq!(rt;
-        list_bytes(rt.alloc(), &options)?.as_slice(),
-        HINT.as_slice()
-    );
     Ok(())
 }
 
@@ -200,6 +200,34 @@ fn list_bytes(alloc: Global, options: &DhcpV6Options) -> Result<Bytes, DhcpError
     let mut buf = BufferMut::new(alloc);
     options.emit(&mut buf)?;
     Ok(buf.into_bytes())
+}
+
+// A list of this option alone as it is written.
+fn list_of_one(alloc: Global, option: DhcpV6Option) -> Result<Bytes, DhcpError>
+    requires { IsTrue (fits option) }
+{
+    let mut options = DhcpV6Options::new(alloc);
+    options.insert(option)?;
+    list_bytes(alloc, &options)
+}
+
+// A list of bytes as it is written again.
+fn list_again(alloc: Global, bytes: &[u8]) -> Result<Bytes, DhcpError> {
+    let options = DhcpV6Options::parse(alloc, bytes)?;
+    list_bytes(alloc, &options)
+}
+
+#[test]
+fn a_hint_is_written_with_its_length(rt: HostRuntime) -> Result<(), Fail> {
+    let option = DhcpV6Option::IAPD(DhcpV6OptionIaPd::new_with_hint(60, 0));
+    assert!(rt; option.fits());
+    if option.fits() {
+        assert_eq!(rt;
+            list_of_one(rt.alloc(), option)?.as_slice(),
+            HINT.as_slice()
+        );
+    }
+    Ok(())
 }
 
 // Whether the first option of this code in a list of bytes is there.
@@ -307,38 +335,63 @@ fn removal_takes_all_of_a_code(rt: HostRuntime) -> Result<(), Fail> {
 #[test]
 fn a_list_is_written_by_rising_code(rt: HostRuntime) -> Result<(), Fail> {
     let bytes = [0, 23, 0, 0, 0, 7, 0, 1, 5, 0, 23, 0, 1, 9];
-    let options = DhcpV6Options::parse(rt.alloc(), &bytes)?;
     let sorted = [0, 7, 0, 1, 5, 0, 23, 0, 0, 0, 23, 0, 0];
     assert_eq!(rt;
-        list_bytes(rt.alloc(), &options)?.as_slice(),
+        list_again(rt.alloc(), &bytes)?.as_slice(),
         sorted.as_slice()
     );
     Ok(())
 }
 
+// How many options of a code are handed out as bytes, if there are any.
+fn count_raw(
+    alloc: Global,
+    options: &DhcpV6Options,
+    code: u16,
+) -> Result<Option<usize>, DhcpError> {
+    match options.get_data_raw(alloc, code)? {
+        Some(written) => Ok(Some(written.len())),
+        None => Ok(None),
+    }
+}
+
+// The same of a list of bytes.
+fn count_raw_in(alloc: Global, bytes: &[u8], code: u16) -> Result<Option<usize>, DhcpError> {
+    let options = DhcpV6Options::parse(alloc, bytes)?;
+    count_raw(alloc, &options, code)
+}
+
 #[test]
 fn the_options_of_a_code_are_handed_out_as_bytes(rt: HostRuntime) -> Result<(), Fail> {
-    let options = DhcpV6Options::parse(rt.alloc(), &[0, 7, 0, 1, 5, 0, 7, 0, 1, 6])?;
-    match options.get_data_raw(rt.alloc(), 7)? {
-        Some(written) => assert_eq!(rt; written.len(), 2),
-        None => assert!(rt; false, "there is none"),
-    }
-    assert!(rt; options.get_data_raw(rt.alloc(), 8)?.is_none());
+    let bytes = [0, 7, 0, 1, 5, 0, 7, 0, 1, 6];
+    assert!(rt; count_raw_in(rt.alloc(), &bytes, 7)? == Some(2));
+    assert!(rt; count_raw_in(rt.alloc(), &bytes, 8)?.is_none());
     Ok(())
 }
 
-// A domain list of one name without its zero byte: so many labels of 63 letters, and a last one.
-fn open_name(alloc: Global, len: u16, labels: u16, last: u8) -> Result<Bytes, DhcpError> {
-    let mut buf = BufferMut::new(alloc);
+// Writes a label of so many letters, at most 64.
+fn write_label(buf: &mut BufferMut, len: u8) -> Result<(), DhcpError> {
+    buf.write_u8(len)?;
+    buf.write_bytes(&[b'a'; 64][..usize::from(len.min(64))])
+}
+
+// Writes a domain list of one name without its zero byte: so many labels of 63 letters, and a last
+// one.
+fn write_open_name(buf: &mut BufferMut, len: u16, labels: u16, last: u8) -> Result<(), DhcpError> {
     buf.write_u16_be(24)?;
     buf.write_u16_be(len)?;
     for _ in 0..labels {
-        buf.write_u8(63)?;
-        buf.write_bytes(&[b'a'; 63])?;
+        write_label(buf, 63)?;
     }
-    buf.write_u8(last)?;
-    buf.write_bytes(&[b'a'; 64][..usize::from(last.min(64))])?;
-    Ok(buf.into_bytes())
+    write_label(buf, last)
+}
+
+// Whether the name of such a list is read.
+fn open_name_reads(alloc: Global, len: u16, labels: u16, last: u8) -> Result<bool, DhcpError> {
+    let mut buf = BufferMut::new(alloc);
+    write_open_name(&mut buf, len, labels, last)?;
+    let list = buf.into_bytes();
+    has_first(alloc, list.as_slice(), 24)
 }
 
 // Names of 65,472 bytes, of 65,535, which would be written in one more, and with a label of 64
@@ -352,8 +405,7 @@ const OPEN_NAMES: [(u16, u16, u8, bool); 3] = [
 #[test]
 fn a_name_reads_if_it_can_be_written_again(rt: HostRuntime) -> Result<(), Fail> {
     for (len, labels, last, reads) in OPEN_NAMES {
-        let list = open_name(rt.alloc(), len, labels, last)?;
-        assert!(rt; has_first(rt.alloc(), list.as_slice(), 24)? == reads);
+        assert!(rt; open_name_reads(rt.alloc(), len, labels, last)? == reads);
     }
     Ok(())
 }

@@ -10,6 +10,7 @@ use Rattle.dhcp_history.specs.History.{Stay}
 use Rattle.dhcp_history.specs.declared.script.Event.{Event as LifeEvent}
 use Rattle.dhcp_history.specs.declared.script.Input.{Input}
 use Rattle.dhcp_history.specs.declared.script.Input.TheVariants as inputs
+use Rattle.dhcp_history.proofs.HistoryLemmas as kept
 use Rattle.dhcp4_lease.specs.Config.{Config}
 use Rattle.dhcp4_lease.specs.Lease.{Lease}
 use Rattle.dhcp4_client.specs.Answer.{awaited, message_for, reading_of}
@@ -24,7 +25,6 @@ use Rattle.dhcp4_client.specs.declared.client_state.Exchange.{Exchange}
 use Rattle.dhcp_script.specs.declared.event.Event.{Event}
 use Rattle.dhcp_replay.specs.Promises.{HasBasis, IsReadFrom, NamesItsBasis}
 use Rattle.dhcp_replay.specs.Replayed4.{history4, life_of, numbered}
-use Rattle.dhcp_replay.proofs.HistoryLemmas as kept
 
 module _ (config : Config) (before : Option Lease) (events : List (LifeEvent Packet)) (xid : ℕ) where
   abbrev Comes : Packet → Type 0

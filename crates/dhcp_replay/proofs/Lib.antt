@@ -1,5 +1,4 @@
 pub mod BasisLemmas
-pub mod HistoryLemmas
 pub mod LifeLemmas
 pub mod PromiseLemmas
 pub mod ReplayLemmas

@@ -10,10 +10,9 @@ ghost use Rattle.dhcp_wire.specs.Error.{no_memory};
 ghost use Rattle.dhcp_history.specs.Errors.{timed_out};
 
 pub use clients::{new_client, new_client6};
-pub use interface::Interface;
-
 use dhcp_clock::{DhcpLink, Words};
 use dhcp_wire::DhcpError;
+pub use interface::Interface;
 
 /// A client of either family, as its manager runs it.
 pub trait ManagedClient {

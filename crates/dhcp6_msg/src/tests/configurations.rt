@@ -1,38 +1,48 @@
 //! Configurations.
 
-ghost use Rattle.std.specs.Prelude.{IsTrue};
-
-use super::MAC;
-use crate::{DhcpV6Config, new_solicit_msg};
+use super::{ELAPSED, MAC, joined, solicit_of};
+use crate::DhcpV6Config;
 use dhcp_clock::{WordList, Words};
 use dhcp_wire::{BufferMut, Bytes, DhcpError};
 use dhcp6_opt::DhcpV6Duid;
 use std::alloc::Global;
 use std::test::Fail;
 
-// How the option request option of a configuration is written.
-fn requests(alloc: Global, config: &DhcpV6Config) -> Result<Vec<u8>, Fail> {
-    if !config.is_within_limits() {
-        return Err(Fail::from("the configuration is outside its limits"));
-    }
-    let message = new_solicit_msg(alloc, 0, config, 0, 0)?;
-    let written = message
-        .options
-        .get_data_raw(alloc, 6)?
-        .ok_or("no option 6")?;
-    let first = written.first().ok_or("no option 6")?;
-    Ok(Vec::from_slice(alloc, first.as_slice())?)
+// A configuration that asks for these codes alone.
+fn asking_alone(alloc: Global, codes: &[u16]) -> Result<DhcpV6Config, DhcpError> {
+    let mut config = DhcpV6Config::empty(alloc)?;
+    config.override_request_dhcp_opts(alloc, codes)?;
+    Ok(config)
 }
 
-// How it is written when these are asked for, alone or too.
-fn requests_of(alloc: Global, extra: &[u16], alone: bool) -> Result<Vec<u8>, Fail> {
+// A configuration that asks for these codes too.
+fn asking_too(alloc: Global, codes: &[u16]) -> Result<DhcpV6Config, DhcpError> {
     let mut config = DhcpV6Config::empty(alloc)?;
+    config.request_extra_dhcp_opts(alloc, codes)?;
+    Ok(config)
+}
+
+// A configuration that asks for these codes, alone or too.
+fn asking(alloc: Global, codes: &[u16], alone: bool) -> Result<DhcpV6Config, DhcpError> {
     if alone {
-        config.override_request_dhcp_opts(alloc, extra)?;
+        asking_alone(alloc, codes)
     } else {
-        config.request_extra_dhcp_opts(alloc, extra)?;
+        asking_too(alloc, codes)
     }
-    requests(alloc, &config)
+}
+
+// Whether the option request option of such a configuration is written so.
+fn is_asked(alloc: Global, codes: &[u16], alone: bool, requests: &[u8]) -> Result<bool, Fail> {
+    let config = asking(alloc, codes, alone)?;
+    asks_for(alloc, &config, requests)
+}
+
+// Whether that of this configuration, which has no identifier, is written so.
+fn asks_for(alloc: Global, config: &DhcpV6Config, requests: &[u8]) -> Result<bool, Fail> {
+    let head = [1, 0xab, 0xcd, 0xef, 0, 1, 0, 0];
+    let association = [0, 3, 0, 12, 0, 0, 0, 0, 0, 0, 0, 0, 0, 0, 0, 0];
+    let wanted = joined(alloc, &[&head, &association, requests, &ELAPSED])?;
+    Ok(solicit_of(alloc, config)? == wanted)
 }
 
 #[test]
@@ -46,9 +56,8 @@ fn codes_are_asked_for_in_rising_order_each_once(rt: HostRuntime) -> Result<(), 
         ),
         (&[24, 23, 24], true, &[0, 6, 0, 4, 0, 23, 0, 24]),
     ];
-    for (extra, alone, wanted) in cases {
-        let written = requests_of(rt.alloc(), extra, alone)?;
-        assert!(rt; written.as_slice() == wanted);
+    for (codes, alone, requests) in cases {
+        assert!(rt; is_asked(rt.alloc(), codes, alone, requests)?);
     }
     Ok(())
 }
@@ -60,14 +69,34 @@ fn bytes_of(alloc: Global, duid: &DhcpV6Duid) -> Result<Bytes, DhcpError> {
     Ok(buf.into_bytes())
 }
 
-// The bytes of the identifier that is made, of this MAC address if there is one.
-fn made(alloc: Global, mac: Option<[u8; 6]>, words: &mut WordList) -> Result<Bytes, Fail> {
+// A configuration of this MAC address, if there is one.
+fn of_mac(alloc: Global, mac: Option<[u8; 6]>) -> Result<DhcpV6Config, DhcpError> {
     let mut config = DhcpV6Config::empty(alloc)?;
     if let Some(mac) = mac {
         config.set_src_mac(mac);
     }
+    Ok(config)
+}
+
+// The bytes of the identifier of a configuration, which is made if there is none.
+fn made(
+    alloc: Global,
+    config: &mut DhcpV6Config,
+    words: &mut WordList,
+) -> Result<Bytes, DhcpError> {
     let duid = config.get_duid_or_init(alloc, words)?;
-    Ok(bytes_of(alloc, duid)?)
+    bytes_of(alloc, duid)
+}
+
+// Whether the identifier that is made, of this MAC address if there is one, has these bytes.
+fn is_made(
+    alloc: Global,
+    mac: Option<[u8; 6]>,
+    words: &mut WordList,
+    wanted: &[u8],
+) -> Result<bool, DhcpError> {
+    let mut config = of_mac(alloc, mac)?;
+    Ok(made(alloc, &mut config, words)?.as_slice() == wanted)
 }
 
 // Four random words and one more.
@@ -77,35 +106,46 @@ fn words(alloc: Global) -> Result<WordList, Fail> {
 
 #[test]
 fn an_identifier_is_made_of_the_mac_address(rt: HostRuntime) -> Result<(), Fail> {
-    let alloc = rt.alloc();
-    let mut words = words(alloc)?;
-    let made = made(alloc, Some(MAC), &mut words)?;
-    assert!(rt; made.as_slice() == [0, 3, 0, 1, 2, 0, 0, 0, 0, 1].as_slice());
-    assert_eq!(rt; words.next_word(), 1);
+    let mut words = words(rt.alloc())?;
+    let wanted = [0, 3, 0, 1, 2, 0, 0, 0, 0, 1];
+    assert!(rt; is_made(rt.alloc(), Some(MAC), &mut words, &wanted)?);
+    assert!(rt; words.next_word() == 1);
     Ok(())
 }
 
 #[test]
 fn an_identifier_is_made_at_random_without_one(rt: HostRuntime) -> Result<(), Fail> {
-    let alloc = rt.alloc();
-    let mut words = words(alloc)?;
-    let made = made(alloc, None, &mut words)?;
+    let mut words = words(rt.alloc())?;
     let wanted = [0, 255, 0, 1, 0, 0, 0, 2, 0, 0, 0, 3, 0, 0, 0, 4];
-    assert!(rt; made.as_slice() == wanted.as_slice());
-    assert_eq!(rt; words.next_word(), 77);
+    assert!(rt; is_made(rt.alloc(), None, &mut words, &wanted)?);
+    assert!(rt; words.next_word() == 77);
     Ok(())
+}
+
+// A configuration whose identifier is set to that of the MAC address.
+fn identified(alloc: Global) -> Result<DhcpV6Config, DhcpError> {
+    let mut config = DhcpV6Config::empty(alloc)?;
+    config.set_duid_by_iface_mac(alloc, &MAC)?;
+    Ok(config)
+}
+
+// Whether the identifier of a configuration has these bytes when one was to be made.
+fn stays(
+    alloc: Global,
+    config: &mut DhcpV6Config,
+    words: &mut WordList,
+    wanted: &[u8],
+) -> Result<bool, DhcpError> {
+    config.init_duid(alloc, words)?;
+    Ok(bytes_of(alloc, &config.duid)?.as_slice() == wanted)
 }
 
 #[test]
 fn an_identifier_that_is_set_stays(rt: HostRuntime) -> Result<(), Fail> {
-    let alloc = rt.alloc();
-    let mut config = DhcpV6Config::empty(alloc)?;
-    config.set_duid_by_iface_mac(alloc, &MAC)?;
-    let mut words = words(alloc)?;
-    config.init_duid(alloc, &mut words)?;
-    assert_eq!(rt; words.next_word(), 1);
-    let set = bytes_of(alloc, &config.duid)?;
-    assert!(rt; set.as_slice() == [0, 3, 0, 1, 2, 0, 0, 0, 0, 1].as_slice());
+    let mut words = words(rt.alloc())?;
+    let mut config = identified(rt.alloc())?;
+    let wanted = [0, 3, 0, 1, 2, 0, 0, 0, 0, 1];
+    assert!(rt; stays(rt.alloc(), &mut config, &mut words, &wanted)? && words.next_word() == 1);
     Ok(())
 }
 
@@ -113,8 +153,9 @@ fn an_identifier_that_is_set_stays(rt: HostRuntime) -> Result<(), Fail> {
 fn numbers_and_addresses_are_set_in_a_chain(rt: HostRuntime) -> Result<(), Fail> {
     let mut config = DhcpV6Config::empty(rt.alloc())?;
     config.set_iface_index(3).set_timeout_sec(60);
-    assert_eq!(rt; (config.iface_index, config.timeout_sec), (3, 60));
-    assert!(rt; config.src_ip.is_unspecified());
+    assert!(rt;
+        config.iface_index == 3 && config.timeout_sec == 60 && config.src_ip.is_unspecified()
+    );
     Ok(())
 }
 

@@ -1,19 +1,22 @@
 //! Leases, as they are read from messages.
 
-use super::{ASSOCIATION, CLIENT, REPLY, SERVER, joined, lease_of, plain_lease, reply};
+use super::{
+    ASSOCIATION, CLIENT, REPLY, SERVER, joined, lease_of, plain_lease, refusal, reply,
+    reply_message,
+};
 use crate::{DhcpV6IaType, DhcpV6Lease, DhcpV6Message};
-use dhcp_wire::ErrorKind;
+use dhcp_wire::{DhcpError, ErrorKind};
 use std::alloc::Global;
 use std::test::Fail;
 
 // The bytes of the address that the plain Reply grants.
 const ADDRESS: [u8; 16] = [0x20, 1, 0x0d, 0xb8, 0, 0, 0, 0, 0, 0, 0, 0, 0, 0, 0, 0x10];
 
-// The lease of a Reply with these options.
-fn lease(alloc: Global, options: &[&[u8]]) -> Result<DhcpV6Lease, Fail> {
-    let payload = joined(alloc, options)?;
-    let bytes = joined(alloc, &[&REPLY, payload.as_slice()])?;
-    Ok(lease_of(alloc, bytes.as_slice())?)
+// The lease of a Reply with four pieces of options.
+fn lease(alloc: Global, options: [&[u8]; 4]) -> Result<DhcpV6Lease, DhcpError> {
+    let [first, second, third, fourth] = options;
+    let payload = joined(alloc, &[&REPLY, first, second, third, fourth])?;
+    lease_of(alloc, payload.as_slice())
 }
 
 // T1, T2 and the two lifetimes of a lease.
@@ -36,30 +39,14 @@ fn a_reply_grants_its_address_and_times(rt: HostRuntime) -> Result<(), Fail> {
     Ok(())
 }
 
-// How a Reply with these options gives no lease, if it gives none.
-fn refusal(alloc: Global, options: &[&[u8]]) -> Result<Option<ErrorKind>, Fail> {
-    let payload = joined(alloc, options)?;
-    let bytes = joined(alloc, &[&REPLY, payload.as_slice()])?;
-    kind_of(alloc, bytes.as_slice())
-}
-
-// How a payload gives no lease, if it gives none.
-fn kind_of(alloc: Global, payload: &[u8]) -> Result<Option<ErrorKind>, Fail> {
-    match lease_of(alloc, payload) {
-        Ok(_lease) => Ok(None),
-        Err(error) if error.kind() == ErrorKind::OutOfMemory => Err(Fail::from(error)),
-        Err(error) => Ok(Some(error.kind())),
-    }
-}
-
 // An IA_NA of 2001:db8::10 with these times: T1, T2, preferred and valid, below 256 each.
-fn association(alloc: Global, times: [u8; 4]) -> Result<DhcpV6Lease, Fail> {
+fn association(alloc: Global, times: [u8; 4]) -> Result<DhcpV6Lease, DhcpError> {
     let [t1, t2, preferred, valid] = times;
     let ia = [
         0, 3, 0, 40, 0, 0, 0, 9, 0, 0, 0, t1, 0, 0, 0, t2, 0, 5, 0, 24,
     ];
     let times = [0, 0, 0, preferred, 0, 0, 0, valid];
-    lease(alloc, &[&SERVER, &ia, &ADDRESS, &times])
+    lease(alloc, [&SERVER, &ia, &ADDRESS, &times])
 }
 
 #[test]
@@ -93,15 +80,15 @@ fn a_message_without_server_status_or_order_gives_no_lease(rt: HostRuntime) -> R
         ([&SERVER, &late_t1, rest, &[]], invalid),
     ];
     for (options, wanted) in cases {
-        assert!(rt; refusal(rt.alloc(), &options)? == wanted);
+        assert!(rt; refusal(lease(rt.alloc(), options))? == wanted);
     }
     Ok(())
 }
 
 // The lease of the plain Reply with an IA_PD that has failed.
-fn lease_with_failed_prefix(alloc: Global) -> Result<DhcpV6Lease, Fail> {
+fn lease_with_failed_prefix(alloc: Global) -> Result<DhcpV6Lease, DhcpError> {
     let failed = [0, 25, 0, 12, 0xc1, 0xdb, 0x20, 0x5c, 0, 0, 0, 0, 0, 0, 0, 0];
-    lease(alloc, &[&CLIENT, &SERVER, &ASSOCIATION, &failed])
+    lease(alloc, [&CLIENT, &SERVER, &ASSOCIATION, &failed])
 }
 
 #[test]
@@ -115,31 +102,44 @@ fn a_failed_association_gives_its_type_alone(rt: HostRuntime) -> Result<(), Fail
 #[test]
 fn a_lease_keeps_the_options_of_its_message(rt: HostRuntime) -> Result<(), Fail> {
     let lease = lease_with_failed_prefix(rt.alloc())?;
-    assert!(rt; lease.get_option_raw(rt.alloc(), 23)?.is_none());
-    let servers = lease.get_option_raw(rt.alloc(), 2)?.ok_or("no server")?;
-    assert_eq!(rt; servers.len(), 1);
-    let first = servers.first().ok_or("no server")?;
-    assert!(rt; first.as_slice() == SERVER.as_slice());
+    assert!(rt; written(rt.alloc(), &lease, 23, &[])?);
+    assert!(rt; written(rt.alloc(), &lease, 2, &[&SERVER])?);
     Ok(())
+}
+
+// Whether the options of this code are written so; none if there is no such option.
+fn written(alloc: Global, lease: &DhcpV6Lease, code: u16, wanted: &[&[u8]]) -> Result<bool, Fail> {
+    match lease.get_option_raw(alloc, code)? {
+        Some(written) => Ok(are_equal(written.as_slice(), wanted)),
+        None => Ok(wanted.is_empty()),
+    }
+}
+
+// Whether some bytes are these, and there are some.
+fn are_equal(written: &[Vec<u8>], wanted: &[&[u8]]) -> bool {
+    match (written, wanted) {
+        ([written], [wanted]) => written.as_slice() == *wanted,
+        _ => false,
+    }
 }
 
 #[test]
 fn temporary_addresses_and_prefixes_have_their_terms(rt: HostRuntime) -> Result<(), Fail> {
     let temporary = [0, 4, 0, 32, 0, 0, 0, 5, 0, 5, 0, 24];
     let lifetimes = [0, 0, 0, 1, 0, 0, 0, 2];
-    let lease = lease(rt.alloc(), &[&SERVER, &temporary, &ADDRESS, &lifetimes])?;
+    let lease = lease(rt.alloc(), [&SERVER, &temporary, &ADDRESS, &lifetimes])?;
     assert_eq!(rt; times(&lease), (0, 0, 86400, 604800));
     assert!(rt; lease.iaid == 5 && lease.prefix_len == 128);
     Ok(())
 }
 
 // The lease of a Reply with an IA_PD of 56 bits.
-fn prefix_lease(alloc: Global) -> Result<DhcpV6Lease, Fail> {
+fn prefix_lease(alloc: Global) -> Result<DhcpV6Lease, DhcpError> {
     let ia = [
         0, 25, 0, 41, 0, 0, 0, 6, 0, 0, 0, 0, 0, 0, 0, 0, 0, 26, 0, 25,
     ];
     let times = [0, 0, 0, 100, 0, 0, 0, 200, 56];
-    lease(alloc, &[&SERVER, &ia, &times, &ADDRESS])
+    lease(alloc, [&SERVER, &ia, &times, &ADDRESS])
 }
 
 #[test]
@@ -157,14 +157,13 @@ fn prefixes_of_a_reply_give_no_lease(rt: HostRuntime) -> Result<(), Fail> {
     let payload = reply(alloc)?;
     for len in 0..payload.len() {
         let part = &payload.as_slice()[..len];
+        let invalid = Some(ErrorKind::InvalidDhcpMessage);
+        let unread = if len < 4 { invalid } else { None };
         assert!(rt;
-            kind_of(alloc, part)? == Some(ErrorKind::InvalidDhcpMessage),
+            refusal(DhcpV6Message::parse(alloc, part))? == unread,
             "{len}"
         );
-        assert!(rt;
-            DhcpV6Message::parse(alloc, part).is_ok() == (len >= 4),
-            "{len}"
-        );
+        assert!(rt; refusal(lease_of(alloc, part))? == invalid, "{len}");
     }
     Ok(())
 }
@@ -174,14 +173,17 @@ fn a_lease_is_equal_to_its_copy_and_to_that_of_a_message_that_stays(
     rt: HostRuntime,
 ) -> Result<(), Fail> {
     let lease = plain_lease(rt.alloc())?;
-    assert!(rt; lease.try_clone(rt.alloc())? == lease);
-    assert!(rt; is_read_again(rt.alloc(), &lease)?);
+    assert!(rt; is_copied(rt.alloc(), &lease)? && is_read_again(rt.alloc(), &lease)?);
     Ok(())
 }
 
+// Whether a lease equals its copy.
+fn is_copied(alloc: Global, lease: &DhcpV6Lease) -> Result<bool, DhcpError> {
+    Ok(lease.try_clone(alloc)? == *lease)
+}
+
 // Whether a lease is that of the plain Reply, which stays.
-fn is_read_again(alloc: Global, lease: &DhcpV6Lease) -> Result<bool, Fail> {
-    let payload = reply(alloc)?;
-    let message = DhcpV6Message::parse(alloc, payload.as_slice())?;
+fn is_read_again(alloc: Global, lease: &DhcpV6Lease) -> Result<bool, DhcpError> {
+    let message = reply_message(alloc)?;
     Ok(DhcpV6Lease::new_from_msg(alloc, &message)? == *lease)
 }

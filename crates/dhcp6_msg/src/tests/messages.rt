@@ -5,8 +5,10 @@ ghost use Rattle.dhcp6_opt.specs.Duid.{written_duid};
 ghost use Rattle.dhcp6_msg.specs.Config.{is_within_limits};
 
 use super::{
-    ASSOCIATION, CLIENT, ELAPSED, REQUESTS, SERVER, joined, plain_config, plain_lease, reply,
+    ASSOCIATION, CLIENT, ELAPSED, MAC, REQUESTS, SERVER, joined, plain_config, plain_lease,
+    refusal, reply, reply_message, solicit_of,
 };
+use crate::config::ethernet_duid;
 use crate::{
     DhcpV6Config, DhcpV6Lease, DhcpV6Message, DhcpV6MessageType, DhcpV6Mode, DhcpV6View,
     new_rebind_msg, new_release_msg, new_renew_msg, new_request_msg, new_solicit_msg,
@@ -16,7 +18,7 @@ use dhcp6_opt::DhcpV6OptionCode;
 use std::alloc::Global;
 use std::test::Fail;
 
-// The five messages, and the Solicit of another mode.
+// The five messages.
 #[derive(Clone, Copy)]
 enum Sent {
     Solicit,
@@ -58,11 +60,22 @@ fn bytes_of(
     Ok(message(alloc, config, lease, sent)?.emit(alloc)?)
 }
 
-// The bytes of one of the five messages, of the plain configuration and lease.
-fn plain_bytes(alloc: Global, sent: Sent) -> Result<Bytes, Fail> {
+// The same, of the plain lease.
+fn bytes_of_lease(alloc: Global, config: &DhcpV6Config, sent: Sent) -> Result<Bytes, Fail> {
     let lease = plain_lease(alloc)?;
+    bytes_of(alloc, config, &lease, sent)
+}
+
+// The same, of the plain configuration too.
+fn plain_bytes(alloc: Global, sent: Sent) -> Result<Bytes, Fail> {
     let config = plain_config(alloc)?;
-    bytes_of(alloc, &config, &lease, sent)
+    bytes_of_lease(alloc, &config, sent)
+}
+
+// Whether one of the five messages has these bytes.
+fn is_written(alloc: Global, sent: Sent, parts: &[&[u8]]) -> Result<bool, Fail> {
+    let wanted = joined(alloc, parts)?;
+    Ok(plain_bytes(alloc, sent)? == wanted)
 }
 
 #[test]
@@ -120,56 +133,66 @@ fn each_message_is_its_row_byte_by_byte(rt: HostRuntime) -> Result<(), Fail> {
         ),
     ];
     for (sent, parts) in cases {
-        assert!(rt; plain_bytes(alloc, sent)? == joined(alloc, &parts)?);
+        assert!(rt; is_written(alloc, sent, &parts)?);
     }
     Ok(())
 }
 
-// The bytes of a Solicit of this mode.
+// The bytes of the Solicit of this mode.
 fn solicit(alloc: Global, mode: DhcpV6Mode) -> Result<Bytes, Fail> {
     let mut config = plain_config(alloc)?;
     config.mode = mode;
-    let lease = DhcpV6Lease::empty(alloc);
-    bytes_of(alloc, &config, &lease, Sent::Solicit)
+    solicit_of(alloc, &config)
+}
+
+// Whether the Solicit of this mode has these bytes after its head.
+fn is_solicit(alloc: Global, mode: DhcpV6Mode, options: [&[u8]; 5]) -> Result<bool, Fail> {
+    let [first, second, third, fourth, fifth] = options;
+    let head = [1, 0xab, 0xcd, 0xef];
+    let wanted = joined(alloc, &[&head, first, second, third, fourth, fifth])?;
+    Ok(solicit(alloc, mode)? == wanted)
 }
 
 #[test]
 fn a_solicit_asks_for_what_its_mode_says(rt: HostRuntime) -> Result<(), Fail> {
-    let alloc = rt.alloc();
-    let head = [1, 0xab, 0xcd, 0xef];
     let temporary = [0, 4, 0, 4, 0, 0, 0, 0];
     let hint = [
         0, 25, 0, 41, 0, 0, 0, 0, 0, 0, 0, 0, 0, 0, 0, 0, 0, 26, 0, 25, 0, 0, 0, 0, 0, 0, 0, 0, 60,
     ];
-    let wanted = joined(alloc, &[&head, &CLIENT, &temporary, &REQUESTS, &ELAPSED])?;
-    assert!(rt; solicit(alloc, DhcpV6Mode::TemporaryAddresses)? == wanted);
-    let wanted = joined(
-        alloc,
-        &[&head, &CLIENT, &REQUESTS, &ELAPSED, &hint, &[0; 16]],
-    )?;
-    assert!(rt; solicit(alloc, DhcpV6Mode::PrefixDelegation(60))? == wanted);
+    let cases: [(DhcpV6Mode, [&[u8]; 5]); 2] = [
+        (
+            DhcpV6Mode::TemporaryAddresses,
+            [&CLIENT, &temporary, &REQUESTS, &ELAPSED, &[]],
+        ),
+        (
+            DhcpV6Mode::PrefixDelegation(60),
+            [&CLIENT, &REQUESTS, &ELAPSED, &hint, &[0; 16]],
+        ),
+    ];
+    for (mode, options) in cases {
+        assert!(rt; is_solicit(rt.alloc(), mode, options)?);
+    }
     Ok(())
 }
 
-// The bytes of a message after so many milliseconds.
-fn tried_for(alloc: Global, elapsed_ms: u64) -> Result<Bytes, Fail> {
-    let config = plain_config(alloc)?;
-    if config.duid.written_len() > 65535 {
+// A message after so many milliseconds.
+fn message_after(alloc: Global, elapsed_ms: u64) -> Result<DhcpV6Message, Fail> {
+    let duid = ethernet_duid(alloc, &MAC)?;
+    if duid.written_len() > 65535 {
         return Err(Fail::from("the identifier is too long"));
     }
-    let message = DhcpV6Message::new(
-        alloc,
-        DhcpV6MessageType::Solicit,
-        7,
-        &config.duid,
-        elapsed_ms,
-    )?;
-    Ok(message.emit(alloc)?)
+    let kind = DhcpV6MessageType::Solicit;
+    Ok(DhcpV6Message::new(alloc, kind, 7, &duid, elapsed_ms)?)
+}
+
+// Whether the time of a message after so many milliseconds is written so.
+fn is_time(alloc: Global, elapsed_ms: u64, written: &[u8]) -> Result<bool, Fail> {
+    let wanted = joined(alloc, &[&[1, 0, 0, 7], &CLIENT, &[0, 8, 0, 2], written])?;
+    Ok(message_after(alloc, elapsed_ms)?.emit(alloc)? == wanted)
 }
 
 #[test]
 fn a_long_time_is_written_as_the_greatest(rt: HostRuntime) -> Result<(), Fail> {
-    let alloc = rt.alloc();
     let cases: [(u64, [u8; 2]); 4] = [
         (655_349, [0xff, 0xfe]),
         (655_350, [0xff, 0xff]),
@@ -177,8 +200,7 @@ fn a_long_time_is_written_as_the_greatest(rt: HostRuntime) -> Result<(), Fail> {
         (u64::MAX, [0xff, 0xff]),
     ];
     for (elapsed_ms, written) in cases {
-        let wanted = joined(alloc, &[&[1, 0, 0, 7], &CLIENT, &[0, 8, 0, 2], &written])?;
-        assert!(rt; tried_for(alloc, elapsed_ms)? == wanted);
+        assert!(rt; is_time(rt.alloc(), elapsed_ms, &written)?);
     }
     Ok(())
 }
@@ -191,39 +213,35 @@ fn has(message: &DhcpV6Message, code: u16) -> bool {
         .is_some()
 }
 
+// Whether a view copies a client, a server, an association, and all bytes of its payload.
+fn is_copied(alloc: Global, view: &DhcpV6View, payload: &Bytes) -> Result<bool, Fail> {
+    let message = view.to_message(alloc)?;
+    let has_all = has(&message, 1) && has(&message, 2) && has(&message, 3);
+    Ok(has_all && message.emit(alloc)? == *payload)
+}
+
 #[test]
 fn a_view_shows_type_and_id_and_copies_three_options(rt: HostRuntime) -> Result<(), Fail> {
-    let alloc = rt.alloc();
-    let payload = reply(alloc)?;
+    let payload = reply(rt.alloc())?;
     let view = DhcpV6View::new(payload.as_slice()).ok_or("no message")?;
-    assert!(rt; view.msg_type() == DhcpV6MessageType::Reply);
-    assert_eq!(rt; view.xid(), 0);
-    let message = view.to_message(alloc)?;
-    assert!(rt; has(&message, 1) && has(&message, 2) && has(&message, 3));
-    assert!(rt; message.emit(alloc)? == payload);
+    assert!(rt; view.msg_type() == DhcpV6MessageType::Reply && view.xid() == 0);
+    assert!(rt; is_copied(rt.alloc(), &view, &payload)?);
     Ok(())
+}
+
+// A Reply whose first option says that it is longer than the message.
+fn truncated(alloc: Global) -> Result<DhcpV6Message, DhcpError> {
+    let head = [7, 1, 2, 3, 0, 1, 1, 0, 0, 3];
+    let payload = joined(alloc, &[&head, &SERVER, &ASSOCIATION])?;
+    DhcpV6Message::parse(alloc, payload.as_slice())
 }
 
 #[test]
 fn a_truncated_option_ends_the_reading(rt: HostRuntime) -> Result<(), Fail> {
-    let alloc = rt.alloc();
-    let payload = joined(
-        alloc,
-        &[&[7, 1, 2, 3, 0, 1, 1, 0, 0, 3], &SERVER, &ASSOCIATION],
-    )?;
-    let message = DhcpV6Message::parse(alloc, payload.as_slice())?;
-    assert_eq!(rt; message.xid(), 0x010203);
+    let message = truncated(rt.alloc())?;
+    assert!(rt; message.xid() == 0x010203);
     assert!(rt; !has(&message, 1) && !has(&message, 2) && !has(&message, 3));
     Ok(())
-}
-
-// How a payload is refused, if it is.
-fn refusal(alloc: Global, payload: &[u8]) -> Result<Option<ErrorKind>, Fail> {
-    match DhcpV6Message::parse(alloc, payload) {
-        Ok(_message) => Ok(None),
-        Err(error) if error.kind() == ErrorKind::OutOfMemory => Err(Fail::from(error)),
-        Err(error) => Ok(Some(error.kind())),
-    }
 }
 
 #[test]
@@ -238,33 +256,37 @@ fn a_payload_is_refused_by_its_length_and_its_type(rt: HostRuntime) -> Result<()
         (&[13, 0, 0, 0], None),
     ];
     for (payload, wanted) in cases {
-        assert!(rt; refusal(rt.alloc(), payload)? == wanted);
+        assert!(rt; refusal(DhcpV6Message::parse(rt.alloc(), payload))? == wanted);
     }
     Ok(())
 }
 
-// The message of the plain lease, of which the server and the association are taken over.
-fn loaded(alloc: Global) -> Result<Bytes, Fail> {
-    let lease = plain_lease(alloc)?;
+// The bytes of a Request that takes over the server and the association of a lease.
+fn loaded(alloc: Global, lease: &DhcpV6Lease) -> Result<Bytes, Fail> {
     if lease.srv_duid.written_len() > 65535 {
         return Err(Fail::from("the identifier is too long"));
     }
     let mut message = DhcpV6Message::parse(alloc, &[3, 0, 0, 9])?;
-    message.load_lease(alloc, &lease)?;
+    message.load_lease(alloc, lease)?;
     Ok(message.emit(alloc)?)
+}
+
+// The same of the plain lease.
+fn plain_loaded(alloc: Global) -> Result<Bytes, Fail> {
+    let lease = plain_lease(alloc)?;
+    loaded(alloc, &lease)
 }
 
 #[test]
 fn a_message_takes_over_server_and_association(rt: HostRuntime) -> Result<(), Fail> {
     let wanted = joined(rt.alloc(), &[&[3, 0, 0, 9], &SERVER, &ASSOCIATION])?;
-    assert!(rt; loaded(rt.alloc())? == wanted);
+    assert!(rt; plain_loaded(rt.alloc())? == wanted);
     Ok(())
 }
 
 #[test]
 fn a_copy_of_a_message_is_equal(rt: HostRuntime) -> Result<(), Fail> {
-    let payload = reply(rt.alloc())?;
-    let message = DhcpV6Message::parse(rt.alloc(), payload.as_slice())?;
+    let message = reply_message(rt.alloc())?;
     assert!(rt; message.try_clone(rt.alloc())? == message);
     Ok(())
 }

@@ -9,7 +9,7 @@ use std::process::Abort;
 use std::test::Fail;
 
 // The bytes of an identifier.
-fn bytes_of(alloc: Global, duid: &DhcpV6Duid) -> Result<Bytes, DhcpError> {
+fn bytes_of(alloc: Global, duid: DhcpV6Duid) -> Result<Bytes, DhcpError> {
     let mut buf = BufferMut::new(alloc);
     duid.emit(&mut buf)?;
     Ok(buf.into_bytes())
@@ -37,8 +37,16 @@ fn identifiers_are_written_as_they_were_read(rt: HostRuntime) -> Result<(), Fail
         let duid = DhcpV6Duid::parse(rt.alloc(), bytes)?;
         assert!(rt; matches!(duid, DhcpV6Duid::Raw(_)) != has_name);
         assert_eq!(rt; duid.written_len(), bytes.len());
-        assert_eq!(rt; bytes_of(rt.alloc(), &duid)?.as_slice(), bytes);
-        assert!(rt; is_copied(rt.alloc(), &duid)?);
+        assert_eq!(rt; bytes_of(rt.alloc(), duid)?.as_slice(), bytes);
+    }
+    Ok(())
+}
+
+#[test]
+fn each_identifier_is_copied(rt: HostRuntime) -> Result<(), Fail> {
+    for (bytes, _) in DUIDS {
+        let duid = DhcpV6Duid::parse(rt.alloc(), bytes)?;
+        assert!(rt; is_copied(rt.alloc(), duid)?);
     }
     Ok(())
 }
@@ -57,7 +65,7 @@ fn identifiers_are_made_of_their_parts(rt: HostRuntime) -> Result<(), Fail> {
     let made = DhcpV6DuidLinkLayerAddr::new(rt.alloc(), 1, &address)?;
     let duid = DhcpV6Duid::LinkLayerAddress(made);
     assert_eq!(rt;
-        bytes_of(rt.alloc(), &duid)?.as_slice(),
+        bytes_of(rt.alloc(), duid)?.as_slice(),
         [0, 3, 0, 1, 2, 0, 0, 0, 0, 1].as_slice()
     );
     Ok(())
@@ -69,7 +77,7 @@ fn the_time_of_an_identifier_counts_from_2000(rt: HostRuntime) -> Result<(), Fai
     let made = DhcpV6DuidLinkLayerAddrPlusTime::new(rt.alloc(), 1, &address, 946684801)?;
     let duid = DhcpV6Duid::LinkLayerAddressPlusTime(made);
     assert_eq!(rt;
-        bytes_of(rt.alloc(), &duid)?.as_slice(),
+        bytes_of(rt.alloc(), duid)?.as_slice(),
         [0, 1, 0, 1, 0, 0, 0, 1, 2, 0, 0, 0, 0, 1].as_slice()
     );
     let early = DhcpV6DuidLinkLayerAddrPlusTime::new(rt.alloc(), 1, &[2], 5)?;
@@ -77,29 +85,41 @@ fn the_time_of_an_identifier_counts_from_2000(rt: HostRuntime) -> Result<(), Fai
     Ok(())
 }
 
+// An identifier of the vendor 9.
+fn vendor(alloc: Global) -> Result<DhcpV6Duid, DhcpError> {
+    let made = DhcpV6DuidEnterpriseNumber::new(alloc, 9, &[0xab])?;
+    Ok(DhcpV6Duid::EnterpriseNumber(made))
+}
+
 #[test]
 fn a_vendor_gives_an_identifier(rt: HostRuntime) -> Result<(), Fail> {
-    let made = DhcpV6DuidEnterpriseNumber::new(rt.alloc(), 9, &[0xab])?;
-    let duid = DhcpV6Duid::EnterpriseNumber(made);
+    let alloc = rt.alloc();
     assert_eq!(rt;
-        bytes_of(rt.alloc(), &duid)?.as_slice(),
+        bytes_of(alloc, vendor(alloc)?)?.as_slice(),
         [0, 2, 0, 0, 0, 9, 0xab].as_slice()
     );
-    assert!(rt; duid.try_clone(rt.alloc())? == duid);
+    assert!(rt; is_copied(alloc, vendor(alloc)?)?);
     Ok(())
 }
 
 // The bytes that the words 01020304, 05060708, 090a0b0c and 0d0e0f10 give.
 const RANDOM: [u8; 16] = [0, 255, 3, 4, 5, 6, 7, 8, 9, 10, 11, 12, 13, 14, 15, 16];
 
+// The identifier that those words give.
+fn random_identifier(alloc: Global) -> Result<DhcpV6Duid, DhcpError> {
+    let drawn = vec![in alloc; 0x01020304, 0x05060708, 0x090a0b0c, 0x0d0e0f10]?;
+    DhcpV6Duid::random(alloc, &mut WordList::new(drawn))
+}
+
 #[test]
 fn an_identifier_is_made_of_four_random_words(rt: HostRuntime) -> Result<(), Fail> {
-    let mut words = WordList::new(vec![in rt.alloc();
-        0x01020304, 0x05060708, 0x090a0b0c, 0x0d0e0f10,
-    ]?);
-    let duid = DhcpV6Duid::random(rt.alloc(), &mut words)?;
-    assert_eq!(rt; bytes_of(rt.alloc(), &duid)?.as_slice(), RANDOM.as_slice());
+    let duid = random_identifier(rt.alloc())?;
     assert!(rt; !duid.is_empty());
-    assert!(rt; DhcpV6Duid::Raw(Bytes::new(rt.alloc())).is_empty());
+    assert_eq!(rt; bytes_of(rt.alloc(), duid)?.as_slice(), RANDOM.as_slice());
     Ok(())
+}
+
+#[test]
+fn an_identifier_without_bytes_is_empty(rt: HostRuntime) {
+    assert!(rt; DhcpV6Duid::Raw(Bytes::new(rt.alloc())).is_empty());
 }
