@@ -88,7 +88,7 @@ pub fn status_without_words(error: &io::Error) -> Status
 /// version 2 of the script whose text in version 1 the source holds; `demo` and a number from 1 to
 /// 2,000 writes the summary of a demonstration of so many rounds, and reads nothing. With every
 /// status but 0 and 4 nothing is written.
-#[tactic(auto, using(crate::proofs::ToolLemmas::asked_for), unfolding(crate::specs::Tool::moved_between))]
+#[tactic(auto, using(crate::proofs::asked_for), unfolding(crate::specs::moved_between))]
 pub fn replay_tool<S: Source, K: Sink>(
     alloc: Global,
     words: &[String],
@@ -129,7 +129,7 @@ pub fn replay_tool<S: Source, K: Sink>(
 }
 
 // Does what is asked for.
-#[tactic(auto, using(crate::proofs::ToolLemmas::carried_out), unfolding(crate::specs::Tool::moved_between))]
+#[tactic(auto, using(crate::proofs::carried_out), unfolding(crate::specs::moved_between))]
 fn carry_out<S: Source, K: Sink>(
     alloc: Global,
     request: Request,
