@@ -1,5 +1,5 @@
 #!/bin/sh
-# Times the reading and writing of messages, frames and lists of DHCPv6 options.
+# Times the reading and writing of messages of both families, frames and lists of DHCPv6 options.
 #
 #   tools/benchmark_messages.sh      at the repository's top, after `rt run < stdin -- frame 3` in crates/dhcp_bench has built the program
 #
@@ -99,8 +99,13 @@ measure6() { # a name, how many times
 address6=20010db80000000000000000000000
 reply6=0001000a000300010200000000010002000a00030001020000000002
 reply6=${reply6}00030028000000000000003200000050000500
-options6 "${reply6}18${address6}1000000064000000c800170020${address6}01${address6}020018000d076578616d706c6503636f6d00" "" 1 0 1
+reply6=${reply6}18${address6}1000000064000000c800170020${address6}01${address6}020018000d076578616d706c6503636f6d00
+options6 "$reply6" "" 1 0 1
 measure6 options_of_a_reply_of_129_bytes 200000
+# The Reply itself, and a Solicit.
+options6 "07abcdef$reply6" "" 1 0 1
+for task in reply6 message6 lease6 moved6; do measure reply_of_129_bytes "$task" 200000; done
+measure solicit_built_and_written solicit6 200000
 # 64 KiB of options of two bytes: of one code, of as many codes that rise, and of codes that fall.
 options6 "" 00080002%04x 1 10922 1
 measure6 options_of_one_code_of_64_KiB 200

@@ -24,7 +24,7 @@ def is_in(example, source):
 
 def main():
     top = Path(__file__).resolve().parent.parent
-    sources = [lines_of(path.read_text("utf-8")) for path in top.glob("crates/uses/src/*.rt")]
+    sources = [lines_of(path.read_text("utf-8")) for path in top.glob("crates/uses/src/**/*.rt")]
     missing = 0
     for page in ("README.md", "docs/USING.md"):
         text = (top / page).read_text("utf-8")

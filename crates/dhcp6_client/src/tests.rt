@@ -197,23 +197,9 @@ fn goes(alloc: Global, exchange: &mut Exchange, step: Step) -> Result<bool, Dhcp
         Step::Polled(poll) => is_polled(alloc, exchange, poll, Sent::Taken),
         Step::Refused(poll) => is_polled(alloc, exchange, poll, Sent::Refused),
         Step::Released(now, sends, sent) => is_released(alloc, exchange, now, sends, sent),
-        Step::ReleasedAnother(flaw, sends) => {
-            let lease = lease(alloc, flaw)?;
-            let released = exchange.client.release(&lease, 300, &mut exchange.link);
-            Ok(
-                is_taken_if(released, sends != Sends::None)?
-                    && was_handed(alloc, &mut exchange.link, sends, Sent::Taken)?,
-            )
-        }
-        Step::Given(flaw, now, takes) => {
-            let lease = lease(alloc, flaw)?;
-            is_taken_if(exchange.client.done(lease, u64::from(now)), takes)
-        }
-        Step::GivenAtTheEnd => {
-            let lease = lease(alloc, Flaw::None)?;
-            let is_given = exchange.client.done(lease, LAST_MOMENT).is_ok();
-            Ok(is_given && said(exchange, LAST_MOMENT, None)? == Says::Nothing)
-        }
+        Step::ReleasedAnother(flaw, sends) => is_other_released(alloc, exchange, flaw, sends),
+        Step::Given(flaw, now, takes) => is_taken(alloc, exchange, flaw, now, takes),
+        Step::GivenAtTheEnd => is_taken_at_the_end(alloc, exchange),
         Step::Replayed(count) => is_replayed(alloc, exchange, count),
         Step::Reset(now) => {
             exchange.client.reset_retransmit_counters(u64::from(now));
@@ -226,6 +212,47 @@ fn goes(alloc: Global, exchange: &mut Exchange, step: Step) -> Result<bool, Dhcp
         Step::Holds(holds) => Ok(exchange.client.lease().is_some() == holds),
         Step::Wakes(moment) => Ok(exchange.client.next_poll() == moment),
     }
+}
+
+// Whether the release of a lease with this flaw sends this message, or none.
+fn is_other_released(
+    alloc: Global,
+    exchange: &mut Exchange,
+    flaw: Flaw,
+    sends: Sends,
+) -> Result<bool, DhcpError> {
+    let lease = lease(alloc, flaw)?;
+    let is_right = is_sent_if(exchange, &lease, sends != Sends::None)?;
+    Ok(is_right && was_handed(alloc, &mut exchange.link, sends, Sent::Taken)?)
+}
+
+// Whether the release of a lease is sent if it is within its limits, and else is refused.
+fn is_sent_if(
+    exchange: &mut Exchange,
+    lease: &DhcpV6Lease,
+    is_within: bool,
+) -> Result<bool, DhcpError> {
+    let released = exchange.client.release(lease, 300, &mut exchange.link);
+    is_taken_if(released, is_within)
+}
+
+// Whether a lease with this flaw is taken at a moment, or else is refused.
+fn is_taken(
+    alloc: Global,
+    exchange: &mut Exchange,
+    flaw: Flaw,
+    now: u32,
+    takes: bool,
+) -> Result<bool, DhcpError> {
+    let lease = lease(alloc, flaw)?;
+    is_taken_if(exchange.client.done(lease, u64::from(now)), takes)
+}
+
+// Whether a lease is taken at the last lawful moment, and the poll there returns nothing.
+fn is_taken_at_the_end(alloc: Global, exchange: &mut Exchange) -> Result<bool, DhcpError> {
+    let lease = lease(alloc, Flaw::None)?;
+    let is_given = exchange.client.done(lease, LAST_MOMENT).is_ok();
+    Ok(is_given && said(exchange, LAST_MOMENT, None)? == Says::Nothing)
 }
 
 // Whether a lease was taken if it is within its limits, and else was refused as an argument.

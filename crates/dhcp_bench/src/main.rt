@@ -4,16 +4,21 @@
 //! `read` reads a message, `message` reads and writes it, `lease` reads it and its lease, `moved`
 //! does so and moves its options into the lease, `discover` builds and writes a Discover, and
 //! `frame` reads and writes a frame. `read6` reads a list of DHCPv6 options, and `options6` reads
-//! and writes it. Of a client, `idle` polls one that has a lease, `foreign` one whose Discover is
-//! open, each time with the frame of the line, and `life` has it live from its Discover to its
-//! release, with the frames of an Offer and of an Ack as two lines; these print how many polls or
-//! lives there were.
+//! and writes it. Of a DHCPv6 message, `reply6` reads one, `message6` reads and writes it, `lease6`
+//! reads it and its lease, `moved6` does so and moves its options into the lease, and `solicit6`
+//! builds and writes a Solicit. Of a client, `idle` polls one that has a lease, `foreign` one whose
+//! Discover is open, each time with the frame of the line, and `life` has it live from its Discover
+//! to its release, with the frames of an Offer and of an Ack as two lines; `idle6`, `foreign6` and
+//! `life6` do so with an IPv6 client, whose Solicit is open, with the payload of the line, or with
+//! those of an Advertise and of a Reply as two lines. These print how many polls or lives there
+//! were.
 #![tactic(auto)]
 
 mod client;
+mod client6;
+mod messages6;
 mod options6;
 
-use crate::client::Answers;
 use dhcp_clock::WordList;
 use dhcp_frame::{MOST_PAYLOAD, read_frame, write_frame};
 use dhcp_wire::{BufferMut, DhcpError, ErrorKind, FixedText};
@@ -85,19 +90,45 @@ fn measured(alloc: Global, what: &str, times: u32, text: &str) -> Result<u64, Fa
     match what {
         "idle" => Ok(client::idle(alloc, times)?),
         "foreign" => Ok(client::foreign(alloc, times, first.as_slice())?),
-        "life" => lived(alloc, times, first.as_slice(), rest),
+        "idle6" => Ok(client6::idle(alloc, times)?),
+        "foreign6" => Ok(client6::foreign(alloc, times, first.as_slice())?),
+        "life" | "life6" => lived(alloc, what, times, first.as_slice(), rest),
         what => total_of(alloc, what, times, first.as_slice()),
     }
 }
 
-// How many lives there were, with this frame of an Offer, and that of an Ack in the next line.
-fn lived(alloc: Global, times: u32, offer: &[u8], rest: &[&str]) -> Result<u64, Failure> {
-    let [ack] = rest else {
+// How many lives there were, with this offer, and the grant of the lease in the next line.
+fn lived(
+    alloc: Global,
+    what: &str,
+    times: u32,
+    offer: &[u8],
+    rest: &[&str],
+) -> Result<u64, Failure> {
+    let [grant] = rest else {
         return Err(Failure::Hex);
     };
-    let ack = bytes_of(alloc, ack)?;
-    let ack = ack.as_slice();
-    Ok(client::lives(alloc, times, Answers { offer, ack })?)
+    let grant = bytes_of(alloc, grant)?;
+    Ok(lives(alloc, what, times, offer, grant.as_slice())?)
+}
+
+// How many lives there were of an IPv4 client, or of an IPv6 client.
+fn lives(
+    alloc: Global,
+    what: &str,
+    times: u32,
+    offer: &[u8],
+    grant: &[u8],
+) -> Result<u64, DhcpError> {
+    if what == "life" {
+        client::lives(alloc, times, client::Answers { offer, ack: grant })
+    } else {
+        let answers = client6::Answers {
+            advertise: offer,
+            reply: grant,
+        };
+        client6::lives(alloc, times, answers)
+    }
 }
 
 // The bytes of a line of hex.
@@ -118,11 +149,23 @@ fn total_of(alloc: Global, what: &str, times: u32, bytes: &[u8]) -> Result<u64, 
             "frame" => frame(alloc, bytes)?,
             "read6" => options6::read(alloc, bytes)?,
             "options6" => options6::read_and_written(alloc, bytes)?,
-            _ => return Err(Failure::Words),
+            what => count_of_message6(alloc, what, bytes)?,
         };
         total = total.saturating_add(count as u64);
     }
     Ok(total)
+}
+
+// How many bytes are read and written when one thing is done with a DHCPv6 message.
+fn count_of_message6(alloc: Global, what: &str, bytes: &[u8]) -> Result<usize, Failure> {
+    match what {
+        "reply6" => Ok(messages6::read(alloc, bytes)?),
+        "message6" => Ok(messages6::read_and_written(alloc, bytes)?),
+        "lease6" => Ok(messages6::read_to_lease(alloc, bytes)?),
+        "moved6" => Ok(messages6::moved_to_lease(alloc, bytes)?),
+        "solicit6" => Ok(messages6::solicit(alloc)?),
+        _ => Err(Failure::Words),
+    }
 }
 
 // Reads a message.

@@ -209,20 +209,6 @@ pub record Moved : Type 0 where
   pub sink_faults : ℕ
   pub sink_faults_after : ℕ
 
--- what moved while a source and a sink went from one value to the next
-unfoldable pub moved_between : {S K : Type 0} → (S → Option (List ℕ)) → (S → ℕ) → S → S →
-    (K → Option (List ℕ)) → (K → ℕ) → K → K → Moved
-moved_between left faults source source_after taken sink_faults sink sink_after = record {
-  left = left source;
-  left_after = left source_after;
-  faults = faults source;
-  faults_after = faults source_after;
-  taken = taken sink;
-  taken_after = taken sink_after;
-  sink_faults = sink_faults sink;
-  sink_faults_after = sink_faults sink_after;
-}
-
 -- What each status says where these texts are read.
 pub record EndsReading {S : Type 0} (texts : Texts S) (status : ℕ) (moved : Moved) : Type 0 where
   -- the text of a valid script is answered, unless out of memory or the source or the sink fails

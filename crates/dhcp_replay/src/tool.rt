@@ -24,7 +24,6 @@ ghost use Rattle.dhcp_replay.specs.Tool.{
   AsksForRun,
   Ends,
   ReadsInput,
-  moved_between,
   printed,
   scripts,
   scripts_v1,
@@ -88,7 +87,7 @@ pub fn status_without_words(error: &io::Error) -> Status
 /// version 2 of the script whose text in version 1 the source holds; `demo` and a number from 1 to
 /// 2,000 writes the summary of a demonstration of so many rounds, and reads nothing. With every
 /// status but 0 and 4 nothing is written.
-#[tactic(auto, using(crate::proofs::asked_for), unfolding(crate::specs::moved_between))]
+#[tactic(auto, using(crate::proofs::ToolLemmas::asked_for))]
 pub fn replay_tool<S: Source, K: Sink>(
     alloc: Global,
     words: &[String],
@@ -109,8 +108,16 @@ pub fn replay_tool<S: Source, K: Sink>(
 
     // What each status says, for each of the three requests, and which answers are owed.
     ensures ends { (request : Request) → AsksFor (map string_bytes words.now) request →
-        Ends request result (moved_between S.left S.faults source.old source.new
-        K.taken K.faults sink.old sink.new) }
+        Ends request result (record {
+          left = S.left source.old;
+          left_after = S.left source.new;
+          faults = S.faults source.old;
+          faults_after = S.faults source.new;
+          taken = K.taken sink.old;
+          taken_after = K.taken sink.new;
+          sink_faults = K.faults sink.old;
+          sink_faults_after = K.faults sink.new;
+        }) }
     ensures wrong_words { (result ≡ 1) ↔ AsksForNothing (map string_bytes words.now) }
     ensures invalid { result ≡ 7 → AsksForRun (map string_bytes words.now) }
     ensures no_other { result ≤ 7 }
@@ -129,7 +136,7 @@ pub fn replay_tool<S: Source, K: Sink>(
 }
 
 // Does what is asked for.
-#[tactic(auto, using(crate::proofs::carried_out), unfolding(crate::specs::moved_between))]
+#[tactic(auto, using(crate::proofs::ToolLemmas::carried_out))]
 fn carry_out<S: Source, K: Sink>(
     alloc: Global,
     request: Request,
@@ -137,8 +144,16 @@ fn carry_out<S: Source, K: Sink>(
     sink: &mut K,
 ) -> Status
     requires { IsRequest request }
-    ensures ends { Ends request (status_number result) (moved_between
-        S.left S.faults source.old source.new K.taken K.faults sink.old sink.new) }
+    ensures ends { Ends request (status_number result) (record {
+      left = S.left source.old;
+      left_after = S.left source.new;
+      faults = S.faults source.old;
+      faults_after = S.faults source.new;
+      taken = K.taken sink.old;
+      taken_after = K.taken sink.new;
+      sink_faults = K.faults sink.old;
+      sink_faults_after = K.faults sink.new;
+    }) }
     ensures asked { status_number result ≢ 1 }
     ensures nothing_read { (rounds : ℕ) → request ≡ Demo rounds → source.new ≡ source.old }
     ensures nothing_written { status_number result ≢ 0 → status_number result ≢ 4 →
