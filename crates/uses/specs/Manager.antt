@@ -3,7 +3,7 @@ use Rattle.std.specs.Prelude.{◌≡◌, ◌≤◌, ℕ, Bool, false, List, Opti
 use Rattle.std.specs.declared.net.Ipv4Addr.{Ipv4Addr}
 use Rattle.std.specs.declared.net.Ipv6Addr.{Ipv6Addr}
 use Rattle.dhcp_history.specs.Client.{view_of}
-use Rattle.dhcp_history.specs.Machine.{poll}
+use Rattle.dhcp_history.specs.Machine.{is_stopped, poll}
 use Rattle.dhcp_history.specs.Protocol.{Protocol, has_come}
 use Rattle.dhcp_history.specs.Schedule.{IsIdle}
 use Rattle.dhcp_history.specs.declared.client.Client.{Client}
@@ -28,13 +28,13 @@ address_after6 states6.request address = None
 address_after6 states6.renew address = address
 address_after6 states6.rebind address = address
 
--- A client has nothing to do before a moment: until a packet comes, a poll at any moment before it
--- returns nothing, sends nothing and draws nothing.
+-- A client that keeps no error has nothing to do before a moment: until a packet comes, a poll at
+-- any moment before it returns nothing, sends nothing and draws nothing.
 abbrev pub SleepsUntil : {PublicState Packet Message State Exchange Answer Lease : Type 0} →
     Protocol PublicState Packet Message State Exchange Answer Lease → Option ℕ →
     Client State Exchange → Type 0
 SleepsUntil protocol moment client =
     (later : ℕ) (refuse : Bool) (drawn : List ℕ) →
-    client.last_moment ≤ later → has_come later moment ≡ false →
+    is_stopped client.standing.phase ≡ false → client.last_moment ≤ later → has_come later moment ≡ false →
     IsIdle protocol later (view_of client drawn)
     (poll protocol later refuse Nothing (view_of client drawn))

@@ -5,7 +5,7 @@ mod interface;
 #[cfg(test)]
 mod tests;
 
-ghost use Rattle.std.specs.Prelude.{◌≡◌, ◌<◌, ◌^◌, ◌⊎◌, ℕ, Option, IfErr, IfOk, is_some, true};
+ghost use Rattle.std.specs.Prelude.{◌≡◌, ◌<◌, ◌^◌, ◌⊎◌, ℕ, Bool, Option, IfErr, IfOk, is_some, not};
 ghost use Rattle.dhcp_wire.specs.Error.{no_memory};
 ghost use Rattle.dhcp_history.specs.Errors.{timed_out};
 
@@ -19,8 +19,11 @@ pub trait ManagedClient {
     /// A state that it reports.
     type State: Drop;
 
-    /// That it has nothing to do before a moment.
+    /// That it has nothing to do before a moment, unless it keeps an error.
     ghost sleeps_until: { Option ℕ → Self → Type 0 };
+
+    /// Whether it keeps an error, and does nothing any more.
+    ghost has_stopped: { Self → Bool };
 
     /// One poll at a moment, in milliseconds: the new state, or none if it has not changed.
     fn run<W: Words, L: DhcpLink>(
@@ -32,9 +35,11 @@ pub trait ManagedClient {
         requires { now < 2 ^ 60 }
         ensures { IfErr result (λ error. (error ≡ timed_out) ⊎ (error ≡ no_memory)) };
 
-    /// The moment, in milliseconds, before which it has nothing to do without a packet.
+    /// The moment, in milliseconds, before which it has nothing to do without a packet; none if and
+    /// only if it keeps an error.
     fn next_poll(&self) -> Option<u64>
-        ensures { is_some result ≡ true → sleeps_until result self.now };
+        ensures asleep { sleeps_until result self.now }
+        ensures stopped { is_some result ≡ not (has_stopped self.now) };
 }
 
 /// What is set up as the states of a client ask.
@@ -53,8 +58,8 @@ pub fn turn<C: ManagedClient, I: Follow<C::State>, W: Words, L: DhcpLink>(
     link: &mut L,
 ) -> Result<Option<u64>, DhcpError>
     requires { now < 2 ^ 60 }
-    ensures asleep { IfOk result (λ moment.
-        is_some moment ≡ true → C.sleeps_until moment client.new) }
+    ensures asleep { IfOk result (λ moment. C.sleeps_until moment client.new) }
+    ensures stopped { IfOk result (λ moment. is_some moment ≡ not (C.has_stopped client.new)) }
     ensures errors { IfErr result (λ error. (error ≡ timed_out) ⊎ (error ≡ no_memory)) }
 {
     for _ in 0..7u32 {

@@ -1,6 +1,7 @@
 //! The clients that a manager runs.
 
 ghost use Rattle.std.specs.Prelude.{◌≡◌, IfOk, None, Some};
+ghost use Rattle.dhcp_history.specs.Machine.{is_stopped};
 ghost use Rattle.dhcp4_client.specs.Rules as rules4;
 ghost use Rattle.dhcp4_client.specs.declared.client_state.ClientState.TheVariants.{InitReboot};
 ghost use Rattle.dhcp6_client.specs.Rules as rules6;
@@ -23,6 +24,8 @@ impl ManagedClient for DhcpV4Client {
     ghost sleeps_until = { λ moment parts.
         SleepsUntil (rules4.protocol parts.config) moment parts.client };
 
+    ghost has_stopped = { λ parts. is_stopped parts.client.standing.phase };
+
     fn run<W: Words, L: DhcpLink>(
         &mut self,
         now: u64,
@@ -42,6 +45,8 @@ impl ManagedClient for DhcpV6Client {
 
     ghost sleeps_until = { λ moment parts.
         SleepsUntil (rules6.protocol parts.config) moment parts.client };
+
+    ghost has_stopped = { λ parts. is_stopped parts.client.standing.phase };
 
     fn run<W: Words, L: DhcpLink>(
         &mut self,

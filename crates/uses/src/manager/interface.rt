@@ -23,7 +23,7 @@ pub struct Interface {
 
 impl Follow<DhcpV4State> for Interface {
     fn follow(&mut self, state: &DhcpV4State)
-        ensures { self.new.address ≡ address_after (states4.plain_state state.now)
+        ensures address { self.new.address ≡ address_after (states4.plain_state state.now)
             self.old.address }
         ensures other { self.new.address6 ≡ self.old.address6 }
     {
@@ -40,7 +40,7 @@ impl Follow<DhcpV4State> for Interface {
 
 impl Follow<DhcpV6State> for Interface {
     fn follow(&mut self, state: &DhcpV6State)
-        ensures { self.new.address6 ≡ address_after6 (states6.plain_state state.now)
+        ensures address { self.new.address6 ≡ address_after6 (states6.plain_state state.now)
             self.old.address6 }
         ensures other { self.new.address ≡ self.old.address }
     {
