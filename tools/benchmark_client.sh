@@ -1,12 +1,11 @@
 #!/bin/sh
-# Times the polls of an IPv4 and of an IPv6 client over a link in memory.
+# Times the polls of an IPv4 client over a link in memory.
 #
 #   tools/benchmark_client.sh      at the repository's top, after `rt run < stdin -- frame 3` in crates/dhcp_bench has built the program
 #
 # Prints how many polls of a client that has a lease, polls of one whose Discover is open with a frame of 300 bytes that is for
-# another client, and whole lives (Discover, Request, lease, a renewal, release) there are in a second, and then the same of an
-# IPv6 client, whose Solicit is open with an Advertise of 76 bytes for another client: the best of five runs, the start of the
-# process taken off.
+# another client, and whole lives (Discover, Request, lease, a renewal, release) there are in a second: the best of five runs,
+# the start of the process taken off.
 set -eu
 program=${PROGRAM:-crates/dhcp_bench/out/dhcp_bench}
 [ -x "$program" ] || { echo "$program is not built: run 'rt run < stdin -- frame 3' in crates/dhcp_bench"; exit 2; }
@@ -51,12 +50,3 @@ measure idle_poll idle 2000000
 measure poll_with_a_foreign_frame foreign 1000000
 { frame 12345678 "350102$lease" 342; frame 12345678 "350105$lease" 342; } >"$input"
 measure whole_life life 50000
-
-grant=0001000a000300010200000000010002000a00030001020000000002
-grant=${grant}000300280000000000000032000000500005001820010db8000000000000000000000010
-grant=${grant}00000064000000c8
-echo "02000001$grant" >"$input"
-measure idle_poll_6 idle6 2000000
-measure poll_with_a_foreign_advertise foreign6 1000000
-{ echo "02abcdef$grant"; echo "07000000$grant"; } >"$input"
-measure whole_life_6 life6 50000

@@ -8,17 +8,15 @@
 //! reads it and its lease, `moved6` does so and moves its options into the lease, and `solicit6`
 //! builds and writes a Solicit. Of a client, `idle` polls one that has a lease, `foreign` one whose
 //! Discover is open, each time with the frame of the line, and `life` has it live from its Discover
-//! to its release, with the frames of an Offer and of an Ack as two lines; `idle6`, `foreign6` and
-//! `life6` do so with an IPv6 client, whose Solicit is open, with the payload of the line, or with
-//! those of an Advertise and of a Reply as two lines. These print how many polls or lives there
-//! were.
+//! to its release, with the frames of an Offer and of an Ack as two lines; these print how many
+//! polls or lives there were.
 #![tactic(auto)]
 
 mod client;
-mod client6;
 mod messages6;
 mod options6;
 
+use crate::client::Answers;
 use dhcp_clock::WordList;
 use dhcp_frame::{MOST_PAYLOAD, read_frame, write_frame};
 use dhcp_wire::{BufferMut, DhcpError, ErrorKind, FixedText};
@@ -90,45 +88,19 @@ fn measured(alloc: Global, what: &str, times: u32, text: &str) -> Result<u64, Fa
     match what {
         "idle" => Ok(client::idle(alloc, times)?),
         "foreign" => Ok(client::foreign(alloc, times, first.as_slice())?),
-        "idle6" => Ok(client6::idle(alloc, times)?),
-        "foreign6" => Ok(client6::foreign(alloc, times, first.as_slice())?),
-        "life" | "life6" => lived(alloc, what, times, first.as_slice(), rest),
+        "life" => lived(alloc, times, first.as_slice(), rest),
         what => total_of(alloc, what, times, first.as_slice()),
     }
 }
 
-// How many lives there were, with this offer, and the grant of the lease in the next line.
-fn lived(
-    alloc: Global,
-    what: &str,
-    times: u32,
-    offer: &[u8],
-    rest: &[&str],
-) -> Result<u64, Failure> {
-    let [grant] = rest else {
+// How many lives there were, with this frame of an Offer, and that of an Ack in the next line.
+fn lived(alloc: Global, times: u32, offer: &[u8], rest: &[&str]) -> Result<u64, Failure> {
+    let [ack] = rest else {
         return Err(Failure::Hex);
     };
-    let grant = bytes_of(alloc, grant)?;
-    Ok(lives(alloc, what, times, offer, grant.as_slice())?)
-}
-
-// How many lives there were of an IPv4 client, or of an IPv6 client.
-fn lives(
-    alloc: Global,
-    what: &str,
-    times: u32,
-    offer: &[u8],
-    grant: &[u8],
-) -> Result<u64, DhcpError> {
-    if what == "life" {
-        client::lives(alloc, times, client::Answers { offer, ack: grant })
-    } else {
-        let answers = client6::Answers {
-            advertise: offer,
-            reply: grant,
-        };
-        client6::lives(alloc, times, answers)
-    }
+    let ack = bytes_of(alloc, ack)?;
+    let ack = ack.as_slice();
+    Ok(client::lives(alloc, times, Answers { offer, ack })?)
 }
 
 // The bytes of a line of hex.
