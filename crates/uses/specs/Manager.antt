@@ -35,6 +35,7 @@ abbrev pub SleepsUntil : {PublicState Packet Message State Exchange Answer Lease
     Client State Exchange → Type 0
 SleepsUntil protocol moment client =
     (later : ℕ) (refuse : Bool) (drawn : List ℕ) →
-    is_stopped client.standing.phase ≡ false → client.last_moment ≤ later → has_come later moment ≡ false →
+    is_stopped client.standing.phase ≡ false →
+    client.last_moment ≤ later → has_come later moment ≡ false →
     IsIdle protocol later (view_of client drawn)
     (poll protocol later refuse Nothing (view_of client drawn))
