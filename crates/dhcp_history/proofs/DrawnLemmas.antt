@@ -1,5 +1,5 @@
 -- What the rules of a protocol draw, one draw after the other.
-use Rattle.std.proofs.Common.{◌≡◌, ℕ, List, Option, Some, None, refl, sym, ap, subst, ◌∙◌}
+use Rattle.std.proofs.Common.{◌≡◌, ℕ, List, Option, Some, None, refl, sym, subst}
 use Rattle.dhcp_clock.specs.Words.{GivesNext, Drawn, undrawn, drawn_word, drawn_then, Draws}
 use Rattle.dhcp_history.specs.Rules.{GivesDrawn}
 

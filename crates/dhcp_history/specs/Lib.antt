@@ -11,3 +11,5 @@ pub mod Release
 pub mod Schedule
 pub mod BoundLease
 pub mod Errors
+pub mod Calls
+pub mod Laws

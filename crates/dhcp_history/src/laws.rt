@@ -4,17 +4,18 @@
 ghost use Rattle.std.specs.Prelude.{◌≡◌, ◌≤◌, ℕ, List, All, Bool, true};
 ghost use Rattle.dhcp_clock.specs.declared.link.Packet.{Packet};
 ghost use Rattle.dhcp_history.specs.Protocol.{Lawful};
-ghost use Rattle.dhcp_history.specs.Script.{Event, Script};
+ghost use Rattle.dhcp_history.specs.Script.{Script};
 ghost use Rattle.dhcp_history.specs.History.{history, outputs};
-ghost use Rattle.dhcp_history.specs.Machine.{View, polls, replay};
+ghost use Rattle.dhcp_history.specs.Laws.{
+  PollsGiveTheHistory,
+  HasSevenPolls,
+  HasTwoMessages,
+  IsNeverOverdue,
+};
 ghost use Rattle.dhcp_history.specs.Bounds.{
   count_of,
-  is_change,
-  is_send,
   is_send_at,
   allowed,
-  poll_count,
-  IsWithinState,
   CloseInTurn,
   IsApart,
   HasAtMost,
@@ -32,9 +33,7 @@ use crate::Rules;
 /// What the calls and polls of a script report, event by event, is what the history of the script
 /// reports.
 pub fn polls_give_the_history<R: Rules>(rules: &R)
-    ensures { Lawful (R.protocol rules.now) → (script : Script Packet R.State R.Exchange) →
-        replay (R.protocol rules.now) script
-        ≡ outputs (R.protocol rules.now) (history (R.protocol rules.now) script) }
+    ensures { Lawful (R.protocol rules.now) → PollsGiveTheHistory (R.protocol rules.now) }
 {
     let _rules = rules;
 }
@@ -42,25 +41,14 @@ pub fn polls_give_the_history<R: Rules>(rules: &R)
 /// At an event a client is polled at most seven times, and changes its state at most six times;
 /// more polls than seven would do nothing more.
 pub fn seven_polls_an_event<R: Rules>(rules: &R)
-    ensures polls { Lawful (R.protocol rules.now) →
-        (fuel : ℕ) (event : Event Packet) (client : View R.State R.Exchange) →
-        poll_count (R.protocol rules.now) fuel event client ≤ 7 }
-    ensures changes { Lawful (R.protocol rules.now) →
-        (fuel : ℕ) (event : Event Packet) (client : View R.State R.Exchange) →
-        count_of is_change (polls (R.protocol rules.now) fuel event client).outputs ≤ 6 }
-    ensures enough { Lawful (R.protocol rules.now) →
-        (fuel : ℕ) (event : Event Packet) (client : View R.State R.Exchange) → 7 ≤ fuel →
-        polls (R.protocol rules.now) fuel event client
-        ≡ polls (R.protocol rules.now) 7 event client }
+    ensures { Lawful (R.protocol rules.now) → HasSevenPolls (R.protocol rules.now) }
 {
     let _rules = rules;
 }
 
 /// At an event the polls of a client hand at most two messages to the link.
 pub fn two_messages_an_event<R: Rules>(rules: &R)
-    ensures { Lawful (R.protocol rules.now) →
-        (fuel : ℕ) (event : Event Packet) (client : View R.State R.Exchange) →
-        count_of is_send (polls (R.protocol rules.now) fuel event client).outputs ≤ 2 }
+    ensures { Lawful (R.protocol rules.now) → HasTwoMessages (R.protocol rules.now) }
 {
     let _rules = rules;
 }
@@ -89,10 +77,7 @@ pub fn reports_are_in_order<R: Rules>(rules: &R)
 
 /// After the polls of an event a client without a kept error is not past the end of its state.
 pub fn no_state_is_overdue<R: Rules>(rules: &R)
-    ensures { Lawful (R.protocol rules.now) →
-        (event : Event Packet) (client : View R.State R.Exchange) →
-        IsWithinState (R.protocol rules.now) event.moment
-        (polls (R.protocol rules.now) 7 event client).view }
+    ensures { Lawful (R.protocol rules.now) → IsNeverOverdue (R.protocol rules.now) }
 {
     let _rules = rules;
 }

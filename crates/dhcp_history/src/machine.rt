@@ -18,6 +18,7 @@ ghost use Rattle.dhcp_history.specs.Machine.{
   transmit_and_receive,
   poll,
 };
+ghost use Rattle.dhcp_history.specs.Calls.{IsPoll, parts};
 ghost use Rattle.dhcp_history.specs.Schedule.{HasNextAttempt};
 ghost use Rattle.dhcp_history.specs.Client.{view_of, view_with, unpolled, silent};
 ghost use Rattle.dhcp_history.specs.Run.{input_of, sent_by, UsesLink, WhereKnown, UnlessNoMemory, OnNoMemory, OnTimeout, HasPolled, HasReceived, HasTransmitted, HasDrawn, HasDue, quiet_poll, HasPolledQuietly, IsShut, IsStill, NeedsMemory, IsUnsent, IsSent};
@@ -303,52 +304,10 @@ pub fn run<R: Rules, W: Words, L: DhcpLink>(
     link: &mut L,
 ) -> Result<Option<R::PublicState>, RunError>
     requires { now < 2 ^ 60 }
-
-    // where words and link are known, this is the poll of the protocol
-    ensures polled { UnlessNoMemory result (WhereKnown
-        (W.left words.old) (L.shown link.old) (λ drawn before.
-        HasPolled (R.protocol rules.now)
-        (poll (R.protocol rules.now) now before.refuses (input_of before.waiting)
-        (view_of client.old drawn))
-        result (view_of client.new) (W.left words.new) before (L.shown link.new))) }
-
-    // over all words and links: the steps that use neither, and what is never touched
-    ensures quiet { (drawn : List ℕ) →
-        IfSome (quiet_poll (R.protocol rules.now) now (view_of client.old drawn)) (λ once.
-        HasPolledQuietly (R.protocol rules.now) once result (view_of client.new drawn)
+    ensures { IsPoll R.protocol (R.needs_memory rules.now) now result
+        (parts rules.now client.old) (parts rules.now client.new)
         (W.left words.old) (W.left words.new) (L.shown link.old) (L.shown link.new)
-        (L.faults link.old) (L.faults link.new)) }
-    ensures cause { OnTimeout result ((drawn : List ℕ) →
-        (is_stopped client.old.standing.phase ||
-        limit_is_over (R.protocol rules.now) now (view_of client.old drawn)) ≡ true) }
-    ensures still { result ≡ Ok None → IsStill now client.old client.new
         (L.faults link.old) (L.faults link.new) }
-    ensures reported { IfOk result (λ change. IfSome change (λ reported.
-        reported ≡ (R.protocol rules.now).public_state client.new.state)) }
-    ensures timeout { client.new.timeout_sec ≡ client.old.timeout_sec }
-    ensures armed { HasNextAttempt (R.protocol rules.now).has_attempts client.old →
-        HasNextAttempt (R.protocol rules.now).has_attempts client.new }
-    ensures moment { UnlessNoMemory result (client.new.last_moment ≡ now) }
-    ensures state { OnErr result (client.new.state ≡ client.old.state) }
-
-    // out of memory: as at entry, or right after the send
-    ensures memory { OnNoMemory result (IsUnsent client.old client.new
-        (L.shown link.old) (L.shown link.new)
-        ⊎ IsSent (R.protocol rules.now) now
-        (λ drawn. begin_stay (R.protocol rules.now) now (view_of client.old drawn)) client.new
-        (W.left words.old) (L.shown link.old) (L.shown link.new)) }
-    ensures needed { OnNoMemory result (is_unpolled client.old.standing.phase ≡ false →
-        has_come now client.old.standing.deadline ≡ false → NeedsMemory (R.needs_memory rules.now)
-        client.old (L.shown link.old)) }
-
-    ensures due { OnNoMemory result (IfSome (W.left words.old) (λ drawn.
-        (has_come now (begin_stay (R.protocol rules.now) now (view_of client.old drawn)).deadline
-        ≡ true) ⊎ NeedsMemory (R.needs_memory rules.now) client.old (L.shown link.old))) }
-
-    // one message and one packet at most
-    ensures uses { IfSome (L.shown link.old) (λ before. IsSomeAnd (L.shown link.new) (λ after.
-        UsesLink (is_listening client.old.standing.phase) before after)) }
-    ensures later { L.faults link.old ≤ L.faults link.new }
 {
     if is_stopped(client.standing.phase) {
         client.last_moment = now;

@@ -4,6 +4,7 @@ ghost use Rattle.std.specs.Prelude.{◌≡◌, ℕ, List, true, is_some, if◌th
 ghost use Rattle.dhcp_wire.specs.Fault.{HasCause};
 ghost use Rattle.dhcp_clock.specs.Link.{HandsOver};
 ghost use Rattle.dhcp_history.specs.Machine.{clean_up};
+ghost use Rattle.dhcp_history.specs.Calls.{IsCleanUp, parts};
 ghost use Rattle.dhcp_history.specs.Client.{view_of};
 ghost use Rattle.dhcp_history.specs.Schedule.{HasNextAttempt};
 ghost use Rattle.dhcp_history.specs.Errors.{sent_when};
@@ -24,11 +25,7 @@ pub enum ReleaseError {
 
 /// Drops lease, attempt and error.
 pub fn clean_up<R: Rules>(rules: &R, client: &mut Client<R::State, R::Exchange>)
-    ensures client { (drawn : List ℕ) →
-        view_of client.new drawn ≡ clean_up (R.protocol rules.now) (view_of client.old drawn) }
-    ensures timeout { client.new.timeout_sec ≡ client.old.timeout_sec }
-    ensures moment { client.new.last_moment ≡ client.old.last_moment }
-    ensures armed { HasNextAttempt (R.protocol rules.now).has_attempts client.new }
+    ensures { IsCleanUp R.protocol (parts rules.now client.old) (parts rules.now client.new) }
 {
     let mut exchange = client.standing.exchange;
     rules.after_clean_up(&mut client.state, &mut exchange);

@@ -1,12 +1,9 @@
 //! When a client next does something without a packet.
 
-ghost use Rattle.std.specs.Prelude.{◌≡◌, ◌≤◌, ℕ, List, Bool, true, false};
-ghost use Rattle.dhcp_history.specs.Protocol.{has_come};
-ghost use Rattle.dhcp_history.specs.Script.{Nothing};
+ghost use Rattle.std.specs.Prelude.{◌≡◌};
+ghost use Rattle.dhcp_history.specs.Calls.{HasNextPoll, parts};
 ghost use Rattle.dhcp_history.specs.History.{limit_moment};
-ghost use Rattle.dhcp_history.specs.Machine.{is_stopped, poll};
-ghost use Rattle.dhcp_history.specs.Client.{view_of};
-ghost use Rattle.dhcp_history.specs.Schedule.{earlier, next_moment, next_poll, IsIdle, IsActive};
+ghost use Rattle.dhcp_history.specs.Schedule.{earlier, next_moment};
 
 use crate::{Client, Phase, Rules};
 
@@ -47,15 +44,7 @@ fn next_moment<R: Rules>(rules: &R, client: &Client<R::State, R::Exchange>) -> O
 /// poll without a packet does nothing; at or after it a poll answers a change or the error, sends,
 /// or begins a pause. It is none where the client has stopped, or nothing lies ahead in its state.
 pub fn next_poll<R: Rules>(rules: &R, client: &Client<R::State, R::Exchange>) -> Option<u64>
-    ensures moment { result ≡ next_poll (R.protocol rules.now) client.now }
-    ensures before { (now : ℕ) (refuse : Bool) (drawn : List ℕ) →
-        is_stopped client.now.standing.phase ≡ false → client.now.last_moment ≤ now →
-        has_come now result ≡ false →
-        IsIdle (R.protocol rules.now) now (view_of client.now drawn)
-        (poll (R.protocol rules.now) now refuse Nothing (view_of client.now drawn)) }
-    ensures after { (now : ℕ) (refuse : Bool) (drawn : List ℕ) → has_come now result ≡ true →
-        IsActive (view_of client.now drawn)
-        (poll (R.protocol rules.now) now refuse Nothing (view_of client.now drawn)) }
+    ensures { HasNextPoll R.protocol result (parts rules.now client.now) }
 {
     match client.standing.phase {
         Phase::Stopped => None,
