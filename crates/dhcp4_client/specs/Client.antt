@@ -1,7 +1,7 @@
 -- A client, and how it begins.
 use Rattle.std.specs.Prelude.{◌≡◌, ◌==◌, ◌&&◌, ℕ, Bool, true, not, Option, Some, None}
 use Rattle.std.specs.Option.{option_map_or}
-use Rattle.dhcp_history.specs.declared.client.Client.{Client}
+use Rattle.dhcp_history.specs.Calls as calls
 use Rattle.dhcp_history.specs.Client.{standing_anew, unpolled}
 use Rattle.dhcp4_lease.specs.Config.{Config, is_within_limits}
 use Rattle.dhcp4_lease.specs.Lease.{Lease, are_times_in_order}
@@ -11,9 +11,8 @@ use Rattle.dhcp4_client.specs.declared.client_state.Exchange.{Exchange}
 use Rattle.dhcp4_client.specs.Rules.{restarted}
 
 -- what contracts see of a client: its configuration, and the client of its rules
-pub record ClientParts : Type 0 where
-  pub config : Config
-  pub client : Client ClientState Exchange
+abbrev pub ClientParts : Type 0
+ClientParts = calls.ClientParts Config ClientState Exchange
 
 -- whether a client can begin with this configuration and this lease: there is an interface, what it
 -- sends fits its options, and T1, T2 and the end of the lease are in order

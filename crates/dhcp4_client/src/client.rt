@@ -3,7 +3,7 @@
 mod release;
 mod replay;
 
-ghost use Rattle.std.specs.Prelude.{◌≡◌, ◌≤◌, ◌<◌, ◌^◌, ◌⊎◌, ◌||◌, ℕ, List, Bool, Ok, None, true, false, IfErr, IfOk, IfSome, IsSomeAnd, OnErr, OnOk, is_ok, is_some, not};
+ghost use Rattle.std.specs.Prelude.{◌≡◌, ◌<◌, ◌^◌, ◌⊎◌, IfErr, IfOk, OnErr, OnOk, is_ok};
 ghost use Rattle.dhcp_wire.specs.Error.{no_memory};
 ghost use Rattle.dhcp_wire.specs.Outcome.{Finds};
 ghost use Rattle.dhcp_history.specs.Errors.{run_answer, timed_out};
@@ -46,39 +46,11 @@ impl Model for DhcpV4Client {
 }
 
 impl DhcpV4Client {
+    ghost use Rattle.dhcp_history.specs.Calls.{IsCleanUp, IsNextPoll, IsRun};
     ghost use Rattle.dhcp_clock.specs.Words.{GivesNext};
-    ghost use Rattle.dhcp_history.specs.Protocol.{has_come};
-    ghost use Rattle.dhcp_history.specs.declared.script.Input.TheVariants.{Nothing};
-    ghost use Rattle.dhcp_history.specs.Machine as machine;
-    ghost use Rattle.dhcp_history.specs.Machine.{
-      begin_stay,
-      is_listening,
-      is_stopped,
-      is_unpolled,
-      limit_is_over,
-      poll,
-    };
-    ghost use Rattle.dhcp_history.specs.Client.{view_of};
-    ghost use Rattle.dhcp_history.specs.Run.{
-      input_of,
-      quiet_poll,
-      HasPolled,
-      HasPolledQuietly,
-      IsSent,
-      IsStill,
-      IsUnsent,
-      NeedsMemory,
-      OnNoMemory,
-      OnTimeout,
-      UnlessNoMemory,
-      UsesLink,
-      WhereKnown,
-    };
-    ghost use Rattle.dhcp_history.specs.Schedule as schedule;
-    ghost use Rattle.dhcp_history.specs.Schedule.{IsActive, IsIdle};
     ghost use Rattle.dhcp4_client.specs.Client.{Begins, IsDone, can_begin};
     ghost use Rattle.dhcp4_lease.specs.Lease.{are_times_in_order};
-    ghost use Rattle.dhcp4_client.specs.Rules.{protocol, held_lease, needs_memory, public_state};
+    ghost use Rattle.dhcp4_client.specs.Rules.{protocol, held_lease, needs_memory};
 
     /// A client with this configuration, and with a lease that it held before, if there is one: it
     /// requests that lease first. It draws its transaction id. `InvalidArgument` if and only if the
@@ -128,58 +100,9 @@ impl DhcpV4Client {
         link: &mut L,
     ) -> Result<Option<DhcpV4State>, DhcpError>
         requires { now < 2 ^ 60 }
-
-        // where words and link are known, this is the poll of the protocol
-        ensures polled { UnlessNoMemory (run_answer plain_state result) (WhereKnown
-            (W.left words.old) (L.shown link.old) (λ drawn before.
-            HasPolled (protocol self.old.config)
-            (poll (protocol self.old.config) now before.refuses (input_of before.waiting)
-            (view_of self.old.client drawn))
-            (run_answer plain_state result) (view_of self.new.client) (W.left words.new)
-            before (L.shown link.new))) }
-
-        // over all words and links: the steps that use neither, and what is never touched
-        ensures quiet { (drawn : List ℕ) →
-            IfSome (quiet_poll (protocol self.old.config) now (view_of self.old.client drawn))
-            (λ once. HasPolledQuietly (protocol self.old.config) once
-            (run_answer plain_state result) (view_of self.new.client drawn)
+        ensures { IsRun protocol plain_state needs_memory now result self.old self.new
             (W.left words.old) (W.left words.new) (L.shown link.old) (L.shown link.new)
-            (L.faults link.old) (L.faults link.new)) }
-        ensures errors { IfErr result (λ error. (error ≡ timed_out) ⊎ (error ≡ no_memory)) }
-        ensures cause { OnTimeout (run_answer plain_state result) ((drawn : List ℕ) →
-            (is_stopped self.old.client.standing.phase ||
-            limit_is_over (protocol self.old.config) now (view_of self.old.client drawn))
-            ≡ true) }
-        ensures config { self.new.config ≡ self.old.config }
-        ensures timeout { self.new.client.timeout_sec ≡ self.old.client.timeout_sec }
-        ensures moment { UnlessNoMemory (run_answer plain_state result)
-            (self.new.client.last_moment ≡ now) }
-        ensures state { OnErr result (self.new.client.state ≡ self.old.client.state) }
-        ensures still { run_answer plain_state result ≡ Ok None → IsStill now
-            self.old.client self.new.client (L.faults link.old) (L.faults link.new) }
-        ensures reported { IfOk (run_answer plain_state result) (λ change. IfSome change
-            (λ reported. reported ≡ public_state self.new.client.state)) }
-
-        // out of memory: as at entry, or right after the send
-        ensures memory { OnNoMemory (run_answer plain_state result)
-            (IsUnsent self.old.client self.new.client (L.shown link.old) (L.shown link.new)
-            ⊎ IsSent (protocol self.old.config) now
-            (λ drawn. begin_stay (protocol self.old.config) now (view_of self.old.client drawn))
-            self.new.client (W.left words.old) (L.shown link.old) (L.shown link.new)) }
-        ensures needed { OnNoMemory (run_answer plain_state result)
-            (is_unpolled self.old.client.standing.phase ≡ false →
-            has_come now self.old.client.standing.deadline ≡ false →
-            NeedsMemory needs_memory self.old.client (L.shown link.old)) }
-
-        ensures due { OnNoMemory (run_answer plain_state result) (IfSome (W.left words.old)
-            (λ drawn. (has_come now (begin_stay (protocol self.old.config) now
-            (view_of self.old.client drawn)).deadline ≡ true)
-            ⊎ NeedsMemory needs_memory self.old.client (L.shown link.old))) }
-
-        // one message and one packet at most
-        ensures uses { IfSome (L.shown link.old) (λ before. IsSomeAnd (L.shown link.new)
-            (λ after. UsesLink (is_listening self.old.client.standing.phase) before after)) }
-        ensures later { L.faults link.old ≤ L.faults link.new }
+            (L.faults link.old) (L.faults link.new) }
     {
         answer_of(run(&self.rules, &mut self.client, now, words, link))
     }
@@ -187,11 +110,7 @@ impl DhcpV4Client {
     /// Drops the lease, the offer, the attempt and a kept error: the client searches anew, with its
     /// transaction id and its retry count as they are.
     pub fn clean_up(&mut self)
-        ensures client { (drawn : List ℕ) → view_of self.new.client drawn
-            ≡ machine.clean_up (protocol self.old.config) (view_of self.old.client drawn) }
-        ensures config { self.new.config ≡ self.old.config }
-        ensures timeout { self.new.client.timeout_sec ≡ self.old.client.timeout_sec }
-        ensures moment { self.new.client.last_moment ≡ self.old.client.last_moment }
+        ensures { IsCleanUp protocol self.old self.new }
     {
         clean_up(&self.rules, &mut self.client);
     }
@@ -200,19 +119,7 @@ impl DhcpV4Client {
     /// such a poll does nothing; at or after it a poll returns a change or `Timeout`, sends, or
     /// begins a pause. None if and only if an error is kept. Does not allocate.
     pub fn next_poll(&self) -> Option<u64>
-        ensures moment { result ≡ schedule.next_poll (protocol self.now.config) self.now.client }
-        ensures before { (now : ℕ) (refuse : Bool) (drawn : List ℕ) →
-            is_stopped self.now.client.standing.phase ≡ false →
-            self.now.client.last_moment ≤ now → has_come now result ≡ false →
-            IsIdle (protocol self.now.config) now (view_of self.now.client drawn)
-            (poll (protocol self.now.config) now refuse Nothing
-            (view_of self.now.client drawn)) }
-        ensures after { (now : ℕ) (refuse : Bool) (drawn : List ℕ) →
-            has_come now result ≡ true →
-            IsActive (view_of self.now.client drawn)
-            (poll (protocol self.now.config) now refuse Nothing
-            (view_of self.now.client drawn)) }
-        ensures stopped { is_some result ≡ not (is_stopped self.now.client.standing.phase) }
+        ensures { IsNextPoll protocol result self.now }
     {
         next_poll(&self.rules, &self.client)
     }

@@ -3,10 +3,8 @@
 
 ghost use Rattle.std.specs.Prelude.{◌≡◌, ◌≤◌, ℕ, All, Option};
 ghost use Rattle.dhcp_clock.specs.declared.link.Packet.{Packet};
-ghost use Rattle.dhcp_history.specs.declared.script.Event.{Event};
-ghost use Rattle.dhcp_history.specs.Bounds.{IsWithinState, count_of, is_change, is_send, poll_count};
-ghost use Rattle.dhcp_history.specs.History.{history, outputs};
-ghost use Rattle.dhcp_history.specs.Machine.{View, polls, replay};
+ghost use Rattle.dhcp_history.specs.History.{history};
+ghost use Rattle.dhcp_history.specs.Laws.{HasSevenPolls, HasTwoMessages, IsNeverOverdue, PollsGiveTheHistory};
 ghost use Rattle.dhcp_history.specs.Protocol.{Lawful};
 ghost use Rattle.dhcp_history.specs.Script.{Script};
 ghost use Rattle.dhcp4_lease.specs.Config.{Config};
@@ -30,9 +28,7 @@ pub fn table_is_lawful()
 /// What the calls and polls of a client report over a script, event by event, is what the history
 /// of the script reports.
 pub fn polls_give_the_history(client: &DhcpV4Client)
-    ensures { (script : Script Packet ClientState Exchange) →
-        replay (protocol client.now.config) script
-        ≡ outputs (protocol client.now.config) (history (protocol client.now.config) script) }
+    ensures { PollsGiveTheHistory (protocol client.now.config) }
 {
     table_is_lawful();
     laws::polls_give_the_history(&client.rules);
@@ -40,10 +36,7 @@ pub fn polls_give_the_history(client: &DhcpV4Client)
 
 /// At an event the client is polled at most seven times, and changes its state at most six times.
 pub fn seven_polls_an_event(client: &DhcpV4Client)
-    ensures polls { (fuel : ℕ) (event : Event Packet) (view : View ClientState Exchange) →
-        poll_count (protocol client.now.config) fuel event view ≤ 7 }
-    ensures changes { (fuel : ℕ) (event : Event Packet) (view : View ClientState Exchange) →
-        count_of is_change (polls (protocol client.now.config) fuel event view).outputs ≤ 6 }
+    ensures { HasSevenPolls (protocol client.now.config) }
 {
     table_is_lawful();
     laws::seven_polls_an_event(&client.rules);
@@ -51,8 +44,7 @@ pub fn seven_polls_an_event(client: &DhcpV4Client)
 
 /// At an event the polls of the client hand at most two messages to the link.
 pub fn two_messages_an_event(client: &DhcpV4Client)
-    ensures { (fuel : ℕ) (event : Event Packet) (view : View ClientState Exchange) →
-        count_of is_send (polls (protocol client.now.config) fuel event view).outputs ≤ 2 }
+    ensures { HasTwoMessages (protocol client.now.config) }
 {
     table_is_lawful();
     laws::two_messages_an_event(&client.rules);
@@ -61,9 +53,7 @@ pub fn two_messages_an_event(client: &DhcpV4Client)
 /// After the polls of an event a client without a kept error is not in BOUND at or past T1, in
 /// RENEWING at or past T2, or in REBINDING at or past the end of its lease.
 pub fn no_state_is_overdue(client: &DhcpV4Client)
-    ensures { (event : Event Packet) (view : View ClientState Exchange) →
-        IsWithinState (protocol client.now.config) event.moment
-        (polls (protocol client.now.config) 7 event view).view }
+    ensures { IsNeverOverdue (protocol client.now.config) }
 {
     table_is_lawful();
     laws::no_state_is_overdue(&client.rules);

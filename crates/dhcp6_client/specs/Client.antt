@@ -3,7 +3,7 @@ use Rattle.std.specs.Prelude.{◌≡◌, ◌==◌, ◌&&◌, ◌||◌, ℕ, List
 use Rattle.std.specs.Option.{option_map_or}
 use Rattle.dhcp_clock.specs.Words.{Drawn, undrawn, drawn_word, drawn_then}
 use Rattle.dhcp_history.specs.BoundLease.{Bound}
-use Rattle.dhcp_history.specs.declared.client.Client.{Client}
+use Rattle.dhcp_history.specs.Calls as calls
 use Rattle.dhcp_history.specs.Client.{standing_anew, unpolled}
 use Rattle.dhcp6_msg.specs.declared.mode.DhcpV6Mode.{DhcpV6Mode}
 use Rattle.dhcp6_msg.specs.declared.mode.DhcpV6Mode.TheVariants.{NonTemporaryAddresses, TemporaryAddresses, PrefixDelegation}
@@ -16,9 +16,8 @@ use Rattle.dhcp6_client.specs.declared.client_state.Exchange.{Exchange}
 use Rattle.dhcp6_client.specs.Rules.{bound_state, new_id, restarted}
 
 -- what contracts see of a client: its configuration, and the client of its rules
-pub record ClientParts : Type 0 where
-  pub config : Config
-  pub client : Client ClientState Exchange
+abbrev pub ClientParts : Type 0
+ClientParts = calls.ClientParts Config ClientState Exchange
 
 -- Whether a client can begin with this configuration and this lease: there is an interface and an
 -- address to send from, the identifier is absent or can be sent, what it sends fits its options,

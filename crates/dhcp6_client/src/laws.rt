@@ -3,10 +3,8 @@
 
 ghost use Rattle.std.specs.Prelude.{◌≡◌, ◌≤◌, ℕ, All};
 ghost use Rattle.dhcp_clock.specs.declared.link.Packet.{Packet};
-ghost use Rattle.dhcp_history.specs.declared.script.Event.{Event};
-ghost use Rattle.dhcp_history.specs.Bounds.{IsWithinState, count_of, is_change, is_send, poll_count};
-ghost use Rattle.dhcp_history.specs.History.{history, outputs};
-ghost use Rattle.dhcp_history.specs.Machine.{View, polls, replay};
+ghost use Rattle.dhcp_history.specs.History.{history};
+ghost use Rattle.dhcp_history.specs.Laws.{HasSevenPolls, HasTwoMessages, IsNeverOverdue, PollsGiveTheHistory};
 ghost use Rattle.dhcp_history.specs.Protocol.{Lawful};
 ghost use Rattle.dhcp_history.specs.Script.{Script};
 ghost use Rattle.dhcp6_msg.specs.Config.{Config};
@@ -28,9 +26,7 @@ pub fn table_is_lawful()
 /// What the calls and polls of a client report over a script, event by event, is what the history
 /// of the script reports.
 pub fn polls_give_the_history(client: &DhcpV6Client)
-    ensures { (script : Script Packet ClientState Exchange) →
-        replay (protocol client.now.config) script
-        ≡ outputs (protocol client.now.config) (history (protocol client.now.config) script) }
+    ensures { PollsGiveTheHistory (protocol client.now.config) }
 {
     table_is_lawful();
     laws::polls_give_the_history(&client.rules);
@@ -38,10 +34,7 @@ pub fn polls_give_the_history(client: &DhcpV6Client)
 
 /// At an event the client is polled at most seven times, and changes its state at most six times.
 pub fn seven_polls_an_event(client: &DhcpV6Client)
-    ensures polls { (fuel : ℕ) (event : Event Packet) (view : View ClientState Exchange) →
-        poll_count (protocol client.now.config) fuel event view ≤ 7 }
-    ensures changes { (fuel : ℕ) (event : Event Packet) (view : View ClientState Exchange) →
-        count_of is_change (polls (protocol client.now.config) fuel event view).outputs ≤ 6 }
+    ensures { HasSevenPolls (protocol client.now.config) }
 {
     table_is_lawful();
     laws::seven_polls_an_event(&client.rules);
@@ -49,8 +42,7 @@ pub fn seven_polls_an_event(client: &DhcpV6Client)
 
 /// At an event the polls of the client hand at most two messages to the link.
 pub fn two_messages_an_event(client: &DhcpV6Client)
-    ensures { (fuel : ℕ) (event : Event Packet) (view : View ClientState Exchange) →
-        count_of is_send (polls (protocol client.now.config) fuel event view).outputs ≤ 2 }
+    ensures { HasTwoMessages (protocol client.now.config) }
 {
     table_is_lawful();
     laws::two_messages_an_event(&client.rules);
@@ -60,9 +52,7 @@ pub fn two_messages_an_event(client: &DhcpV6Client)
 /// T1, or its end if it is of temporary addresses, is not in Renew at or past T2, and not in Rebind
 /// at or past the end of its lease.
 pub fn no_state_is_overdue(client: &DhcpV6Client)
-    ensures { (event : Event Packet) (view : View ClientState Exchange) →
-        IsWithinState (protocol client.now.config) event.moment
-        (polls (protocol client.now.config) 7 event view).view }
+    ensures { IsNeverOverdue (protocol client.now.config) }
 {
     table_is_lawful();
     laws::no_state_is_overdue(&client.rules);

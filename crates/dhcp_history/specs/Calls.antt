@@ -1,5 +1,5 @@
--- What the calls of a client promise, a record for each. Contracts see a client with its
--- configuration, and that has its protocol.
+-- What the calls of a client promise, a record for each: first those of a client of some rules, then
+-- those of a client with its configuration, which are the same at the protocol that it has.
 use Rattle.std.specs.Prelude.{◌≡◌, ◌≤◌, ◌⊎◌, ◌||◌, ℕ, List, [], Bool, true, false, not, Option, None, is_some, if◌then◌else◌, Result, Ok, OnOk, OnErr, IfOk, IfErr, IfSome, IsSomeAnd}
 use Rattle.dhcp_wire.specs.Error.{ErrorParts, no_memory}
 use Rattle.dhcp_wire.specs.Fault.{HasCause}
@@ -21,162 +21,170 @@ use Rattle.dhcp_history.specs.Release.{HasReleased, UnlessUnreleased}
 use Rattle.dhcp_history.specs.Run.{input_of, quiet_poll, HasPolled, HasPolledQuietly, IsSent, IsStill, IsUnsent, NeedsMemory, OnNoMemory, OnTimeout, UnlessNoMemory, UsesLink, WhereKnown}
 use Rattle.dhcp_history.specs.Schedule.{HasNextAttempt, IsActive, IsIdle, next_poll}
 
+-- 1. The calls of a client of some rules.
+
+module _ {PublicState State Exchange Answer Lease : Type 0}
+    (p : Protocol PublicState Packet Handed State Exchange Answer Lease) where
+  -- One poll. Its answer is given as the rules have it; words and link may be known or not.
+  pub record Polls (needs_memory : State → Exchange → Packet → Bool) (now : ℕ)
+      (answer : Result (Option PublicState) RunError) (old new : Client State Exchange)
+      (drawn left : Option (List ℕ)) (before after : Option Shown) (failed failed' : ℕ) :
+      Type 0 where
+    -- where words and link are known, this is the poll of the protocol
+    pub polled : UnlessNoMemory answer (WhereKnown drawn before (λ words shown.
+        HasPolled p (poll p now shown.refuses (input_of shown.waiting) (view_of old words))
+        answer (view_of new) left shown after))
+    -- over all words and links: the steps that use neither
+    pub quiet : (words : List ℕ) → IfSome (quiet_poll p now (view_of old words)) (λ once.
+        HasPolledQuietly p once answer (view_of new words)
+        drawn left before after failed failed')
+    -- the time limit is over, now or since an earlier poll
+    pub cause : OnTimeout answer ((words : List ℕ) →
+        (is_stopped old.standing.phase || limit_is_over p now (view_of old words)) ≡ true)
+    pub timeout : new.timeout_sec ≡ old.timeout_sec
+    -- the client keeps the moment, unless out of memory
+    pub moment : UnlessNoMemory answer (new.last_moment ≡ now)
+    pub state : OnErr answer (new.state ≡ old.state)
+    -- without a change nothing is due yet, or an attempt is open, or the link refused
+    pub still : answer ≡ Ok None → IsStill now old new failed failed'
+    -- a change is that to the new state
+    pub reported : IfOk answer (λ change. IfSome change (λ reported.
+        reported ≡ p.public_state new.state))
+    -- in a state in which it sends, a client that was polled there has a next attempt
+    pub armed : HasNextAttempt p.has_attempts old → HasNextAttempt p.has_attempts new
+    -- out of memory: as at entry, or right after the send
+    pub memory : OnNoMemory answer (IsUnsent old new before after
+        ⊎ IsSent p now (λ words. begin_stay p now (view_of old words)) new drawn before after)
+    -- with no attempt due, only the reading of a packet needs memory
+    pub needed : OnNoMemory answer (is_unpolled old.standing.phase ≡ false →
+        has_come now old.standing.deadline ≡ false → NeedsMemory needs_memory old before)
+    -- so too at the first poll of a state, where the words are known
+    pub due : OnNoMemory answer (IfSome drawn (λ words.
+        (has_come now (begin_stay p now (view_of old words)).deadline ≡ true)
+        ⊎ NeedsMemory needs_memory old before))
+    -- one message and one packet at most
+    pub uses : IfSome before (λ shown. IsSomeAnd after (λ later.
+        UsesLink (is_listening old.standing.phase) shown later))
+    pub later : failed ≤ failed'
+
+  -- A clean-up.
+  pub record CleansUp (old new : Client State Exchange) : Type 0 where
+    pub client : (drawn : List ℕ) → view_of new drawn ≡ clean_up p (view_of old drawn)
+    pub timeout : new.timeout_sec ≡ old.timeout_sec
+    pub moment : new.last_moment ≡ old.last_moment
+    pub armed : HasNextAttempt p.has_attempts new
+
+  -- What every release keeps: a client whose lease was not released is as it was but for its last
+  -- moment, and that too when out of memory.
+  pub record KeepsUnreleased {Returned : Type 0} (now : ℕ) (result : Result Returned ErrorParts)
+      (old new : Client State Exchange) (failed failed' : ℕ) : Type 0 where
+    -- the link failed once more if it refused the message, and only then
+    pub faults : HasCause (sent_of result ≡ sent.Refused) failed failed'
+    pub timeout : new.timeout_sec ≡ old.timeout_sec
+    pub state : OnErr result (new.state ≡ old.state)
+    pub standing : OnErr result (new.standing ≡ old.standing)
+    pub armed : HasNextAttempt p.has_attempts old → HasNextAttempt p.has_attempts new
+    pub moment : UnlessUnreleased (release_answer result) (new.last_moment ≡ now)
+
+  -- A release whose message this is, whatever its errors.
+  pub record HandsRelease {Returned : Type 0} (message : Handed) (now : ℕ)
+      (result : Result Returned ErrorParts) (old new : Client State Exchange)
+      (before after : Option Shown) (failed failed' : ℕ) : Type 0 where
+    pub kept : KeepsUnreleased now result old new failed failed'
+    pub open kept use *
+    pub handed : HandsOver message (sent_of result) before after
+    -- the link took the message: a clean-up follows
+    pub cleaned : OnOk result ((drawn : List ℕ) →
+        view_of new drawn ≡ clean_up p (view_of old drawn))
+
+  -- A release whose message this is.
+  pub record Releases {Returned : Type 0} (message : Handed) (now : ℕ)
+      (result : Result Returned ErrorParts) (old new : Client State Exchange)
+      (before after : Option Shown) (failed failed' : ℕ) : Type 0 where
+    pub hands : HandsRelease message now result old new before after failed failed'
+    pub open hands use *
+    pub errors : IfErr result (λ error. (error ≡ send_refused) ⊎ (error ≡ no_memory))
+
+  -- The release of the lease that is held, if one is.
+  pub record ReleasesHeld (now : ℕ) (result : Result Bool ErrorParts)
+      (old new : Client State Exchange) (before after : Option Shown) (failed failed' : ℕ) :
+      Type 0 where
+    pub kept : KeepsUnreleased now result old new failed failed'
+    pub open kept use *
+    -- where the link is known, this is the release of the protocol
+    pub released : UnlessUnreleased (release_answer result) (IfSome before (λ shown.
+        (drawn : List ℕ) → HasReleased (release.release_held p shown.refuses (view_of old drawn))
+        (release_answer result) (view_of new drawn) shown after))
+    -- it returns whether a lease was held
+    pub held : IfOk result (λ released. released ≡ is_some (p.held_lease old.state))
+    -- a clean-up follows if one was
+    pub cleaned : IfOk result (λ released. (drawn : List ℕ) → view_of new drawn ≡
+        (if released then clean_up p (view_of old drawn) else view_of old drawn))
+    pub errors : IfErr result (λ error. (error ≡ send_refused) ⊎ (error ≡ no_memory))
+
+  -- The moment at which a poll next does something without a packet.
+  pub record HasNextPoll (result : Option ℕ) (client : Client State Exchange) : Type 0 where
+    pub moment : result ≡ next_poll p client
+    -- before it a poll without a packet does nothing
+    pub before : (now : ℕ) (refuse : Bool) (drawn : List ℕ) →
+        is_stopped client.standing.phase ≡ false → client.last_moment ≤ now →
+        has_come now result ≡ false →
+        IsIdle p now (view_of client drawn) (poll p now refuse Nothing (view_of client drawn))
+    -- at or after it, it does something
+    pub after : (now : ℕ) (refuse : Bool) (drawn : List ℕ) → has_come now result ≡ true →
+        IsActive (view_of client drawn) (poll p now refuse Nothing (view_of client drawn))
+
+-- 2. The calls of a client with its configuration.
+
 -- what contracts see of a client: its configuration, and the client of its rules
 pub record ClientParts (Config State Exchange : Type 0) : Type 0 where
   pub config : Config
   pub client : Client State Exchange
 
--- a client with this configuration
-abbrev pub parts : {Config State Exchange : Type 0} → Config → Client State Exchange →
-    ClientParts Config State Exchange
-parts config client = record { config = config; client = client }
-
 module _ {Config PublicState State Exchange Answer Lease : Type 0}
     (protocol : Config → Protocol PublicState Packet Handed State Exchange Answer Lease) where
-  -- One poll. Its answer is given as the rules have it; words and link may be known or not.
-  pub record IsPoll (needs_memory : State → Exchange → Packet → Bool) (now : ℕ)
-      (answer : Result (Option PublicState) RunError) (old new : ClientParts Config State Exchange)
-      (drawn left : Option (List ℕ)) (before after : Option Shown) (failed failed' : ℕ) :
-      Type 0 where
-    -- where words and link are known, this is the poll of the protocol
-    pub polled : UnlessNoMemory answer (WhereKnown drawn before (λ words shown.
-        HasPolled (protocol old.config)
-        (poll (protocol old.config) now shown.refuses (input_of shown.waiting)
-        (view_of old.client words))
-        answer (view_of new.client) left shown after))
-    -- over all words and links: the steps that use neither
-    pub quiet : (words : List ℕ) →
-        IfSome (quiet_poll (protocol old.config) now (view_of old.client words)) (λ once.
-        HasPolledQuietly (protocol old.config) once answer (view_of new.client words)
-        drawn left before after failed failed')
-    -- the time limit is over, now or since an earlier poll
-    pub cause : OnTimeout answer ((words : List ℕ) → (is_stopped old.client.standing.phase ||
-        limit_is_over (protocol old.config) now (view_of old.client words)) ≡ true)
-    pub config : new.config ≡ old.config
-    pub timeout : new.client.timeout_sec ≡ old.client.timeout_sec
-    -- the client keeps the moment, unless out of memory
-    pub moment : UnlessNoMemory answer (new.client.last_moment ≡ now)
-    pub state : OnErr answer (new.client.state ≡ old.client.state)
-    -- without a change nothing is due yet, or an attempt is open, or the link refused
-    pub still : answer ≡ Ok None →
-        IsStill now old.client new.client failed failed'
-    -- a change is that to the new state
-    pub reported : IfOk answer (λ change. IfSome change (λ reported.
-        reported ≡ (protocol old.config).public_state new.client.state))
-    -- in a state in which it sends, a client that was polled there has a next attempt
-    pub armed : HasNextAttempt (protocol old.config).has_attempts old.client →
-        HasNextAttempt (protocol old.config).has_attempts new.client
-    -- out of memory: as at entry, or right after the send
-    pub memory : OnNoMemory answer (IsUnsent old.client new.client before after
-        ⊎ IsSent (protocol old.config) now
-        (λ words. begin_stay (protocol old.config) now (view_of old.client words)) new.client
-        drawn before after)
-    -- with no attempt due, only the reading of a packet needs memory
-    pub needed : OnNoMemory answer (is_unpolled old.client.standing.phase ≡ false →
-        has_come now old.client.standing.deadline ≡ false →
-        NeedsMemory needs_memory old.client before)
-    -- so too at the first poll of a state, where the words are known
-    pub due : OnNoMemory answer (IfSome drawn (λ words.
-        (has_come now (begin_stay (protocol old.config) now (view_of old.client words)).deadline
-        ≡ true) ⊎ NeedsMemory needs_memory old.client before))
-    -- one message and one packet at most
-    pub uses : IfSome before (λ shown. IsSomeAnd after (λ later.
-        UsesLink (is_listening old.client.standing.phase) shown later))
-    pub later : failed ≤ failed'
-
   -- One poll, with the errors of a client's calls. What it returns is seen as a public state.
   pub record IsRun {Returned : Type 0} (view : Returned → PublicState)
       (needs_memory : State → Exchange → Packet → Bool) (now : ℕ)
       (result : Result (Option Returned) ErrorParts) (old new : ClientParts Config State Exchange)
       (drawn left : Option (List ℕ)) (before after : Option Shown) (failed failed' : ℕ) :
       Type 0 where
-    pub poll : IsPoll needs_memory now (run_answer view result) old new
-        drawn left before after failed failed'
-    pub open poll use *
+    pub polls : Polls (protocol old.config) needs_memory now (run_answer view result)
+        old.client new.client drawn left before after failed failed'
+    pub open polls use *
     pub errors : IfErr result (λ error. (error ≡ timed_out) ⊎ (error ≡ no_memory))
+    pub config : new.config ≡ old.config
 
   -- A clean-up.
   pub record IsCleanUp (old new : ClientParts Config State Exchange) : Type 0 where
-    pub client : (drawn : List ℕ) → view_of new.client drawn ≡
-        clean_up (protocol old.config) (view_of old.client drawn)
+    pub cleans : CleansUp (protocol old.config) old.client new.client
+    pub open cleans use *
     pub config : new.config ≡ old.config
-    pub timeout : new.client.timeout_sec ≡ old.client.timeout_sec
-    pub moment : new.client.last_moment ≡ old.client.last_moment
-    pub armed : HasNextAttempt (protocol old.config).has_attempts new.client
-
-  -- What every release keeps: nothing but the moment of a client whose lease was not released, and
-  -- not even that when out of memory.
-  pub record KeepsUnreleased {Returned : Type 0} (now : ℕ) (result : Result Returned ErrorParts)
-      (old new : ClientParts Config State Exchange) (failed failed' : ℕ) : Type 0 where
-    -- the link failed once more if it refused the message, and only then
-    pub faults : HasCause (sent_of result ≡ sent.Refused) failed failed'
-    pub config : new.config ≡ old.config
-    pub timeout : new.client.timeout_sec ≡ old.client.timeout_sec
-    pub state : OnErr result (new.client.state ≡ old.client.state)
-    pub standing : OnErr result (new.client.standing ≡ old.client.standing)
-    pub armed : HasNextAttempt (protocol old.config).has_attempts old.client →
-        HasNextAttempt (protocol old.config).has_attempts new.client
-    pub moment : UnlessUnreleased (release_answer result) (new.client.last_moment ≡ now)
-
-  -- A release whose message this is, whatever its errors.
-  pub record HandsRelease {Returned : Type 0} (message : Handed) (now : ℕ)
-      (result : Result Returned ErrorParts) (old new : ClientParts Config State Exchange)
-      (before after : Option Shown) (failed failed' : ℕ) : Type 0 where
-    pub kept : KeepsUnreleased now result old new failed failed'
-    pub open kept use *
-    pub handed : HandsOver message (sent_of result) before after
-    -- the link took the message: a clean-up follows
-    pub cleaned : OnOk result ((drawn : List ℕ) → view_of new.client drawn ≡
-        clean_up (protocol old.config) (view_of old.client drawn))
 
   -- A release whose message this is.
   pub record IsRelease {Returned : Type 0} (message : Handed) (now : ℕ)
       (result : Result Returned ErrorParts) (old new : ClientParts Config State Exchange)
       (before after : Option Shown) (failed failed' : ℕ) : Type 0 where
-    pub release : HandsRelease message now result old new before after failed failed'
-    pub open release use *
-    pub errors : IfErr result (λ error. (error ≡ send_refused) ⊎ (error ≡ no_memory))
+    pub releases : Releases (protocol old.config) message now result old.client new.client
+        before after failed failed'
+    pub open releases use *
+    pub config : new.config ≡ old.config
 
   -- The release of the lease that is held, if one is.
   pub record IsHeldRelease (now : ℕ) (result : Result Bool ErrorParts)
       (old new : ClientParts Config State Exchange) (before after : Option Shown)
       (failed failed' : ℕ) : Type 0 where
-    pub kept : KeepsUnreleased now result old new failed failed'
-    pub open kept use *
-    -- where the link is known, this is the release of the protocol
-    pub released : UnlessUnreleased (release_answer result) (IfSome before (λ shown.
-        (drawn : List ℕ) → HasReleased (release.release_held (protocol old.config) shown.refuses
-        (view_of old.client drawn)) (release_answer result) (view_of new.client drawn) shown after))
-    -- it returns whether a lease was held
-    pub held : IfOk result (λ released.
-        released ≡ is_some ((protocol old.config).held_lease old.client.state))
-    -- a clean-up follows if one was
-    pub cleaned : IfOk result (λ released. (drawn : List ℕ) → view_of new.client drawn ≡
-        (if released then clean_up (protocol old.config) (view_of old.client drawn)
-        else view_of old.client drawn))
-    pub errors : IfErr result (λ error. (error ≡ send_refused) ⊎ (error ≡ no_memory))
+    pub releases : ReleasesHeld (protocol old.config) now result old.client new.client
+        before after failed failed'
+    pub open releases use *
+    pub config : new.config ≡ old.config
 
-  -- The moment at which a poll next does something without a packet.
-  pub record HasNextPoll (result : Option ℕ) (seen : ClientParts Config State Exchange) :
+  -- The moment of the next poll. A client always has one, unless an error is kept.
+  pub record IsNextPoll (result : Option ℕ) (parts : ClientParts Config State Exchange) :
       Type 0 where
-    pub moment : result ≡ next_poll (protocol seen.config) seen.client
-    -- before it a poll without a packet does nothing
-    pub before : (now : ℕ) (refuse : Bool) (drawn : List ℕ) →
-        is_stopped seen.client.standing.phase ≡ false →
-        seen.client.last_moment ≤ now → has_come now result ≡ false →
-        IsIdle (protocol seen.config) now (view_of seen.client drawn)
-        (poll (protocol seen.config) now refuse Nothing (view_of seen.client drawn))
-    -- at or after it, it does something
-    pub after : (now : ℕ) (refuse : Bool) (drawn : List ℕ) → has_come now result ≡ true →
-        IsActive (view_of seen.client drawn)
-        (poll (protocol seen.config) now refuse Nothing (view_of seen.client drawn))
-
-  -- The same of a client that always has such a moment, unless an error is kept.
-  pub record IsNextPoll (result : Option ℕ) (seen : ClientParts Config State Exchange) :
-      Type 0 where
-    pub next : HasNextPoll result seen
+    pub next : HasNextPoll (protocol parts.config) result parts.client
     pub open next use *
-    pub stopped : is_some result ≡ not (is_stopped seen.client.standing.phase)
+    pub stopped : is_some result ≡ not (is_stopped parts.client.standing.phase)
 
   -- The events of a script, played. What is returned has these outputs as its items.
   pub record IsReplay {Returned : Type 0} (result : Result Returned ErrorParts)

@@ -18,7 +18,7 @@ ghost use Rattle.dhcp_history.specs.Machine.{
   transmit_and_receive,
   poll,
 };
-ghost use Rattle.dhcp_history.specs.Calls.{IsPoll, parts};
+ghost use Rattle.dhcp_history.specs.Calls.{Polls};
 ghost use Rattle.dhcp_history.specs.Schedule.{HasNextAttempt};
 ghost use Rattle.dhcp_history.specs.Client.{view_of, view_with, unpolled, silent};
 ghost use Rattle.dhcp_history.specs.Run.{input_of, sent_by, UsesLink, WhereKnown, UnlessNoMemory, OnNoMemory, OnTimeout, HasPolled, HasReceived, HasTransmitted, HasDrawn, HasDue, quiet_poll, HasPolledQuietly, IsShut, IsStill, NeedsMemory, IsUnsent, IsSent};
@@ -304,8 +304,8 @@ pub fn run<R: Rules, W: Words, L: DhcpLink>(
     link: &mut L,
 ) -> Result<Option<R::PublicState>, RunError>
     requires { now < 2 ^ 60 }
-    ensures { IsPoll R.protocol (R.needs_memory rules.now) now result
-        (parts rules.now client.old) (parts rules.now client.new)
+    ensures { Polls (R.protocol rules.now) (R.needs_memory rules.now) now result
+        client.old client.new
         (W.left words.old) (W.left words.new) (L.shown link.old) (L.shown link.new)
         (L.faults link.old) (L.faults link.new) }
 {

@@ -4,7 +4,7 @@ ghost use Rattle.std.specs.Prelude.{◌≡◌, ℕ, List, true, is_some, if◌th
 ghost use Rattle.dhcp_wire.specs.Fault.{HasCause};
 ghost use Rattle.dhcp_clock.specs.Link.{HandsOver};
 ghost use Rattle.dhcp_history.specs.Machine.{clean_up};
-ghost use Rattle.dhcp_history.specs.Calls.{IsCleanUp, parts};
+ghost use Rattle.dhcp_history.specs.Calls.{CleansUp};
 ghost use Rattle.dhcp_history.specs.Client.{view_of};
 ghost use Rattle.dhcp_history.specs.Schedule.{HasNextAttempt};
 ghost use Rattle.dhcp_history.specs.Errors.{sent_when};
@@ -25,7 +25,7 @@ pub enum ReleaseError {
 
 /// Drops lease, attempt and error.
 pub fn clean_up<R: Rules>(rules: &R, client: &mut Client<R::State, R::Exchange>)
-    ensures { IsCleanUp R.protocol (parts rules.now client.old) (parts rules.now client.new) }
+    ensures { CleansUp (R.protocol rules.now) client.old client.new }
 {
     let mut exchange = client.standing.exchange;
     rules.after_clean_up(&mut client.state, &mut exchange);

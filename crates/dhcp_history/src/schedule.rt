@@ -1,7 +1,7 @@
 //! When a client next does something without a packet.
 
 ghost use Rattle.std.specs.Prelude.{◌≡◌};
-ghost use Rattle.dhcp_history.specs.Calls.{HasNextPoll, parts};
+ghost use Rattle.dhcp_history.specs.Calls.{HasNextPoll};
 ghost use Rattle.dhcp_history.specs.History.{limit_moment};
 ghost use Rattle.dhcp_history.specs.Schedule.{earlier, next_moment};
 
@@ -44,7 +44,7 @@ fn next_moment<R: Rules>(rules: &R, client: &Client<R::State, R::Exchange>) -> O
 /// poll without a packet does nothing; at or after it a poll answers a change or the error, sends,
 /// or begins a pause. It is none where the client has stopped, or nothing lies ahead in its state.
 pub fn next_poll<R: Rules>(rules: &R, client: &Client<R::State, R::Exchange>) -> Option<u64>
-    ensures { HasNextPoll R.protocol result (parts rules.now client.now) }
+    ensures { HasNextPoll (R.protocol rules.now) result client.now }
 {
     match client.standing.phase {
         Phase::Stopped => None,

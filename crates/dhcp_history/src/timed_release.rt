@@ -2,7 +2,7 @@
 
 ghost use Rattle.std.specs.Prelude.{◌≡◌, ◌⊎◌, IfErr};
 ghost use Rattle.dhcp_wire.specs.Error.{no_memory};
-ghost use Rattle.dhcp_history.specs.Calls.{IsHeldRelease, IsRelease, parts};
+ghost use Rattle.dhcp_history.specs.Calls.{Releases, ReleasesHeld};
 ghost use Rattle.dhcp_history.specs.Errors.{release_answer, send_refused};
 ghost use Rattle.dhcp_history.specs.Release.{UnlessUnreleased};
 
@@ -20,8 +20,7 @@ pub fn release_at<R: Rules, L: DhcpLink>(
     now: u64,
     link: &mut L,
 ) -> Result<(), DhcpError>
-    ensures { IsRelease R.protocol message now result
-        (parts rules.now client.old) (parts rules.now client.new)
+    ensures { Releases (R.protocol rules.now) message now result client.old client.new
         (L.shown link.old) (L.shown link.new) (L.faults link.old) (L.faults link.new) }
 {
     let released = release_by(rules, client, message, link);
@@ -37,8 +36,7 @@ pub fn release_held_at<R: Rules, L: DhcpLink>(
     now: u64,
     link: &mut L,
 ) -> Result<bool, DhcpError>
-    ensures { IsHeldRelease R.protocol now result
-        (parts rules.now client.old) (parts rules.now client.new)
+    ensures { ReleasesHeld (R.protocol rules.now) now result client.old client.new
         (L.shown link.old) (L.shown link.new) (L.faults link.old) (L.faults link.new) }
 {
     let released = release_held(rules, client, link);

@@ -1,7 +1,6 @@
 //! The events of a script, played over a link in memory.
 
-ghost use Rattle.std.specs.Prelude.{◌≡◌, ◌<◌, ◌^◌, All, [], IfErr, IfOk, IfSome};
-ghost use Rattle.dhcp_wire.specs.Error.{no_memory};
+ghost use Rattle.std.specs.Prelude.{◌<◌, ◌^◌, All};
 
 use super::DhcpV6Client;
 use crate::state::ReportedState;
@@ -10,15 +9,8 @@ use dhcp_history::{Event, Output, replay};
 use dhcp_wire::DhcpError;
 
 impl DhcpV6Client {
-    ghost use Rattle.dhcp_clock.specs.declared.link.Packet.{Packet};
-    ghost use Rattle.dhcp_history.specs.Client.{view_of};
-    ghost use Rattle.dhcp_history.specs.EventLoop.{HasReported, events_at};
-    ghost use Rattle.dhcp_history.specs.History.{history, outputs};
-    ghost use Rattle.dhcp_history.specs.Machine.{first_view};
-    ghost use Rattle.dhcp_history.specs.Script.{Script};
+    ghost use Rattle.dhcp_history.specs.Calls.{IsReplay};
     ghost use Rattle.dhcp6_client.specs.Rules.{protocol};
-    ghost use Rattle.dhcp6_client.specs.declared.client_state.ClientState.{ClientState};
-    ghost use Rattle.dhcp6_client.specs.declared.client_state.Exchange.{Exchange};
 
     /// Plays the events of a script over a link in memory: at each event what it asks for, a
     /// release or a clean-up, and then polls until nothing changes any more. Returns what happened,
@@ -29,17 +21,8 @@ impl DhcpV6Client {
         events: Vec<Event<Packet>>,
     ) -> Result<Vec<Output<ReportedState, Handed>>, DhcpError>
         requires { All (λ event. event.moment < 2 ^ 60) events.items }
-        ensures reported { IfOk result (λ reported. IfSome (W.left words.old) (λ drawn.
-            HasReported (events_at (protocol self.old.config)
-            (view_of self.old.client drawn) events.items)
-            [] reported.items (view_of self.new.client) (W.left words.new))) }
-        ensures history { IfOk result (λ reported. IfSome (W.left words.old) (λ drawn.
-            (script : Script Packet ClientState Exchange) →
-            view_of self.old.client drawn ≡ first_view script → script.events ≡ events.items →
-            reported.items ≡ outputs (protocol self.old.config)
-            (history (protocol self.old.config) script))) }
-        ensures config { self.new.config ≡ self.old.config }
-        ensures error { IfErr result (λ error. error ≡ no_memory) }
+        ensures { IsReplay protocol result (λ reported. reported.items) events.items
+            self.old self.new (W.left words.old) (W.left words.new) }
     {
         crate::laws::table_is_lawful();
         let outputs = match replay(

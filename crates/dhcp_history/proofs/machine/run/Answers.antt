@@ -13,7 +13,6 @@ returns-then-is_stopped g c = record {
       rw (quiet_stopped (g.R.Rules.protocol c.args.rules.now) c.args.now (view_of c.args.client.now drawn) (sym c.is_stopped.ensures ∙ c.if-is_stopped.true))
       (record { answer = refl; client = rw (stopped_phase c.args.client.now.standing.phase (sym c.is_stopped.ensures ∙ c.if-is_stopped.true)); words = refl; link = refl; faults = refl });
   cause = search rules;
-  config = refl;
   timeout = search rules;
   moment = search rules;
   state = search rules;
@@ -35,7 +34,6 @@ returns-then-limit_is_over g c = record {
       rw (quiet_over (g.R.Rules.protocol c.args.rules.now) c.args.now (view_of c.args.client.now drawn) (sym c.is_stopped.ensures ∙ c.if-is_stopped.false) (sym (c.limit_is_over.ensures drawn) ∙ c.if-limit_is_over.true))
       (record { answer = refl; client = refl; words = refl; link = refl; faults = refl });
   cause = search rules;
-  config = refl;
   timeout = search rules;
   moment = search rules;
   state = search rules;
@@ -70,7 +68,6 @@ returns-then-has_ended g c = record {
         faults = refl;
       });
   cause = search rules;
-  config = refl;
   timeout = search rules;
   moment = search rules;
   state = search rules;
@@ -100,7 +97,6 @@ returns-then-has_come g c = record {
       (due_busy p c.args.now c.args.client.now c.begin_stay-begun.result drawn c.begin_stay-begun.ensures.polled c.begin_stay-begun.ensures.silent (sym c.has_come.ensures ∙ c.if-has_come.true)))
       tt;
   cause = search rules;
-  config = refl;
   timeout = search rules;
   moment = search rules;
   state = search rules;
@@ -136,7 +132,6 @@ returns g c = record {
       (sym c.is_stopped.ensures ∙ c.if-is_stopped.false) (sym (c.limit_is_over.ensures drawn) ∙ c.if-limit_is_over.false) (sym (c.has_ended.ensures drawn) ∙ c.if-has_ended.false)
       c.begin_stay-begun.ensures.polled c.begin_stay-begun.ensures.silent c.receive_early.ensures.timeout c.receive_early.ensures.shut;
   cause = search rules;
-  config = refl;
   timeout = search rules;
   moment = search rules;
   state = search rules;

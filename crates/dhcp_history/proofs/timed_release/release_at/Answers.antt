@@ -12,7 +12,7 @@ on_answer (Err error) released P same h = tt
 
 pub returns : goal.returns
 returns g c = record {
-  release = record {
+  hands = record {
     kept = search rules;
     handed = search rules;
     cleaned =

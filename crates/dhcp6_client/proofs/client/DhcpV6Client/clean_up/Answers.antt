@@ -1,5 +1,6 @@
--- After a clean-up a client was not polled in its state yet.
+-- The clean-up of the rules, of the client that contracts see.
+use Rattle.std.proofs.Common.{refl}
 use Rattle.dhcp6_client.proofs.client.DhcpV6Client.clean_up.Goals as goal
 
-pub returns-clause-client : goal.returns-clause-client
-returns-clause-client c = rw (← c.self.view_is) c.clean_up.ensures.client
+pub returns : goal.returns
+returns c = rw (← c.self.view_is) (record { cleans = c.clean_up.ensures; config = refl })
