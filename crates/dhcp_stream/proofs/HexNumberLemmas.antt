@@ -1,5 +1,5 @@
 -- Numbers of a field in hex are one to one with their bytes.
-use Rattle.std.proofs.Common.{◌≡◌, ℕ, ◌<◌, ◌≤◌, List, [], ◌∷◌, ◌++◌, length, drop, Option, Some, None, unwrap_or, Result, Ok, Err, refl, sym, ap, ◌∙◌, append_assoc, append-nil, length-append, arith}
+use Rattle.std.proofs.Common.{◌≡◌, ℕ, ◌<◌, List, [], ◌∷◌, ◌++◌, length, drop, Option, Some, None, unwrap_or, Result, Ok, Err, sym, ap, ◌∙◌, append_assoc, append-nil, length-append, arith}
 use Rattle.std.specs.Prelude.{All}
 use Rattle.std.specs.Int.{Width, to_be_bytes}
 use Rattle.std.specs.List.{flat_map}
@@ -41,9 +41,9 @@ module _ {A : Type 0} (spelled : A → List ℕ) where
       omega arith
   numbers-not len long (x ∷ xs) (y ∷ ys) left short some e =
       numbers-not len long xs ys left short some (
-        sym (drop_at (spelled y) (flat_map spelled ys) len (long y))
-        ∙ ap (drop len) (e ∙ append_assoc (spelled x) (flat_map spelled xs) left)
-        ∙ drop_at (spelled x) (flat_map spelled xs ++ left) len (long x)
+      sym (drop_at (spelled y) (flat_map spelled ys) len (long y))
+      ∙ ap (drop len) (e ∙ append_assoc (spelled x) (flat_map spelled xs) left)
+      ∙ drop_at (spelled x) (flat_map spelled xs ++ left) len (long x)
       )
 
   module _ (are_bytes : (x : A) → IsBytes (spelled x)) where

@@ -1,5 +1,5 @@
 -- IPv6 addresses are one to one with their octets.
-use Rattle.std.proofs.Common.{◌≡◌, ℕ, zero, suc, ◌+◌, ◌*◌, ◌/◌, ◌%◌, ◌<◌, ◌^◌, List, [], ◌∷◌, length, slice_index, refl, sym, ap, ◌∙◌, arith}
+use Rattle.std.proofs.Common.{◌≡◌, ℕ, zero, suc, ◌+◌, ◌*◌, ◌/◌, ◌%◌, ◌<◌, ◌^◌, List, [], ◌∷◌, length, slice_index, refl, ap, ◌∙◌, arith}
 use Rattle.std.specs.Net.Addr.{IsIpv6Addr, ipv6_octets, ipv6_segments, octets_of, segments_of}
 use Rattle.std.specs.declared.net.Ipv6Addr.{Ipv6Addr}
 use Rattle.hex.specs.Hex.{IsBytes, encode_lower}
@@ -18,6 +18,13 @@ octets_of-segments_of (suc n) (a ∷ b ∷ octets) long fit =
     let high : (a * 256 + b) / 256 ≡ a = omega arith in
     let low : (a * 256 + b) % 256 ≡ b = omega arith in
     rw (high, low, octets_of-segments_of n octets (omega arith) (λ i. fit (suc (suc i)))) refl
+
+-- and two octets for each segment are those that it has
+pub segments_of-octets_of : (segments : List ℕ) → ((k : ℕ) → slice_index segments k < 2 ^ 16) → segments_of (octets_of segments) ≡ segments
+segments_of-octets_of [] small = refl
+segments_of-octets_of (segment ∷ segments) small =
+    let whole : segment / 256 * 256 + segment % 256 ≡ segment = omega arith in
+    rw (whole, segments_of-octets_of segments (λ k. small (suc k))) refl
 
 -- half as many segments as octets
 length-segments_of : (n : ℕ) (octets : List ℕ) → length octets ≡ 2 * n → length (segments_of octets) ≡ n

@@ -1,6 +1,6 @@
 -- The bytes of a number of a width.
-use Rattle.std.proofs.Common.{◌≡◌, ℕ, zero, suc, List, [], ◌∷◌, ◌++◌, length, arith}
-use Rattle.std.specs.Int.{Width, byte_len, bytes_high_first, to_be_bytes}
+use Rattle.std.proofs.Common.{◌≡◌, ◌<◌, ℕ, zero, suc, List, [], ◌∷◌, ◌++◌, length, arith}
+use Rattle.std.specs.Int.{Width, byte_at, byte_len, bytes_high_first, to_be_bytes}
 use Rattle.hex.specs.Hex.{IsBytes}
 use Rattle.dhcp_wire.proofs.FieldLaws.{length-bytes_high_first}
 
@@ -9,9 +9,13 @@ pub length-to_be_bytes : (width : Width) (number : ℕ) → length (to_be_bytes 
 length-to_be_bytes width number = length-bytes_high_first (byte_len width) number
 
 -- each of them is a byte
+byte_at-small : (k number : ℕ) → byte_at k number < 256
+byte_at-small zero number = omega arith
+byte_at-small (suc k) number = omega arith
+
 IsBytes-high_first : (k number : ℕ) → IsBytes (bytes_high_first k number)
 IsBytes-high_first zero number i = omega arith
-IsBytes-high_first (suc k) number zero = omega arith
+IsBytes-high_first (suc k) number zero = byte_at-small k number
 IsBytes-high_first (suc k) number (suc i) = IsBytes-high_first k number i
 
 pub IsBytes-to_be_bytes : (width : Width) (number : ℕ) → IsBytes (to_be_bytes width number)

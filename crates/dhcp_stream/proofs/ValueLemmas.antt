@@ -1,5 +1,5 @@
 -- What each kind of field gives, and how its values are printed, undo each other.
-use Rattle.std.proofs.Common.{◌≡◌, ◌≢◌, ℕ, zero, suc, ◌*◌, ◌<◌, ◌≤◌, ◌^◌, ◌==◌, Bool, true, false, List, [], ◌∷◌, ◌++◌, length, map, get_or, Option, Some, None, option_map, unwrap_or, Result, Ok, Err, refl, sym, ap, ◌∙◌, append_assoc, append-nil, length-append, eq-eqb, arith, codes}
+use Rattle.std.proofs.Common.{◌≡◌, ℕ, zero, suc, ◌*◌, ◌<◌, ◌≤◌, ◌^◌, ◌==◌, Bool, true, false, List, [], ◌∷◌, ◌++◌, length, map, get_or, Option, Some, None, option_map, unwrap_or, Result, Ok, Err, refl, ap, ◌∙◌, append_assoc, length-append, eq-eqb, arith}
 use Rattle.std.specs.Prelude.{All, nat_le, nat_lt, ok_or, IfOk}
 use Rattle.std.specs.List.{list_all, slice_split}
 use Rattle.std.specs.Fmt.{decimal}
@@ -7,9 +7,8 @@ use Rattle.std.specs.Int.{Width, w16, w32, byte_len, from_be_bytes, to_be_bytes}
 use Rattle.std.specs.Net.Addr.{IsIpv4Addr, IsIpv6Addr, ipv4_octets, ipv6_octets, ipv6_segments, segments_of}
 use Rattle.std.specs.Net.Text.{ipv4_text}
 use Rattle.std.specs.Result.{result_unwrap_or}
-use Rattle.std.specs.Str.{IsUtf8, is_utf8}
+use Rattle.std.specs.Str.{is_utf8}
 use Rattle.std.specs.Str.Parse.{AllDigits, digits_value}
-use Rattle.std.specs.declared.net.Ipv4Addr.{Ipv4Addr}
 use Rattle.std.specs.declared.net.Ipv6Addr.{Ipv6Addr}
 use Rattle.std.proofs.lemmas.Bool.{and_parts, eqb-true, le-leb, leb-true, ltb-true, lt-ltb, ne_eqb}
 use Rattle.std.proofs.lemmas.Fmt.{decimal_is_IsNumeral, digits_value-decimal}
@@ -22,7 +21,7 @@ use Rattle.hex.specs.declared.error.FromHexError.{FromHexError}
 use Rattle.hex.proofs.HexLemmas.{decode_of-encode_lower, decode_of-ok}
 use Rattle.dhcp_wire.specs.Error.{ErrorParts}
 use Rattle.dhcp_wire.specs.Field.{Read, address_of, bytes_at, ipv6_address_of, number_at}
-use Rattle.dhcp_wire.proofs.FieldLaws.{HasBigEndian, big_endian_16, big_endian_32, bytes_at_cut, bytes_at_short, number_at-to_be_bytes, segments_of-octets_of}
+use Rattle.dhcp_wire.proofs.FieldLaws.{HasBigEndian, big_endian_16, big_endian_32, bytes_at_cut, bytes_at_short, number_at-to_be_bytes}
 use Rattle.dhcp_stream.specs.HexText.{AreOctets, AreOfWidth, AreWords, IsMac, IsText, address6_text, hex_text, number_bytes, numbers_text, words_text}
 use Rattle.dhcp_stream.specs.Number.{address_text}
 use Rattle.dhcp_stream.specs.Reading.{IsReading, GivesReading}
@@ -30,7 +29,7 @@ use Rattle.dhcp_stream.specs.declared.text_reader.ReadError.{ReadError}
 use Rattle.dhcp_stream.specs.declared.text_reader.ReadError.TheVariants.{Malformed}
 use Rattle.dhcp_stream.specs.TextReader.{address6_in, address_in, are_octets, checked, hex_bytes, hex_in, hex_utf8_in, mac_in, number_in, numbers_in, numbers_of, numbers_within, words_in, field_at, in_field, Finds, IsFound, Takes}
 use Rattle.dhcp_stream.proofs.CodecLaws.{IsValue, IsValue-checked, by_reading}
-use Rattle.dhcp_stream.proofs.Ipv6Lemmas.{AreOctets-ipv6, segments-small}
+use Rattle.dhcp_stream.proofs.Ipv6Lemmas.{AreOctets-ipv6, segments_of-octets_of, segments-small}
 use Rattle.dhcp_stream.proofs.HexNumberLemmas.{IsBytes-number_bytes}
 use Rattle.dhcp_stream.proofs.NumberBytes.{IsBytes-front, IsBytes-rest, length-to_be_bytes}
 

@@ -94,10 +94,7 @@ impl Number for u16 {
 }
 
 // The numbers of a field in lower-case hex.
-fn numbers_field<N: Number>(
-    alloc: Global,
-    field: &[u8],
-) -> Result<Option<Sequence<N>>, DhcpError>
+fn numbers_field<N: Number>(alloc: Global, field: &[u8]) -> Result<Option<Sequence<N>>, DhcpError>
     ensures { GivesReading
         (λ numbers. hex_text (flat_map (λ n. to_be_bytes N.width (N.value n)) numbers))
         (All (λ n. N.value n < 2 ^ (8 * byte_len N.width))) result field.now }

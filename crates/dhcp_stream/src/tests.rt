@@ -174,7 +174,10 @@ fn words_and_codes_are_read_from_their_digits(rt: HostRuntime) -> Result<(), Fai
 #[test]
 fn ipv6_addresses_are_32_lower_case_digits(rt: HostRuntime) -> Result<(), Fail> {
     let address = Ipv6Addr::new(0xfe80, 0, 0, 0, 0, 0, 0, 0xa);
-    assert_eq!(rt; ipv6_field(b"fe80000000000000000000000000000a"), Some(address));
+    assert_eq!(rt;
+        ipv6_field(b"fe80000000000000000000000000000a"),
+        Some(address)
+    );
     for field in [
         "",
         "-",
