@@ -3,7 +3,14 @@
 ghost use Rattle.std.specs.Prelude.{◌≡◌, ◌≤◌, [], ◌∷◌, ◌++◌, codes, IfOk, OnOk, string_bytes};
 ghost use Rattle.std.specs.Int.{w16};
 ghost use Rattle.std.specs.List.{flat_map};
-ghost use Rattle.dhcp_stream.specs.TextReader.{hex_in, in_field, number_in, numbers_in, Finds, Takes};
+ghost use Rattle.dhcp_stream.specs.TextReader.{
+  hex_in,
+  in_field,
+  number_in,
+  numbers_in,
+  Finds,
+  Takes,
+};
 ghost use Rattle.dhcp_script.specs.FieldReader.{flag_in, items_in};
 ghost use Rattle.dhcp_script.specs.Lease6Reader.{ia_type_in};
 

@@ -4,7 +4,13 @@ ghost use Rattle.std.specs.Prelude.{◌<◌, ◌*◌, ◌^◌, All};
 ghost use Rattle.std.specs.Int.{w16, byte_len, to_be_bytes};
 ghost use Rattle.std.specs.List.{flat_map};
 ghost use Rattle.dhcp_stream.specs.Reading.{GivesReading};
-ghost use Rattle.dhcp_stream.specs.HexText.{hex_text, numbers_text, words_text, AreOfWidth, AreWords};
+ghost use Rattle.dhcp_stream.specs.HexText.{
+  hex_text,
+  numbers_text,
+  words_text,
+  AreOfWidth,
+  AreWords,
+};
 
 use crate::hex_field;
 use dhcp_wire::{DhcpError, Sequence};

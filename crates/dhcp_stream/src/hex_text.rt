@@ -5,7 +5,13 @@ ghost use Rattle.std.specs.List.{AllPass};
 ghost use Rattle.std.specs.Net.Addr.{IsIpv6Addr};
 ghost use Rattle.hex.specs.Hex.{IsBytes, encode_lower};
 ghost use Rattle.dhcp_stream.specs.Reading.{IsReading, GivesReading};
-ghost use Rattle.dhcp_stream.specs.HexText.{address6_text, hex_text, is_lower_digit, AreOctets, IsMac};
+ghost use Rattle.dhcp_stream.specs.HexText.{
+  address6_text,
+  hex_text,
+  is_lower_digit,
+  AreOctets,
+  IsMac,
+};
 
 use dhcp_wire::{Bytes, DhcpError};
 use hex::{FromHex, FromHexError};

@@ -1,6 +1,7 @@
 //! The printer of the script of an IPv6 client.
 
-ghost use Rattle.std.specs.Prelude.{◌≡◌, ◌++◌, OnOk, codes, string_bytes};
+ghost use Rattle.std.specs.Prelude.{◌≡◌, ◌++◌, ◌∷◌, [], OnOk, codes, string_bytes};
+ghost use Rattle.dhcp_stream.specs.HexText.{address6_text};
 ghost use Rattle.dhcp_stream.specs.Line.{line};
 ghost use Rattle.dhcp_script.specs.declared.version.Version.TheVariants.{Two};
 ghost use Rattle.dhcp_script.specs.Script6.{
@@ -49,12 +50,21 @@ fn push_iface(text: &mut String, script: &Script6) -> Result<(), AllocError>
     let index = script.iface_index;
     let timeout_sec = script.timeout_sec;
     write!(text, "iface {index} ")?;
+    push_addresses(text, script)?;
+    push_mode(text, script.mode)?;
+    write!(text, " {timeout_sec}\n")
+}
+
+// Puts the address and the MAC address of a client at the end of a text, each with a space after
+// it.
+fn push_addresses(text: &mut String, script: &Script6) -> Result<(), AllocError>
+    ensures { OnOk result (string_bytes text.new ≡ string_bytes text.old
+        ++ (address6_text script.now.src_ip ++ 32 ∷ (mac_text script.now.mac ++ 32 ∷ []))) }
+{
     push_octets(text, &script.src_ip.octets())?;
     text.push(' ')?;
     push_mac(text, &script.mac)?;
-    text.push(' ')?;
-    push_mode(text, script.mode)?;
-    write!(text, " {timeout_sec}\n")
+    text.push(' ')
 }
 
 // Puts a MAC address, or `-` for none, at the end of a text.
