@@ -2,6 +2,7 @@
 use Rattle.std.proofs.Common.{◌≡◌, ◌≢◌, ℕ, ◌<◌, ◌≤◌, ◌^◌, Bool, true, false, List, [], ◌∷◌, ◌++◌, map, Option, Some, None, slice_index, sym, ap, ◌∙◌, arith, codes}
 use Rattle.std.specs.Prelude.{All, IfSome}
 use Rattle.std.specs.Fmt.{decimal}
+use Rattle.std.specs.Int.{Width}
 use Rattle.std.specs.List.{join_with_byte}
 use Rattle.std.specs.Net.Addr.{IsIpv4Addr, ipv4_octets}
 use Rattle.std.specs.declared.net.Ipv4Addr.{Ipv4Addr}
@@ -9,12 +10,12 @@ use Rattle.std.proofs.lemmas.Bool.{false≢true}
 use Rattle.std.proofs.lemmas.Bool.Decides.{nat_tests}
 use Rattle.std.proofs.lemmas.List.Elements.{All-append, All-cons, All-head, All-nil, All-tail, All-weaker}
 use Rattle.hex.specs.Hex.{IsBytes, encode_lower}
-use Rattle.dhcp_stream.specs.HexText.{hex_text, is_lower_digit, word_bytes, words_text, AreWords}
+use Rattle.dhcp_stream.specs.HexText.{hex_text, is_lower_digit, number_bytes, numbers_text}
 use Rattle.dhcp_stream.specs.Number.{address_text}
 use Rattle.dhcp_stream.proofs.CodecLaws.{HasNo}
+use Rattle.dhcp_stream.proofs.HexNumberLemmas.{IsBytes-number_bytes}
 use Rattle.dhcp_stream.proofs.HexTextLemmas.{AllPass-encode_lower}
 use Rattle.dhcp_stream.proofs.ValueLemmas.{All-decimal}
-use Rattle.dhcp_stream.proofs.WordLemmas.{IsBytes-word_bytes}
 use Rattle.dhcp4_msg.specs.declared.route.DhcpV4ClasslessRoute.{DhcpV4ClasslessRoute}
 use Rattle.dhcp_script.specs.Field.{flag_text, list_text, or_word}
 use Rattle.dhcp_script.specs.Lease4.{IsRoute, route_text}
@@ -44,9 +45,9 @@ HasNo-hex_text end [] fits below =
     All-cons other 45 [] (λ e. omega arith) (All-nil other)
 HasNo-hex_text end (byte ∷ bytes) fits below = HasNo-encode_lower end (byte ∷ bytes) fits (omega arith)
 
--- words in hex, or `-`
-pub HasNo-words_text : (end : ℕ) (words : List ℕ) → AreWords words → end < 45 → HasNo end (words_text words)
-HasNo-words_text end words fits below = HasNo-hex_text end (word_bytes words) (IsBytes-word_bytes words fits) below
+-- numbers of a width in hex, or `-`
+pub HasNo-numbers_text : (width : Width) (end : ℕ) (numbers : List ℕ) → end < 45 → HasNo end (numbers_text width numbers)
+HasNo-numbers_text width end numbers below = HasNo-hex_text end (number_bytes width numbers) (IsBytes-number_bytes width numbers) below
 
 -- one word or another
 pub HasNo-flag : (end : ℕ) (set unset : List ℕ) → HasNo end set → HasNo end unset → (flag : Bool) → HasNo end (flag_text set unset flag)

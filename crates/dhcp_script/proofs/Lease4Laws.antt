@@ -1,19 +1,13 @@
--- The fields of a lease are read in one way alone.
-use Rattle.std.proofs.Common.{◌≡◌, ◌≢◌, ℕ, zero, suc, ◌<◌, ◌≤◌, ◌^◌, ◌==◌, Bool, true, false, cond, List, [], ◌∷◌, ◌++◌, length, map, get_or, Option, Some, None, option_map, unwrap_or, refl, sym, subst, ap, ◌∙◌, append_assoc, eq-eqb, arith, codes}
+-- The fields of a lease of an IPv4 script are read in one way alone.
+use Rattle.std.proofs.Common.{◌≡◌, ◌≢◌, ℕ, zero, suc, ◌<◌, ◌≤◌, ◌^◌, List, [], ◌∷◌, ◌++◌, get_or, Option, Some, None, refl, sym, subst, ap, append_assoc, arith, codes}
 use Rattle.std.specs.Prelude.{All, IfSome}
 use Rattle.std.specs.Fmt.{decimal}
-use Rattle.std.specs.List.{slice_split, join_with_byte}
 use Rattle.std.specs.Net.Addr.{IsIpv4Addr, ipv4_octets}
-use Rattle.std.specs.Str.{bytes_eq}
 use Rattle.std.specs.declared.net.Ipv4Addr.{Ipv4Addr}
-use Rattle.std.proofs.lemmas.Slice.Eq.{bytes_eq-Decides}
-use Rattle.std.proofs.lemmas.List.Elements.{All-cons, All-nil, All-head, All-tail}
-use Rattle.std.proofs.lemmas.List.Splits.{slice_split_at, slice_split_none, join_with_byte-slice_split, length-slice_split}
-use Rattle.dhcp_wire.specs.Field.{Read, ◌>>=◌}
 use Rattle.dhcp_stream.specs.HexText.{IsText, hex_text}
 use Rattle.dhcp_stream.specs.Number.{address_text}
-use Rattle.dhcp_stream.specs.TextReader.{address_in, hex_utf8_in, in_field, made_of, number_in, tag_at}
-use Rattle.dhcp_stream.proofs.CodecLaws.{HasNo, HasNo-test, IsCodec, IsCodec-as, IsCodec-both, IsCodec-in_field, IsCodec-made_of, IsValue, IsValue-as, bind_some, map_some, moved, same_read, tag_at-none, tag_at-sound}
+use Rattle.dhcp_stream.specs.TextReader.{address_in, hex_utf8_in, in_field, number_in}
+use Rattle.dhcp_stream.proofs.CodecLaws.{HasNo, HasNo-test, IsCodec, IsCodec-as, IsCodec-both, IsCodec-in_field, IsCodec-made_of, IsValue, IsValue-as, same_read}
 use Rattle.dhcp_stream.proofs.ValueLemmas.{IsValue-address, IsValue-hex_utf8, IsValue-number}
 use Rattle.dhcp4_lease.specs.Lease.{empty_lease}
 use Rattle.dhcp4_msg.specs.Message.{no_address}
@@ -28,114 +22,13 @@ use Rattle.dhcp_script.specs.declared.lease4.reader.LeaseNames.{LeaseNames}
 use Rattle.dhcp_script.specs.declared.lease4.reader.LeaseLater.{LeaseLater}
 use Rattle.dhcp_script.specs.declared.version.Version.{Version}
 use Rattle.dhcp_script.specs.declared.version.Version.TheVariants.{One, Two}
-use Rattle.dhcp_script.specs.Lease4Reader.{addresses_at, addresses_of, held_lease4_at, later_at, later_of, lease4_at, lease4_of, link_at, link_of, names_at, names_of, no_later, servers_at, servers_of, times_at, times_of}
-use Rattle.dhcp_script.specs.FieldReader.{each_in, if_tag, items_in, list_in, route_in, route_of, then_value, word_or}
+use Rattle.dhcp_script.specs.Lease4Reader.{addresses_at, addresses_of, later_at, later_of, lease4_at, lease4_of, link_at, link_of, names_at, names_of, no_later, servers_at, servers_of, times_at, times_of}
+use Rattle.dhcp_script.specs.FieldReader.{held_at, list_in, route_in, route_of, word_or}
 use Rattle.dhcp_script.specs.Lease4.{HasLeaseText, IsLease4, IsRoute, addresses_text, first_alone, lease_text, route_text, versioned_lease_text}
 use Rattle.dhcp_script.specs.Version.{end_of_times}
-use Rattle.dhcp_script.proofs.Clear.{HasNo-address, HasNo-decimal, HasNo-hex, HasNo-list, HasNo-number, HasNo-or_word, HasNo-route, other_word}
-use Rattle.dhcp_script.proofs.FieldLemmas.{IsValue-word_or, fail_test, other_text}
-
--- ---- what is read from the front of a field, and what the rest gives
-
-pub IsValue-then : {A B : Type 0} {print : A → List ℕ} {Fits : A → Type 0} {read : List ℕ → Read A}
-    {print' : B → List ℕ} {Fits' : B → Type 0} {value : List ℕ → Option B} → IsCodec print Fits read → IsValue print' Fits' value
-    → IsValue (λ (p : A × B). print p.0 ++ print' p.1) (λ p. Fits p.0 × Fits' p.1) (then_value read value)
-IsValue-then {A} {B} {print} {Fits} {read} {print'} {Fits'} {value} first second = record {
-  sound = λ field p h.
-      let x = bind_some (read field) (λ x. value x.1 >>= λ y. Some (x.0, y)) p h in
-      let y = bind_some (value x.0.1) (λ y. Some (x.0.0, y)) p x.2 in
-      let one = first.sound field x.0.0 x.0.1 x.1 in
-      let two = second.sound x.0.1 y.0 y.1 in
-      let pair : A × B = (x.0.0, y.0) in
-      let same : pair ≡ p = ap (λ (o : Option (A × B)). unwrap_or o pair) y.2 in
-      rw (← same) (ap (λ xs. print x.0.0 ++ xs) two.0 ∙ sym one.0, (one.1, two.1));
-  complete = λ p fits.
-      rw (first.complete p.0 (print' p.1) fits.0, second.complete p.1 fits.1) refl;
-}
-
--- a value that is made of what a field gives
-pub IsValue-made_of : {A B : Type 0} {print : A → List ℕ} {Fits : A → Type 0} {value : List ℕ → Option A} → IsValue print Fits value
-    → (make : A → B) (take_apart : B → A) → ((x : A) → take_apart (make x) ≡ x) → ((y : B) → make (take_apart y) ≡ y)
-    → IsValue (λ y. print (take_apart y)) (λ y. Fits (take_apart y)) (λ field. option_map make (value field))
-IsValue-made_of {A} {B} {print} {Fits} {value} is make take_apart there back = record {
-  sound = λ field y h.
-      let step = map_some make (value field) y h in
-      let one = is.sound field step.0 step.1 in
-      let apart : take_apart y ≡ step.0 = ap take_apart (sym step.2) ∙ there step.0 in
-      rw apart one;
-  complete = λ y fits.
-      rw (is.complete (take_apart y) fits, back y) refl;
-}
-
--- ---- lists
-
--- parts with a byte between them that they do not hold
-split_join : (end : ℕ) (first : List ℕ) (parts : List (List ℕ)) → HasNo end first → All (HasNo end) parts
-    → slice_split (λ byte. byte == end) (join_with_byte end (first ∷ parts)) ≡ first ∷ parts
-split_join end first [] whole all = slice_split_none (λ byte. byte == end) first (fail_test end first whole)
-split_join end first (second ∷ parts) whole all =
-    slice_split_at (λ byte. byte == end) first end (join_with_byte end (second ∷ parts)) (fail_test end first whole) (eq-eqb end end refl)
-    ∙ ap (λ rest. first ∷ rest) (split_join end second parts (All-head (HasNo end) second parts all) (All-tail (HasNo end) second parts all))
-
-module _ {A : Type 0} {print : A → List ℕ} {Fits : A → Type 0} {value : List ℕ → Option A} (is : IsValue print Fits value) where
-  each_complete : (xs : List A) → All Fits xs → each_in value (map print xs) ≡ Some xs
-  each_complete [] fit = refl
-  each_complete (x ∷ xs) fit =
-      rw (is.complete x (All-head Fits x xs fit), each_complete xs (All-tail Fits x xs fit)) refl
-
-  each_sound : (fields : List (List ℕ)) (xs : List A) → each_in value fields ≡ Some xs → (map print xs ≡ fields) × All Fits xs
-  each_sound [] [] h = (refl, All-nil Fits)
-  each_sound [] (x ∷ xs) h = cc h
-  each_sound (field ∷ fields) xs h =
-      let x = bind_some (value field) (λ x. each_in value fields >>= λ xs. Some (x ∷ xs)) xs h in
-      let more = bind_some (each_in value fields) (λ xs. Some (x.0 ∷ xs)) xs x.2 in
-      let one = is.sound field x.0 x.1 in
-      let others = each_sound fields more.0 more.1 in
-      let same : x.0 ∷ more.0 ≡ xs = cc more.2 in
-      rw (← same) (ap (λ text. text ∷ map print more.0) one.0 ∙ ap (λ texts. field ∷ texts) others.0, All-cons Fits x.0 more.0 one.1 others.1)
-
-  module _ (clear : (x : A) → Fits x → HasNo 44 (print x)) (other : (x : A) → Fits x → print x ≢ codes "-") where
-    all_clear : (xs : List A) → All Fits xs → All (HasNo 44) (map print xs)
-    all_clear [] fit = All-nil (HasNo 44)
-    all_clear (x ∷ xs) fit = All-cons (HasNo 44) (print x) (map print xs) (clear x (All-head Fits x xs fit)) (all_clear xs (All-tail Fits x xs fit))
-
-    split_list : (x : A) (xs : List A) → All Fits (x ∷ xs) → slice_split (λ byte. byte == 44) (list_text print (x ∷ xs)) ≡ print x ∷ map print xs
-    split_list x xs fit = split_join 44 (print x) (map print xs) (clear x (All-head Fits x xs fit)) (all_clear xs (All-tail Fits x xs fit))
-
-    -- a list that is not empty is not `-`
-    list_text-other : (x : A) (xs : List A) → All Fits (x ∷ xs) → list_text print (x ∷ xs) ≢ codes "-"
-    list_text-other x xs fit e =
-        let split : print x ∷ map print xs ≡ codes "-" ∷ [] = sym (split_list x xs fit) ∙ ap (slice_split (λ byte. byte == 44)) e in
-        let first : print x ≡ codes "-" = cc split in
-        other x (All-head Fits x xs fit) first
-
-    list_complete : (xs : List A) → All Fits xs → list_in value (list_text print xs) ≡ Some xs
-    list_complete [] fit = refl
-    list_complete (x ∷ xs) fit =
-        rw (other_text (list_text print (x ∷ xs)) (codes "-") (list_text-other x xs fit))
-        (ap (each_in value) (split_list x xs fit) ∙ each_complete (x ∷ xs) fit)
-
-    list_sound : (field : List ℕ) (xs : List A) → list_in value field ≡ Some xs → (list_text print xs ≡ field) × All Fits xs
-    list_sound field xs h = by_test xs (bytes_eq field (codes "-")) refl h
-      where
-        joined : (xs : List A) → items_in value field ≡ Some xs → (list_text print xs ≡ field) × All Fits xs
-        joined [] h =
-            let parts = each_sound (slice_split (λ byte. byte == 44) field) [] h in
-            let none = ap length parts.0 in
-            let some = length-slice_split (λ byte. byte == 44) field in
-            absurd (omega arith)
-        joined (x ∷ xs) h =
-            let parts = each_sound (slice_split (λ byte. byte == 44) field) (x ∷ xs) h in
-            (ap (join_with_byte 44) parts.0 ∙ join_with_byte-slice_split 44 field, parts.1)
-
-        by_test : (xs : List A) (same : Bool) → bytes_eq field (codes "-") ≡ same → cond same (Some []) (items_in value field) ≡ Some xs
-            → (list_text print xs ≡ field) × All Fits xs
-        by_test [] true e h = (sym ((bytes_eq-Decides field (codes "-")).0 e), All-nil Fits)
-        by_test (x ∷ xs) true e h = cc h
-        by_test xs false e h = joined xs h
-
-    pub IsValue-list : IsValue (list_text print) (All Fits) (list_in value)
-    IsValue-list = record { sound = list_sound; complete = list_complete }
+use Rattle.dhcp_script.proofs.Clear.{HasNo-address, HasNo-decimal, HasNo-hex, HasNo-list, HasNo-number, HasNo-route, other_word}
+use Rattle.dhcp_script.proofs.HeldLaws.{BeginsOtherwise, IsCodec-held}
+use Rattle.dhcp_script.proofs.ValueLaws.{IsValue-list, IsValue-made_of, IsValue-then, end_of_times-below, optional, u32_field}
 
 -- ---- a route
 
@@ -164,19 +57,8 @@ routes =
     IsValue-list IsValue-route (λ route fits. HasNo-route 44 route fits (λ e. omega arith) (λ e. omega arith) (λ a b. omega arith))
     (λ route fits. other_word 45 [] (route_text route) (HasNo-route 45 route fits (λ e. omega arith) (λ e. omega arith) (λ a b. omega arith)))
 
--- a field that may be absent, up to its terminator
-optional : {A : Type 0} {print : A → List ℕ} {Fits : A → Type 0} {value : List ℕ → Option A} → IsValue print Fits value
-    → ((x : A) → Fits x → HasNo 110 (print x)) → (end : ℕ) → HasNo end (codes "none") → ((x : A) → Fits x → HasNo end (print x))
-    → IsCodec (λ o. unless_none print o ++ end ∷ []) (λ o. IfSome o Fits) (in_field (word_or (codes "none") value) end)
-optional {print = print} {Fits = Fits} is other end clear whole =
-    IsCodec-in_field (IsValue-word_or (codes "none") is (λ x fits. other_word 110 (codes "one") (print x) (other x fits))) end
-    (λ o fits. HasNo-or_word print Fits end (codes "none") clear whole o fits)
-
 address_field : IsCodec (λ address. address_text address ++ 32 ∷ []) IsIpv4Addr (in_field address_in 32)
 address_field = IsCodec-in_field IsValue-address 32 (λ address fits. HasNo-address 32 address fits (λ e. omega arith) (λ a b. omega arith))
-
-seconds_field : (end : ℕ) → end < 48 → IsCodec (λ n. decimal n ++ end ∷ []) (λ n. n ≤ 4294967295) (in_field (number_in 4294967295) end)
-seconds_field end below = IsCodec-in_field (IsValue-number 4294967295 (omega arith)) end (λ n small. HasNo-decimal end n (omega arith) below)
 
 broadcast_field : IsCodec (λ o. unless_none address_text o ++ 32 ∷ []) (λ o. IfSome o IsIpv4Addr) (in_field (word_or (codes "none") address_in) 32)
 broadcast_field =
@@ -231,15 +113,11 @@ times_print version x = (decimal x.t1_sec ++ 32 ∷ []) ++ ((decimal x.t2_sec ++
 TimesFit : LeaseTimes → Type 0
 TimesFit x = (x.t1_sec ≤ 4294967295) × ((x.t2_sec ≤ 4294967295) × (x.lease_time_sec ≤ 4294967295))
 
-end_of_times-below : (version : Version) → end_of_times version < 48
-end_of_times-below One = omega arith
-end_of_times-below Two = omega arith
-
 codec_times : (version : Version) → IsCodec (times_print version) TimesFit (times_at version)
 unfolding times_at times_parts times_print TimesFit
 codec_times version =
-    let spaced = seconds_field 32 (omega arith) in
-    IsCodec-made_of (IsCodec-both spaced (IsCodec-both spaced (seconds_field (end_of_times version) (end_of_times-below version)))) times_of times_parts (λ x. refl) (λ y. refl)
+    let spaced = u32_field 32 (omega arith) in
+    IsCodec-made_of (IsCodec-both spaced (IsCodec-both spaced (u32_field (end_of_times version) (end_of_times-below version)))) times_of times_parts (λ x. refl) (λ y. refl)
 
 link_parts : LeaseLink → Ipv4Addr × (Option Ipv4Addr × Option ℕ)
 link_parts x = (x.subnet_mask, (x.broadcast_addr, x.mtu))
@@ -421,63 +299,28 @@ IsCodec-lease version =
     IsCodec-as (IsCodec-made_of (IsCodec-both codec_addresses (IsCodec-both (codec_times version) (codec_later version))) lease4_of lease_parts (λ x. refl) (λ y. refl))
     (lease_line-is version) (fits_to version) (fits_from version)
 
--- a space is no `n`
-differ : (a b : ℕ) → a ≡ 32 → b ≡ 110 → a ≡ b → ⊥
-differ a b first second same = omega arith
-
--- what begins with a field that does not hold `n` does not begin with it
-no_n : (field rest more : List ℕ) → HasNo 110 field → field ++ 32 ∷ rest ≡ 110 ∷ more → ⊥
-no_n [] rest more whole e = differ _ _ refl refl (ap (λ (text : List ℕ). get_or text 0 0) e)
-no_n (byte ∷ field) rest more whole e =
-    All-head (λ byte. byte ≢ 110) byte field whole (ap (λ (text : List ℕ). get_or text 0 0) e)
-
 -- a lease that has a text is one
 is_lease : (version : Version) (lease : Lease4) → HasLeaseText version lease → IsLease4 lease
 is_lease One lease fits = fits.0
 is_lease Two lease fits = fits
 
 -- the text of a lease begins with its address
-begins : (version : Version) (lease : Lease4) → (more : List ℕ) × (versioned_lease_text version lease ≡ address_text lease.yiaddr ++ 32 ∷ more)
+begins_with : (version : Version) (lease : Lease4) → (more : List ℕ) × (versioned_lease_text version lease ≡ address_text lease.yiaddr ++ 32 ∷ more)
 unfolding lease_text
-begins One lease = (_, refl)
-begins Two lease = (_, refl)
+begins_with One lease = (_, refl)
+begins_with Two lease = (_, refl)
 
--- the text of a lease is not that of the word `none`
-lease_no_word : (version : Version) (lease : Lease4) (rest : List ℕ) → HasLeaseText version lease
-    → tag_at (codes "none\n") ((versioned_lease_text version lease ++ 10 ∷ []) ++ rest) ≡ None
-lease_no_word version lease rest fits =
-    let yiaddr = address_text lease.yiaddr in
-    let text = versioned_lease_text version lease in
-    let front = begins version lease in
-    tag_at-none (codes "none\n") ((text ++ 10 ∷ []) ++ rest)
-    (λ more e. no_n yiaddr (front.0 ++ 10 ∷ rest) _ (HasNo-address 110 lease.yiaddr (is_lease version lease fits).yiaddr (λ e. omega arith) (λ a b. omega arith))
-    (sym (append_assoc yiaddr (32 ∷ front.0) (10 ∷ rest)) ∙ ap (λ xs. xs ++ 10 ∷ rest) (sym front.1) ∙ sym (append_assoc text (10 ∷ []) rest) ∙ e))
+-- an address holds no `o`
+begins : (version : Version) (lease : Lease4) → HasLeaseText version lease → BeginsOtherwise (versioned_lease_text version lease)
+begins version lease fits =
+    let front = begins_with version lease in
+    record {
+      field = address_text lease.yiaddr;
+      more = front.0;
+      is = front.1;
+      clear = HasNo-address 111 lease.yiaddr (is_lease version lease fits).yiaddr (λ e. omega arith) (λ a b. omega arith);
+    }
 
 -- a lease or the word `none`, to the end of the line
-held_complete : (version : Version) (o : Option Lease4) (rest : List ℕ) → IfSome o (HasLeaseText version)
-    → held_lease4_at version ((unless_none (versioned_lease_text version) o ++ 10 ∷ []) ++ rest) ≡ Some (o, rest)
-unfolding held_lease4_at tag_at
-held_complete version None rest fits = refl
-held_complete version (Some lease) rest fits = rw (lease_no_word version lease rest fits, (IsCodec-lease version).complete lease rest fits) refl
-
-held_sound : (version : Version) (text : List ℕ) (o : Option Lease4) (rest : List ℕ) → held_lease4_at version text ≡ Some (o, rest)
-    → (text ≡ (unless_none (versioned_lease_text version) o ++ 10 ∷ []) ++ rest) × IfSome o (HasLeaseText version)
-unfolding held_lease4_at
-held_sound version text o rest h = by_tag o (tag_at (codes "none\n") text) refl h
-  where
-    Is : Option Lease4 → List ℕ → Type 0
-    Is o rest = (text ≡ (unless_none (versioned_lease_text version) o ++ 10 ∷ []) ++ rest) × IfSome o (HasLeaseText version)
-
-    by_tag : (o : Option Lease4) (tag : Read (Unit {0})) → tag_at (codes "none\n") text ≡ tag
-        → if_tag tag (λ rest. Some (None, rest)) (made_of Some (lease4_at version) text) ≡ Some (o, rest) → Is o rest
-    by_tag o (Some found) is h =
-        let parts = same_read None o found.1 rest h in
-        moved Is None o found.1 rest parts.0 parts.1 (tag_at-sound (codes "none\n") text found.1 is, tt)
-    by_tag o None is h =
-        let step = map_some (λ (read : Lease4 × List ℕ). (Some read.0, read.1)) (lease4_at version text) (o, rest) h in
-        let made : Some step.0.0 ≡ o = ap (λ (p : Option Lease4 × List ℕ). p.0) step.2 in
-        let more : step.0.1 ≡ rest = ap (λ (p : Option Lease4 × List ℕ). p.1) step.2 in
-        moved Is (Some step.0.0) o step.0.1 rest made more ((IsCodec-lease version).sound text step.0.0 step.0.1 step.1)
-
-pub IsCodec-held_lease : (version : Version) → IsCodec (λ o. unless_none (versioned_lease_text version) o ++ 10 ∷ []) (λ o. IfSome o (HasLeaseText version)) (held_lease4_at version)
-IsCodec-held_lease version = record { sound = held_sound version; complete = held_complete version }
+pub IsCodec-held_lease : (version : Version) → IsCodec (λ o. unless_none (versioned_lease_text version) o ++ 10 ∷ []) (λ o. IfSome o (HasLeaseText version)) (held_at (lease4_at version))
+IsCodec-held_lease version = IsCodec-held (IsCodec-lease version) (begins version)

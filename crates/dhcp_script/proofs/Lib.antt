@@ -1,9 +1,15 @@
 pub mod Clear
+pub mod CodesLaws
 pub mod DemoLaws
 pub mod FieldLemmas
+pub mod HeldLaws
 pub mod Lease4Laws
+pub mod Lease6Laws
 pub mod LifeLaws
 pub mod OutputLemmas
 pub mod PrintLemmas
+pub mod Script4Laws
+pub mod Script6Laws
 pub mod ScriptLaws
 pub mod Utf8
+pub mod ValueLaws

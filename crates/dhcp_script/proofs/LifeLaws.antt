@@ -1,29 +1,32 @@
 -- The lines of words, start and events are read in one way alone.
-use Rattle.std.proofs.Common.{◌≡◌, ◌≢◌, ℕ, zero, suc, ◌<◌, Bool, true, false, cond, List, [], ◌∷◌, ◌++◌, length, Some, None, option_map, refl, sym, ap, ◌∙◌, append_assoc, append-nil, length-append, arith, codes}
+use Rattle.std.proofs.Common.{◌≡◌, ◌≢◌, ℕ, zero, suc, ◌<◌, ◌≤◌, Bool, true, false, cond, List, [], ◌∷◌, ◌++◌, length, Some, None, option_map, refl, sym, ap, ◌∙◌, append_assoc, append-nil, length-append, arith, codes}
 use Rattle.std.specs.Prelude.{All}
+use Rattle.std.specs.Fmt.{decimal}
+use Rattle.std.specs.Int.{w32}
 use Rattle.std.specs.List.{flat_map}
 use Rattle.std.specs.Str.{bytes_eq}
 use Rattle.std.proofs.lemmas.Slice.Eq.{bytes_eq-Decides}
 use Rattle.std.proofs.lemmas.List.Elements.{All-head, All-tail, All-cons, All-nil}
 use Rattle.hex.specs.Hex.{IsBytes}
 use Rattle.dhcp_wire.specs.Field.{Read, ◌>>=◌}
-use Rattle.dhcp_stream.specs.HexText.{hex_text}
+use Rattle.dhcp_stream.specs.HexText.{AreWords, hex_text, words_text}
 use Rattle.dhcp_stream.specs.Line.{line}
-use Rattle.dhcp_stream.specs.TextReader.{field_at, hex_in, in_field, made_of, tag_at}
-use Rattle.dhcp_stream.proofs.CodecLaws.{HasNo-test, IsCodec, IsCodec-both, IsCodec-in_field, IsCodec-made_of, bind_some, field_at-sound, map_some, IsCodec-as, moved, same_read, tag_at-sound}
-use Rattle.dhcp_stream.proofs.ValueLemmas.{IsValue-hex, IsValue-number}
+use Rattle.dhcp_stream.specs.TextReader.{after_tag, field_at, hex_in, in_field, made_of, number_in, tag_at, words_in}
+use Rattle.dhcp_stream.proofs.CodecLaws.{HasNo-test, IsCodec, IsCodec-after_tag, IsCodec-both, IsCodec-in_field, IsCodec-made_of, bind_some, field_at-sound, map_some, IsCodec-as, moved, same_read, tag_at-sound}
+use Rattle.dhcp_stream.proofs.ValueLemmas.{IsValue-hex, IsValue-number, IsValue-words}
 use Rattle.dhcp_script.specs.declared.event.Event.{Event}
 use Rattle.dhcp_script.specs.declared.event.EventWhat.{EventWhat}
 use Rattle.dhcp_script.specs.declared.event.EventWhat.TheVariants.{Nothing, Frame, Payload, Release, CleanUp}
+use Rattle.dhcp_script.specs.declared.life.Life.{Life}
 use Rattle.dhcp_script.specs.Event.{packet_of}
 use Rattle.dhcp_script.specs.FieldReader.{if_tag}
-use Rattle.dhcp_script.specs.Life.{IsEvent, event_line, event_text, events_text, what_text}
-use Rattle.dhcp_script.specs.LifeReader.{call_in, event_at, event_of, events_at, events_within, what_at}
+use Rattle.dhcp_script.specs.Life.{IsEvent, IsLife, event_line, event_text, events_text, life_text, what_text}
+use Rattle.dhcp_script.specs.LifeReader.{call_in, event_at, event_of, events_at, events_within, life_at, life_of, what_at}
 use Rattle.dhcp_script.proofs.FieldLemmas.{IsValue-flag}
-use Rattle.dhcp_script.proofs.Clear.{HasNo-decimal, HasNo-flag, HasNo-hex_text}
+use Rattle.dhcp_script.proofs.Clear.{HasNo-decimal, HasNo-flag, HasNo-hex_text, HasNo-numbers_text}
 
 -- bytes in hex, up to the end of the line
-hex_line : IsCodec (λ bytes. hex_text bytes ++ 10 ∷ []) IsBytes (in_field hex_in 10)
+pub hex_line : IsCodec (λ bytes. hex_text bytes ++ 10 ∷ []) IsBytes (in_field hex_in 10)
 hex_line = IsCodec-in_field IsValue-hex 10 (λ bytes fits. HasNo-hex_text 10 bytes fits (omega arith))
 
 -- the word that is read is the one that is printed
@@ -196,6 +199,26 @@ IsCodec-events = record {
   sound = λ text events rest h. events_sound (suc (length text)) text events rest h;
   complete = λ events rest fit. events_complete (suc (length (events_text events ++ rest))) events rest fit (events_text-long events rest);
 }
+
+-- ---- the life
+
+life_parts : Life → List ℕ × (ℕ × List Event)
+life_parts life = (life.words, (life.start, life.events))
+
+words_line : IsCodec (λ words. codes "words " ++ (words_text words ++ 10 ∷ [])) AreWords (after_tag (codes "words ") (in_field words_in 10))
+words_line = IsCodec-after_tag (codes "words ") (IsCodec-in_field IsValue-words 10 (λ words fits. HasNo-numbers_text w32 10 words (omega arith)))
+
+start_line : IsCodec (λ start. codes "start " ++ (decimal start ++ 10 ∷ [])) (λ n. n ≤ 18446744073709551615) (after_tag (codes "start ") (in_field (number_in 18446744073709551615) 10))
+start_line = IsCodec-after_tag (codes "start ") (IsCodec-in_field (IsValue-number 18446744073709551615 (omega arith)) 10 (λ n small. HasNo-decimal 10 n (omega arith) (omega arith)))
+
+-- the lines from `words` on
+pub IsCodec-life : IsCodec (λ (life : Life). life_text life.words life.start life.events) (λ life. IsLife life.words life.start life.events) life_at
+unfolding life_at life_parts
+IsCodec-life =
+    IsCodec-as (IsCodec-made_of (IsCodec-both words_line (IsCodec-both start_line IsCodec-events)) life_of life_parts (λ x. refl) (λ y. refl))
+    (λ life. sym (append_assoc (codes "words " ++ (words_text life.words ++ 10 ∷ [])) (codes "start " ++ (decimal life.start ++ 10 ∷ [])) (events_text life.events)))
+    (λ life fits. record { words_fit = fits.0; start_fits = (let small = fits.1.0 in omega arith); events_fit = fits.1.1 })
+    (λ life fits. (fits.words_fit, ((let small = fits.start_fits in omega arith), fits.events_fit)))
 
 -- ---- the loop that reads them
 

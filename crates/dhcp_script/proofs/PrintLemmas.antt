@@ -1,21 +1,26 @@
 -- How what is printed piece by piece makes up a field.
-use Rattle.std.proofs.Common.{◌≡◌, ℕ, List, [], ◌∷◌, ◌++◌, Result, Ok, Err, refl, sym, ap, ◌∙◌, append_assoc, append-nil, codes}
+use Rattle.std.proofs.Common.{◌≡◌, ℕ, ◌<◌, List, [], ◌∷◌, ◌++◌, length, Result, Ok, Err, refl, sym, ap, ◌∙◌, append_assoc, append-nil, length-append, arith, codes}
 use Rattle.std.specs.Prelude.{OnOk}
 use Rattle.std.specs.Fmt.{decimal}
 use Rattle.std.specs.List.{flat_map}
 use Rattle.hex.specs.Hex.{encode_lower, encode_with}
-use Rattle.dhcp_stream.specs.HexText.{hex_text, word_bytes, words_text}
-use Rattle.std.specs.Int.{w32, to_be_bytes}
+use Rattle.dhcp_stream.specs.HexText.{address6_text, hex_text, numbers_text}
+use Rattle.std.specs.Int.{w16}
 use Rattle.std.proofs.lemmas.List.Concat.{flat_map-append}
 use Rattle.dhcp_stream.specs.Line.{line}
 use Rattle.dhcp_stream.specs.Number.{address_text}
 use Rattle.dhcp_script.specs.declared.lease4.Lease4.{Lease4}
+use Rattle.dhcp_script.specs.declared.lease6.Lease6.{Lease6}
 use Rattle.dhcp_script.specs.declared.script4.Script4.{Script4}
+use Rattle.dhcp_script.specs.declared.script6.Script6.{Script6}
+use Rattle.dhcp_script.specs.Codes.{listed_text}
 use Rattle.dhcp_script.specs.Field.{byte_digits, list_text, unless_none}
 use Rattle.dhcp_script.specs.Lease4.{addresses_text, lease_text, route_text}
 use Rattle.dhcp_script.specs.Life.{life_text}
 use Rattle.dhcp_script.specs.declared.version.Version.TheVariants.{Two}
-use Rattle.dhcp_script.specs.Script4.{codes_text, first_lines, script4_text}
+use Rattle.dhcp_script.specs.Script4.{first_lines, script4_text}
+use Rattle.dhcp_script.specs.Lease6 as lease6
+use Rattle.dhcp_script.specs.Script6 as script6
 
 -- the digits of bytes, byte by byte
 pub encode_lower-digits : (bytes : List ℕ) → encode_lower bytes ≡ flat_map byte_digits bytes
@@ -33,14 +38,24 @@ pub list_text-items : {A : Type 0} (print : A → List ℕ) (first : A) (rest : 
 list_text-items print first [] = sym (append-nil (print first))
 list_text-items print first (second ∷ rest) = ap (λ text. print first ++ 44 ∷ text) (list_text-items print second rest)
 
--- words, word by word
-pub words_text-digits : (words : List ℕ) → (words ≡ [] → ⊥) → words_text words ≡ flat_map (λ word. flat_map byte_digits (to_be_bytes w32 word)) words
-words_text-digits [] some = absurd (some refl)
-words_text-digits (word ∷ words) some = encode_lower-digits (word_bytes (word ∷ words)) ∙ each (word ∷ words)
-  where
-    each : (words : List ℕ) → flat_map byte_digits (word_bytes words) ≡ flat_map (λ word. flat_map byte_digits (to_be_bytes w32 word)) words
-    each [] = refl
-    each (word ∷ words) = flat_map-append byte_digits (to_be_bytes w32 word) (word_bytes words) ∙ ap (λ text. flat_map byte_digits (to_be_bytes w32 word) ++ text) (each words)
+-- numbers, number by number
+module _ {A : Type 0} (bytes : A → List ℕ) where
+  digits_each : (numbers : List A) → flat_map byte_digits (flat_map bytes numbers) ≡ flat_map (λ number. flat_map byte_digits (bytes number)) numbers
+  digits_each [] = refl
+  digits_each (number ∷ numbers) = flat_map-append byte_digits (bytes number) (flat_map bytes numbers) ∙ ap (λ text. flat_map byte_digits (bytes number) ++ text) (digits_each numbers)
+
+  -- where each has some bytes
+  some_bytes : ((number : A) → 0 < length (bytes number)) → (numbers : List A) → (numbers ≡ [] → ⊥) → flat_map bytes numbers ≡ [] → ⊥
+  some_bytes has [] some e = some refl
+  some_bytes has (number ∷ numbers) some e =
+      let none = ap length e in
+      let sum = length-append (bytes number) (flat_map bytes numbers) in
+      let one = has number in
+      omega arith
+
+  pub numbers-digits : ((number : A) → 0 < length (bytes number)) → (numbers : List A) → (numbers ≡ [] → ⊥)
+      → hex_text (flat_map bytes numbers) ≡ flat_map (λ number. flat_map byte_digits (bytes number)) numbers
+  numbers-digits has numbers some = hex_text-digits (flat_map bytes numbers) (some_bytes has numbers some) ∙ digits_each numbers
 
 -- ---- pieces that are put at the end of a text
 
@@ -92,9 +107,35 @@ lease_text-threes lease =
     (unless_none addresses_text lease.dns_srvs) (unless_none addresses_text lease.gateways) (unless_none addresses_text lease.ntp_srvs)
     (unless_none hex_text lease.host_name) (unless_none hex_text lease.domain_name) (unless_none (list_text route_text) lease.classless_routes)
 
+-- twelve fields, by the pieces that are put
+twelve : (a b c d e f g h i j k l : List ℕ)
+    → a ++ 32 ∷ (b ++ 32 ∷ (c ++ 32 ∷ (d ++ 32 ∷ (e ++ 32 ∷ (f ++ 32 ∷ (g ++ 32 ∷ (h ++ 32 ∷ (i ++ 32 ∷ (j ++ 32 ∷ (k ++ 32 ∷ l))))))))))
+    ≡ three_more a b c ++ (d ++ 32 ∷ (e ++ 32 ∷ [])) ++ three_more f g h ++ (i ++ 32 ∷ (j ++ 32 ∷ (k ++ 32 ∷ []))) ++ l
+unfolding three_more
+twelve a b c d e f g h i j k l = simp append_assoc
+
+-- the fields of a lease of an IPv6 script, by the pieces that are put
+pub lease6_text-pieces : (lease : Lease6) → lease6.lease_text lease
+    ≡ (lease6.ia_type_text lease.ia_type ++ 32 ∷ (decimal lease.iaid ++ 32 ∷ (address6_text lease.address ++ 32 ∷ [])))
+    ++ (decimal lease.prefix_len ++ 32 ∷ (hex_text lease.srv_duid ++ 32 ∷ []))
+    ++ (decimal lease.t1_sec ++ 32 ∷ (decimal lease.t2_sec ++ 32 ∷ (decimal lease.preferred_time_sec ++ 32 ∷ [])))
+    ++ (decimal lease.valid_time_sec ++ 32 ∷ (decimal lease.xid ++ 32 ∷ (hex_text lease.cli_duid ++ 32 ∷ [])))
+    ++ address6_text lease.srv_ip
+unfolding lease6.lease_text three_more
+lease6_text-pieces lease =
+    twelve (lease6.ia_type_text lease.ia_type) (decimal lease.iaid) (address6_text lease.address) (decimal lease.prefix_len) (hex_text lease.srv_duid)
+    (decimal lease.t1_sec) (decimal lease.t2_sec) (decimal lease.preferred_time_sec) (decimal lease.valid_time_sec)
+    (decimal lease.xid) (hex_text lease.cli_duid) (address6_text lease.srv_ip)
+
 -- the text of a script, by its lines
 pub script4_text-lines : (script : Script4) → script4_text Two script
-    ≡ first_lines Two script ++ line (codes "codes " ++ codes_text script.codes) ++ line (codes "lease " ++ unless_none lease_text script.lease)
+    ≡ first_lines Two script ++ line (codes "codes " ++ listed_text hex_text script.codes) ++ line (codes "lease " ++ unless_none lease_text script.lease)
     ++ life_text script.words script.start script.events
 unfolding script4_text
 script4_text-lines script = refl
+
+pub script6_text-lines : (script : Script6) → script6.script6_text Two script
+    ≡ script6.first_lines Two script ++ line (codes "codes " ++ listed_text (numbers_text w16) script.codes) ++ line (codes "lease " ++ unless_none lease6.lease_text script.lease)
+    ++ life_text script.words script.start script.events
+unfolding script6.script6_text
+script6_text-lines script = refl

@@ -1,205 +1,106 @@
--- A script is read in one way alone.
-use Rattle.std.proofs.Common.{◌≡◌, ◌≢◌, ℕ, ◌<◌, ◌≤◌, eqb, Bool, true, false, cond, List, [], ◌∷◌, ◌++◌, length, get_or, Option, Some, None, refl, sym, ap, ◌∙◌, append_assoc, append-nil, arith, codes}
-use Rattle.std.specs.Prelude.{IfSome}
-use Rattle.std.specs.Fmt.{decimal}
+-- A script of either family is read in one way alone.
+use Rattle.std.proofs.Common.{◌≡◌, ◌≢◌, ℕ, eqb, Bool, true, false, cond, List, [], ◌∷◌, ◌++◌, length, get_or, Some, None, refl, sym, ap, ◌∙◌, append-nil, arith, codes}
 use Rattle.std.proofs.lemmas.Bool.{eqb-true}
-use Rattle.hex.specs.Hex.{IsBytes, encode_lower}
 use Rattle.dhcp_wire.specs.Field.{Read}
-use Rattle.dhcp_stream.specs.HexText.{AreWords, IsMac, hex_text, words_text}
-use Rattle.dhcp_stream.specs.Line.{line}
-use Rattle.dhcp_stream.specs.TextReader.{after_tag, hex_in, in_field, made_of, number_in, words_in}
-use Rattle.dhcp_stream.proofs.CodecLaws.{HasNo-test, IsCodec, IsCodec-after_tag, IsCodec-as, IsCodec-both, IsCodec-in_field, IsCodec-made_of, IsValue, bind_some}
-use Rattle.dhcp_stream.proofs.ValueLemmas.{IsValue-hex, IsValue-mac, IsValue-number, IsValue-words}
-use Rattle.dhcp_script.specs.declared.event.Event.{Event}
-use Rattle.dhcp_script.specs.declared.lease4.Lease4.{Lease4}
-use Rattle.dhcp_script.specs.declared.life.Life.{Life}
+use Rattle.dhcp_stream.specs.TextReader.{after_tag, made_of, tag_at}
+use Rattle.dhcp_stream.proofs.CodecLaws.{IsCodec, IsValue, bind_some, map_some, moved, tag_at-none}
 use Rattle.dhcp_script.specs.declared.script4.Script4.{Script4}
-use Rattle.dhcp_script.specs.declared.script4.reader.Iface4.{Iface4}
-use Rattle.dhcp_script.specs.declared.script4.reader.Identity4.{Identity4}
+use Rattle.dhcp_script.specs.declared.script6.Script6.{Script6}
 use Rattle.dhcp_script.specs.declared.script.Script.{Script}
-use Rattle.dhcp_script.specs.declared.script.Script.TheVariants.{V4}
-use Rattle.dhcp_script.specs.Field.{flag_text, unless_none}
-use Rattle.dhcp_script.specs.FieldReader.{word_or}
+use Rattle.dhcp_script.specs.declared.script.Script.TheVariants.{V4, V6}
 use Rattle.dhcp_script.specs.declared.version.Version.{Version}
 use Rattle.dhcp_script.specs.declared.version.Version.TheVariants.{One, Two}
-use Rattle.dhcp_script.specs.Lease4.{versioned_lease_text}
-use Rattle.dhcp_script.specs.Life.{IsLife, events_text, life_text}
-use Rattle.dhcp_script.specs.LifeReader.{life_at, life_of}
-use Rattle.dhcp_script.specs.Script4.{IsScript4, codes_text, iface_text, script4_text}
+use Rattle.dhcp_script.specs.FieldReader.{if_tag}
+use Rattle.dhcp_script.specs.Script4.{script4_text}
+use Rattle.dhcp_script.specs.Script6.{script6_text}
 use Rattle.dhcp_script.specs.Script.{HasTextIn, text_in}
-use Rattle.dhcp_script.specs.Version.{first_line4}
-use Rattle.dhcp_script.specs.ScriptReader.{identity4_at, identity4_of, iface4_at, iface4_of, script4_at, script4_of, script_in}
-use Rattle.dhcp_script.proofs.Clear.{HasNo-decimal, HasNo-encode_lower, HasNo-flag, HasNo-hex, HasNo-hex_text, HasNo-or_word, HasNo-words_text}
-use Rattle.dhcp_script.proofs.FieldLemmas.{IsValue-flag, IsValue-word_or}
-use Rattle.dhcp_script.proofs.Lease4Laws.{IsCodec-held_lease}
-use Rattle.dhcp_script.proofs.LifeLaws.{IsCodec-events}
+use Rattle.dhcp_script.specs.ScriptReader.{script4_at, script6_at, script_at, script_in}
+use Rattle.dhcp_script.specs.Version.{first_line4, first_line6}
+use Rattle.dhcp_script.proofs.Script4Laws.{IsCodec-script4}
+use Rattle.dhcp_script.proofs.Script6Laws.{IsCodec-script6}
 
--- ---- the life
+-- ---- the families
 
-life_parts : Life → List ℕ × (ℕ × List Event)
-life_parts life = (life.words, (life.start, life.events))
-
-words_line : IsCodec (λ words. codes "words " ++ (words_text words ++ 10 ∷ [])) AreWords (after_tag (codes "words ") (in_field words_in 10))
-words_line = IsCodec-after_tag (codes "words ") (IsCodec-in_field IsValue-words 10 (λ words fits. HasNo-words_text 10 words fits (omega arith)))
-
-start_line : IsCodec (λ start. codes "start " ++ (decimal start ++ 10 ∷ [])) (λ n. n ≤ 18446744073709551615) (after_tag (codes "start ") (in_field (number_in 18446744073709551615) 10))
-start_line = IsCodec-after_tag (codes "start ") (IsCodec-in_field (IsValue-number 18446744073709551615 (omega arith)) 10 (λ n small. HasNo-decimal 10 n (omega arith) (omega arith)))
-
--- the lines from `words` on
-IsCodec-life : IsCodec (λ (life : Life). life_text life.words life.start life.events) (λ life. IsLife life.words life.start life.events) life_at
-unfolding life_at life_parts
-IsCodec-life =
-    IsCodec-as (IsCodec-made_of (IsCodec-both words_line (IsCodec-both start_line IsCodec-events)) life_of life_parts (λ x. refl) (λ y. refl))
-    (λ life. sym (append_assoc (codes "words " ++ (words_text life.words ++ 10 ∷ [])) (codes "start " ++ (decimal life.start ++ 10 ∷ [])) (events_text life.events)))
-    (λ life fits. record { words_fit = fits.0; start_fits = (let small = fits.1.0 in omega arith); events_fit = fits.1.1 })
-    (λ life fits. (fits.words_fit, ((let small = fits.start_fits in omega arith), fits.events_fit)))
-
--- ---- the interface
-
--- `0` is not `1`
-differ : (a b : ℕ) → a ≡ 48 → b ≡ 49 → a ≡ b → ⊥
+-- `4` is not `6`
+differ : (a b : ℕ) → a ≡ 52 → b ≡ 54 → a ≡ b → ⊥
 differ a b first second same = omega arith
 
-iface_parts : Iface4 → ℕ × (List ℕ × (Bool × ℕ))
-iface_parts x = (x.index, (x.mac, (x.is_proxy, x.timeout_sec)))
+-- the digit of the family
+family4 : (version : Version) (script : Script4) → get_or (script4_text version script) 4 0 ≡ 52
+unfolding script4_text
+family4 One script = refl
+family4 Two script = refl
 
-iface_print : Iface4 → List ℕ
-iface_print x = codes "iface " ++ ((decimal x.index ++ 32 ∷ []) ++ ((encode_lower x.mac ++ 32 ∷ []) ++ ((flag_text (codes "1") (codes "0") x.is_proxy ++ 32 ∷ []) ++ (decimal x.timeout_sec ++ 10 ∷ []))))
+family6 : (version : Version) (script : Script6) → get_or (script6_text version script) 4 0 ≡ 54
+unfolding script6_text
+family6 One script = refl
+family6 Two script = refl
 
-IfaceFits : Iface4 → Type 0
-IfaceFits x = (x.index ≤ 4294967295) × (IsMac x.mac × (Unit {0} × (x.timeout_sec ≤ 4294967295)))
+-- no text is of both families
+pub families-apart : (version other : Version) (first : Script4) (second : Script6) → text_in version (V4 first) ≡ text_in other (V6 second) → ⊥
+families-apart version other first second e =
+    differ (get_or (script4_text version first) 4 0) (get_or (script6_text other second) 4 0) (family4 version first) (family6 other second)
+    (ap (λ (text : List ℕ). get_or text 4 0) e)
 
-codec_iface : IsCodec iface_print IfaceFits iface4_at
-unfolding iface4_at iface_parts iface_print IfaceFits
-codec_iface =
-    let number : (end : ℕ) → end < 48 → IsCodec (λ n. decimal n ++ end ∷ []) (λ n. n ≤ 4294967295) (in_field (number_in 4294967295) end) =
-    λ end below. IsCodec-in_field (IsValue-number 4294967295 (omega arith)) end (λ n small. HasNo-decimal end n (omega arith) below) in
-    let mac = IsCodec-in_field IsValue-mac 32 (λ mac fits. HasNo-encode_lower 32 mac fits.1 (omega arith)) in
-    let other : codes "0" ≢ codes "1" = λ e. differ _ _ refl refl (ap (λ (text : List ℕ). get_or text 0 0) e) in
-    let proxy = IsCodec-in_field (IsValue-flag (codes "1") (codes "0") other) 32 (λ flag fits. HasNo-flag 32 (codes "1") (codes "0") (HasNo-test 32 (codes "1") refl) (HasNo-test 32 (codes "0") refl) flag) in
-    IsCodec-made_of (IsCodec-after_tag (codes "iface ") (IsCodec-both (number 32 (omega arith)) (IsCodec-both mac (IsCodec-both proxy (number 10 (omega arith))))))
-    iface4_of iface_parts (λ x. refl) (λ y. refl)
+-- a script of an IPv6 client does not begin with the first line of one of an IPv4 client
+other_line : (version : Version) (script : Script6) (rest more : List ℕ) → script6_text version script ++ rest ≡ first_line4 version ++ more → ⊥
+unfolding script6_text
+other_line One script rest more e = differ 52 54 refl refl (sym (ap (λ (text : List ℕ). get_or text 4 0) e))
+other_line Two script rest more e = differ 52 54 refl refl (sym (ap (λ (text : List ℕ). get_or text 4 0) e))
 
--- ---- what a client says of itself
+-- ---- a script
 
-identity_parts : Identity4 → List ℕ × (List ℕ × Option (List ℕ))
-identity_parts x = (x.host, (x.client, x.codes))
+-- what is read after the first line of an IPv4 client
+after4 : (version : Version) (text left : List ℕ) → tag_at (first_line4 version) text ≡ Some (tt, left) → after_tag (first_line4 version) (script4_at version) text ≡ script4_at version left
+after4 version text left is = rw is refl
 
-identity_print : Identity4 → List ℕ
-identity_print x = (codes "host " ++ (hex_text x.host ++ 10 ∷ [])) ++ ((codes "client " ++ (hex_text x.client ++ 10 ∷ [])) ++ (codes "codes " ++ (codes_text x.codes ++ 10 ∷ [])))
-
-IdentityFits : Identity4 → Type 0
-IdentityFits x = IsBytes x.host × (IsBytes x.client × IfSome x.codes IsBytes)
-
-hex_line : IsCodec (λ bytes. hex_text bytes ++ 10 ∷ []) IsBytes (in_field hex_in 10)
-hex_line = IsCodec-in_field IsValue-hex 10 (λ bytes fits. HasNo-hex_text 10 bytes fits (omega arith))
-
-codes_line : IsCodec (λ listed. codes_text listed ++ 10 ∷ []) (λ listed. IfSome listed IsBytes) (in_field (word_or (codes "default") hex_in) 10)
-codes_line =
-    IsCodec-in_field (IsValue-word_or (codes "default") IsValue-hex (λ bytes fits e. let clear = rw e at (HasNo-hex 117 bytes fits (λ e. omega arith) refl) in clear 4 0 (omega arith) refl)) 10
-    (λ listed fits. HasNo-or_word hex_text IsBytes 10 (codes "default") (HasNo-test 10 (codes "default") refl) (λ bytes fits. HasNo-hex_text 10 bytes fits (omega arith)) listed fits)
-
-codec_identity : IsCodec identity_print IdentityFits identity4_at
-unfolding identity4_at identity_parts identity_print IdentityFits
-codec_identity =
-    IsCodec-made_of (IsCodec-both (IsCodec-after_tag (codes "host ") hex_line) (IsCodec-both (IsCodec-after_tag (codes "client ") hex_line) (IsCodec-after_tag (codes "codes ") codes_line)))
-    identity4_of identity_parts (λ x. refl) (λ y. refl)
-
--- ---- the script
-
-script_parts : Script4 → Iface4 × (Identity4 × (Option Lease4 × Life))
-script_parts s = (
-  record { index = s.iface_index; mac = s.mac; is_proxy = s.is_proxy; timeout_sec = s.timeout_sec },
-  (
-    record { host = s.host; client = s.client; codes = s.codes },
-    (
-      s.lease,
-      record { words = s.words; start = s.start; events = s.events },
-    ),
-  ),
-)
-
--- four fields of a line
-four_fields : (tag a b c d : List ℕ)
-    → tag ++ ((a ++ 32 ∷ []) ++ ((b ++ 32 ∷ []) ++ ((c ++ 32 ∷ []) ++ (d ++ 10 ∷ [])))) ≡ (tag ++ (a ++ 32 ∷ (b ++ 32 ∷ (c ++ 32 ∷ d)))) ++ 10 ∷ []
-four_fields tag a b c d = simp append_assoc
-
--- six lines, and what follows them
-six_lines : (a b c d e f rest : List ℕ) → a ++ (b ++ ((c ++ (d ++ e)) ++ (f ++ rest))) ≡ a ++ b ++ c ++ d ++ e ++ f ++ rest
-six_lines a b c d e f rest = simp append_assoc
-
--- the lines of a script are its text
-printed4 : (version : Version) (script : Script4)
-    → first_line4 version ++ (iface_print (script_parts script).0 ++ (identity_print (script_parts script).1.0
-    ++ ((codes "lease " ++ (unless_none (versioned_lease_text version) script.lease ++ 10 ∷ [])) ++ life_text script.words script.start script.events)))
-    ≡ script4_text version script
-unfolding script4_text script_parts iface_print identity_print
-printed4 version script =
-    let host = line (codes "host " ++ hex_text script.host) in
-    let client = line (codes "client " ++ hex_text script.client) in
-    let listed = line (codes "codes " ++ codes_text script.codes) in
-    let held = line (codes "lease " ++ unless_none (versioned_lease_text version) script.lease) in
-    let life = life_text script.words script.start script.events in
-    ap (λ iface. first_line4 version ++ (iface ++ ((host ++ (client ++ listed)) ++ (held ++ life))))
-    (four_fields (codes "iface ") (decimal script.iface_index) (encode_lower script.mac) (flag_text (codes "1") (codes "0") script.is_proxy) (decimal script.timeout_sec))
-    ∙ six_lines (first_line4 version) (line (codes "iface " ++ iface_text script)) host client listed held life
-
--- a script of an IPv4 client
-IsCodec-script4 : (version : Version) → IsCodec (script4_text version) (IsScript4 version) (after_tag (first_line4 version) (script4_at version))
-unfolding script4_at script_parts IfaceFits IdentityFits
-IsCodec-script4 version =
-    IsCodec-as (IsCodec-after_tag (first_line4 version) (IsCodec-made_of (IsCodec-both codec_iface (IsCodec-both codec_identity (IsCodec-both (IsCodec-after_tag (codes "lease ") (IsCodec-held_lease version)) IsCodec-life)))
-    script4_of script_parts (λ x. refl) (λ y. refl)))
-    (printed4 version)
-    (λ script fits. record {
-      iface_index = (let small = fits.0.0 in omega arith);
-      mac = fits.0.1.0;
-      timeout_sec = (let small = fits.0.1.1.1 in omega arith);
-      host = fits.1.0.0;
-      client = fits.1.0.1.0;
-      codes = fits.1.0.1.1;
-      lease = fits.1.1.0;
-      life = fits.1.1.1;
-    })
-    (λ script fits. (
-      ((let small = fits.iface_index in omega arith), (fits.mac, (tt, (let small = fits.timeout_sec in omega arith)))),
-      (
-        (fits.host, (fits.client, fits.codes)),
-        (fits.lease, fits.life),
-      ),
-    ))
-
--- the script of its family
-script4_in : Script → Script4
-script4_in (V4 script) = script
-
-made_back : (script : Script) → V4 (script4_in script) ≡ script
-unfolding script4_in
-made_back (V4 script) = refl
-
--- a script and its first line, in a version
-read_front : Version → List ℕ → Read Script
-read_front version text = made_of V4 (after_tag (first_line4 version) (script4_at version)) text
-
-IsCodec-script : (version : Version) → IsCodec (text_in version) (HasTextIn version) (read_front version)
-unfolding script4_in read_front
-IsCodec-script version = IsCodec-as (IsCodec-made_of (IsCodec-script4 version) V4 script4_in (λ x. refl) made_back) printed_alike fits_to fits_from
+-- what reads as a script of an IPv4 client
+front4 : (version : Version) (text : List ℕ) (script : Script4) (rest : List ℕ) → after_tag (first_line4 version) (script4_at version) text ≡ Some (script, rest)
+    → script_at version text ≡ Some (V4 script, rest)
+unfolding script_at
+front4 version text script rest whole = by_tag (tag_at (first_line4 version) text) refl
   where
-    printed_alike : (script : Script) → script4_text version (script4_in script) ≡ text_in version script
-    printed_alike (V4 script) = refl
+    by_tag : (tag : Read (Unit {0})) → tag_at (first_line4 version) text ≡ tag
+        → if_tag tag (made_of V4 (script4_at version)) (made_of V6 (after_tag (first_line6 version) (script6_at version)) text) ≡ Some (V4 script, rest)
+    by_tag None is = let none = rw is at whole in cc none
+    by_tag (Some found) is = let read = rw is at whole in rw read refl
 
-    fits_to : (script : Script) → IsScript4 version (script4_in script) → HasTextIn version script
-    fits_to (V4 script) fits = fits
+complete : (version : Version) (script : Script) (rest : List ℕ) → HasTextIn version script → script_at version (text_in version script ++ rest) ≡ Some (script, rest)
+unfolding script_at
+complete version (V4 script) rest fits = front4 version (script4_text version script ++ rest) script rest ((IsCodec-script4 version).complete script rest fits)
+complete version (V6 script) rest fits =
+    rw (tag_at-none (first_line4 version) (script6_text version script ++ rest) (λ more e. other_line version script rest more e), (IsCodec-script6 version).complete script rest fits) refl
 
-    fits_from : (script : Script) → HasTextIn version script → IsScript4 version (script4_in script)
-    fits_from (V4 script) fits = fits
+sound : (version : Version) (text : List ℕ) (script : Script) (rest : List ℕ) → script_at version text ≡ Some (script, rest) → (text ≡ text_in version script ++ rest) × HasTextIn version script
+unfolding script_at
+sound version text script rest h = by_tag (tag_at (first_line4 version) text) refl h
+  where
+    Is : Script → List ℕ → Type 0
+    Is script rest = (text ≡ text_in version script ++ rest) × HasTextIn version script
+
+    by_tag : (tag : Read (Unit {0})) → tag_at (first_line4 version) text ≡ tag
+        → if_tag tag (made_of V4 (script4_at version)) (made_of V6 (after_tag (first_line6 version) (script6_at version)) text) ≡ Some (script, rest) → Is script rest
+    by_tag (Some found) is h =
+        let step = map_some (λ (read : Script4 × List ℕ). (V4 read.0, read.1)) (script4_at version found.1) (script, rest) h in
+        let made : V4 step.0.0 ≡ script = ap (λ (p : Script × List ℕ). p.0) step.2 in
+        let more : step.0.1 ≡ rest = ap (λ (p : Script × List ℕ). p.1) step.2 in
+        moved Is (V4 step.0.0) script step.0.1 rest made more
+        ((IsCodec-script4 version).sound text step.0.0 step.0.1 (after4 version text found.1 is ∙ step.1))
+    by_tag None is h =
+        let step = map_some (λ (read : Script6 × List ℕ). (V6 read.0, read.1)) (after_tag (first_line6 version) (script6_at version) text) (script, rest) h in
+        let made : V6 step.0.0 ≡ script = ap (λ (p : Script × List ℕ). p.0) step.2 in
+        let more : step.0.1 ≡ rest = ap (λ (p : Script × List ℕ). p.1) step.2 in
+        moved Is (V6 step.0.0) script step.0.1 rest made more ((IsCodec-script6 version).sound text step.0.0 step.0.1 step.1)
+
+IsCodec-script : (version : Version) → IsCodec (text_in version) (HasTextIn version) (script_at version)
+IsCodec-script version = record { sound = sound version; complete = complete version }
 
 -- the whole text
 pub IsValue-script : (version : Version) → IsValue (text_in version) (HasTextIn version) (script_in version)
-unfolding script_in read_front
+unfolding script_in
 IsValue-script version = record {
   sound = λ text script h.
-      let read = bind_some (read_front version text) (λ read. cond (eqb (length read.1) 0) (Some read.0) None) script h in
+      let read = bind_some (script_at version text) (λ read. cond (eqb (length read.1) 0) (Some read.0) None) script h in
       let whole = if_some (eqb (length read.0.1) 0) read.0.0 script read.2 in
       let is = (IsCodec-script version).sound text read.0.0 read.0.1 read.1 in
       let none : read.0.1 ≡ [] = empty read.0.1 (eqb-true (length read.0.1) 0 whole.0) in
@@ -209,7 +110,7 @@ IsValue-script version = record {
       ∙ at_end (text_in version script ++ []) script ((IsCodec-script version).complete script [] fits);
 }
   where
-    at_end : (text : List ℕ) (script : Script) → read_front version text ≡ Some (script, []) → script_in version text ≡ Some script
+    at_end : (text : List ℕ) (script : Script) → script_at version text ≡ Some (script, []) → script_in version text ≡ Some script
     at_end text script h = rw h refl
 
     if_some : (b : Bool) (x y : Script) → cond b (Some x) None ≡ Some y → (b ≡ true) × (x ≡ y)
@@ -233,10 +134,25 @@ pub reading-one : (version : Version) (text : List ℕ) (found script : Script) 
     → Some found ≡ Some script
 reading-one version text found script h fits e = sym h ∙ ap (script_in version) (sym e) ∙ (IsValue-script version).complete script fits
 
+-- ---- the versions
+
+-- `2` is not `1`
+differ_version : (a b : ℕ) → a ≡ 50 → b ≡ 49 → a ≡ b → ⊥
+differ_version a b is other same = omega arith
+
+-- the digit of the version
+version1 : (script : Script) → get_or (text_in One script) 6 0 ≡ 49
+unfolding script4_text script6_text
+version1 (V4 script) = refl
+version1 (V6 script) = refl
+
+version2 : (script : Script) → get_or (text_in Two script) 6 0 ≡ 50
+unfolding script4_text script6_text
+version2 (V4 script) = refl
+version2 (V6 script) = refl
+
 -- no text is of both versions
 pub versions-apart : (first second : Script) → text_in One first ≡ text_in Two second → ⊥
-unfolding script4_text
-versions-apart (V4 first) (V4 second) e = differ _ _ refl refl (sym (ap (λ (text : List ℕ). get_or text 6 0) e))
-  where
-    differ : (a b : ℕ) → a ≡ 50 → b ≡ 49 → a ≡ b → ⊥
-    differ a b is other same = omega arith
+versions-apart first second e =
+    differ_version (get_or (text_in Two second) 6 0) (get_or (text_in One first) 6 0) (version2 second) (version1 first)
+    (sym (ap (λ (text : List ℕ). get_or text 6 0) e))

@@ -5,7 +5,7 @@ use Rattle.std.specs.Str.{bytes_eq}
 use Rattle.std.specs.declared.net.Ipv4Addr.{Ipv4Addr}
 use Rattle.dhcp_wire.specs.Field.{Read, ◌>>=◌}
 use Rattle.dhcp4_msg.specs.declared.route.DhcpV4ClasslessRoute.{DhcpV4ClasslessRoute}
-use Rattle.dhcp_stream.specs.TextReader.{address_in, both, in_field, number_in}
+use Rattle.dhcp_stream.specs.TextReader.{address_in, both, in_field, made_of, number_in, tag_at}
 
 -- none where the field is this word, else what it gives
 abbrev pub word_or : {A : Type 0} → List ℕ → (List ℕ → Option A) → List ℕ → Option (Option A)
@@ -36,6 +36,15 @@ list_in value field = if bytes_eq field (codes "-") then Some [] else items_in v
 abbrev pub if_tag : {A : Type 0} → Read (Unit {0}) → (List ℕ → Read A) → Read A → Read A
 if_tag (Some found) next other = next found.1
 if_tag None next other = other
+
+-- a value, or the word `none`, to the end of the line
+unfoldable pub held_at : {A : Type 0} → (List ℕ → Read A) → List ℕ → Read (Option A)
+held_at value text =
+    if_tag (tag_at (codes "none\n") text) (λ rest. Some (None, rest)) (made_of Some value text)
+
+-- a number of 32 bits, up to this byte
+abbrev pub u32_at : ℕ → List ℕ → Read ℕ
+u32_at end text = in_field (number_in 4294967295) end text
 
 -- the route of its parts
 abbrev pub route_of : (Ipv4Addr × ℕ) × Ipv4Addr → DhcpV4ClasslessRoute

@@ -1,12 +1,11 @@
 -- The lease of an IPv4 script: which lease it stands for, and the fields of its text.
-use Rattle.std.specs.Prelude.{◌≡◌, Result, Ok, Err, ℕ, Bool, ◌&&◌, nat_le, ◌<◌, ◌^◌, List, [], ◌∷◌, ◌++◌, codes, IfSome, All}
+use Rattle.std.specs.Prelude.{◌≡◌, ℕ, Bool, ◌&&◌, nat_le, ◌<◌, ◌^◌, List, [], ◌∷◌, ◌++◌, codes, IfSome, All}
 use Rattle.std.specs.Fmt.{decimal}
 use Rattle.std.specs.Net.Addr.{IsIpv4Addr}
 use Rattle.std.specs.declared.net.Ipv4Addr.{Ipv4Addr}
 use Rattle.dhcp_stream.specs.HexText.{IsText, hex_text}
 use Rattle.dhcp_stream.specs.Number.{address_text}
 use Rattle.dhcp4_msg.specs.declared.route.DhcpV4ClasslessRoute.{DhcpV4ClasslessRoute}
-use Rattle.dhcp_wire.specs.Error.{ErrorParts, no_memory}
 use Rattle.dhcp4_lease.specs.Lease.{Lease, empty_lease}
 use Rattle.dhcp_script.specs.declared.lease4.Lease4.{Lease4}
 use Rattle.dhcp_script.specs.declared.version.Version.{Version}
@@ -51,11 +50,6 @@ with_names fields lease = record lease {
 -- the lease with these fields, and with those of the empty lease in all others
 unfoldable pub lease_with : Lease4 → Lease
 lease_with fields = with_names fields (with_servers fields (with_numbers fields empty_lease))
-
--- what was put into a lease makes it this one, unless out of memory
-abbrev pub Puts : {X : Type 0} → Result X ErrorParts → Lease → Lease → Type 0
-Puts (Ok _) lease expected = lease ≡ expected
-Puts (Err e) lease expected = e ≡ no_memory
 
 -- the fields of a lease that its text has
 abbrev pub fields_of : Lease → Lease4

@@ -2,7 +2,7 @@
 use Rattle.std.specs.Prelude.{ℕ, List, codes, Option, Some, None}
 use Rattle.std.specs.declared.net.Ipv4Addr.{Ipv4Addr}
 use Rattle.dhcp_wire.specs.Field.{Read}
-use Rattle.dhcp_stream.specs.TextReader.{address_in, both, hex_utf8_in, in_field, made_of, number_in, tag_at}
+use Rattle.dhcp_stream.specs.TextReader.{address_in, both, hex_utf8_in, in_field, made_of, number_in}
 use Rattle.dhcp4_msg.specs.Message.{no_address}
 use Rattle.dhcp4_msg.specs.declared.route.DhcpV4ClasslessRoute.{DhcpV4ClasslessRoute}
 use Rattle.dhcp_script.specs.declared.lease4.Lease4.{Lease4}
@@ -14,15 +14,12 @@ use Rattle.dhcp_script.specs.declared.lease4.reader.LeaseNames.{LeaseNames}
 use Rattle.dhcp_script.specs.declared.lease4.reader.LeaseLater.{LeaseLater}
 use Rattle.dhcp_script.specs.declared.version.Version.{Version}
 use Rattle.dhcp_script.specs.declared.version.Version.TheVariants.{One, Two}
-use Rattle.dhcp_script.specs.FieldReader.{if_tag, list_in, route_in, word_or}
+use Rattle.dhcp_script.specs.FieldReader.{list_in, route_in, u32_at, word_or}
 use Rattle.dhcp_script.specs.Version.{end_of_times}
 
--- an address, and a number of 32 bits
+-- an address
 abbrev pub address_at : List ℕ → Read Ipv4Addr
 address_at text = in_field address_in 32 text
-
-abbrev pub seconds_at : ℕ → List ℕ → Read ℕ
-seconds_at end text = in_field (number_in 4294967295) end text
 
 -- a list of addresses that may be absent
 abbrev pub servers_in : List ℕ → Option (Option (List Ipv4Addr))
@@ -40,7 +37,7 @@ times_of parts = record { t1_sec = parts.0; t2_sec = parts.1.0; lease_time_sec =
 unfoldable pub times_at : Version → List ℕ → Read LeaseTimes
 times_at version text =
     made_of times_of
-    (both (seconds_at 32) (both (seconds_at 32) (seconds_at (end_of_times version)))) text
+    (both (u32_at 32) (both (u32_at 32) (u32_at (end_of_times version)))) text
 
 abbrev pub link_of : Ipv4Addr × (Option Ipv4Addr × Option ℕ) → LeaseLink
 link_of parts = record { subnet_mask = parts.0; broadcast_addr = parts.1.0; mtu = parts.1.1 }
@@ -112,9 +109,3 @@ lease4_of parts = record {
 unfoldable pub lease4_at : Version → List ℕ → Read Lease4
 lease4_at version text =
     made_of lease4_of (both addresses_at (both (times_at version) (later_at version))) text
-
--- a lease, or the word `none`
-unfoldable pub held_lease4_at : Version → List ℕ → Read (Option Lease4)
-held_lease4_at version text =
-    if_tag (tag_at (codes "none\n") text) (λ rest. Some (None, rest))
-    (made_of Some (lease4_at version) text)

@@ -1,5 +1,5 @@
 -- What is reported of a script, and its text.
-use Rattle.std.specs.Prelude.{◌≡◌, ◌⊎◌, ℕ, Bool, true, false, List, [], ◌∷◌, ◌++◌, codes}
+use Rattle.std.specs.Prelude.{◌≡◌, ◌⊎◌, ℕ, Bool, true, false, IsTrue, List, [], ◌∷◌, ◌++◌, unwrap_or, codes}
 use Rattle.std.specs.List.{count_by, flat_map}
 use Rattle.std.specs.Fmt.{decimal}
 use Rattle.dhcp_stream.specs.HexText.{hex_text}
@@ -10,7 +10,10 @@ use Rattle.dhcp_wire.specs.declared.error.ErrorKind.TheVariants as kinds
 use Rattle.dhcp_clock.specs.declared.link.Handed.{Handed}
 use Rattle.dhcp_clock.specs.declared.link.Handed.TheVariants.{Frame, Udp4, Udp6}
 use Rattle.dhcp4_client.specs.State.{PlainState, plain_state, done, init_reboot, selecting, renewing, rebinding}
-use Rattle.dhcp_script.specs.declared.output.Reported.TheVariants.{V4}
+use Rattle.dhcp6_client.specs.State as v6
+use Rattle.dhcp6_msg.specs.declared.mode.DhcpV6IaType.TheVariants.{NonTemporaryAddresses}
+use Rattle.dhcp6_msg.specs.Lease.{is_typed}
+use Rattle.dhcp_script.specs.declared.output.Reported.TheVariants.{V4, V6}
 use Rattle.dhcp_script.specs.declared.output.OutputWhat.{OutputWhat}
 use Rattle.dhcp_script.specs.declared.output.OutputWhat.TheVariants as what
 use Rattle.dhcp_script.specs.declared.output.Output.{Output}
@@ -18,11 +21,13 @@ use Rattle.dhcp_script.specs.declared.output.summary.OutputKind.{OutputKind}
 use Rattle.dhcp_script.specs.declared.output.summary.OutputKind.TheVariants as sorts
 use Rattle.dhcp_script.specs.Field.{spaced}
 use Rattle.dhcp_script.specs.Lease4.{fields_of, lease_text}
+use Rattle.dhcp_script.specs.Lease6 as lease6
 
 -- the plain contents of what is reported: that of its state, wherever its lease is kept
 pub data PlainReport : Type 0 where
   handed refused : Handed → PlainReport
   changed_v4 : PlainState → PlainReport
+  changed_v6 : v6.PlainState → PlainReport
   failed : ErrorKind → PlainReport
 
 -- the plain contents of an output
@@ -35,18 +40,28 @@ abbrev pub plain_report : OutputWhat → PlainReport
 plain_report (what.Handed message) = handed message
 plain_report (what.Refused message) = refused message
 plain_report (what.Changed (V4 state)) = changed_v4 (plain_state state)
+plain_report (what.Changed (V6 state)) = changed_v6 (v6.plain_state state)
 plain_report (what.Failed kind) = failed kind
 
 -- what an output holds
 abbrev pub plain_output : Output → PlainOutput
 plain_output output = record { event = output.event; report = plain_report output.what }
 
--- a failure of one of the two kinds that have a text
+-- a state of an IPv6 client; the type of its lease, if it holds one, is known
+abbrev pub HasStateText6 : v6.PlainState → Type 0
+HasStateText6 (v6.done lease) = IsTrue (is_typed lease.ia_type)
+HasStateText6 v6.solicit = Unit {0}
+HasStateText6 v6.request = Unit {0}
+HasStateText6 v6.renew = Unit {0}
+HasStateText6 v6.rebind = Unit {0}
+
+-- what has a text: of failures those of two kinds
 abbrev pub HasReportText : OutputWhat → Type 0
 HasReportText (what.Failed kind) = (kind ≡ kinds.Timeout) ⊎ (kind ≡ kinds.IoError)
 HasReportText (what.Handed message) = Unit {0}
 HasReportText (what.Refused message) = Unit {0}
-HasReportText (what.Changed state) = Unit {0}
+HasReportText (what.Changed (V4 state)) = Unit {0}
+HasReportText (what.Changed (V6 state)) = HasStateText6 (v6.plain_state state)
 
 abbrev pub HasFailureText : Output → Type 0
 HasFailureText output = HasReportText output.what
@@ -66,6 +81,16 @@ state4_text selecting = codes "selecting"
 state4_text renewing = codes "renewing"
 state4_text rebinding = codes "rebinding"
 
+-- a state of an IPv6 client; no lease without a type is printed
+abbrev pub state6_text : v6.PlainState → List ℕ
+state6_text (v6.done lease) =
+    codes "done "
+    ++ lease6.lease_text (lease6.fields_of (unwrap_or lease.ia_type NonTemporaryAddresses) lease)
+state6_text v6.solicit = codes "solicit"
+state6_text v6.request = codes "request"
+state6_text v6.renew = codes "renew"
+state6_text v6.rebind = codes "rebind"
+
 -- a failure; no other kind is printed
 abbrev pub failure_text : ErrorKind → List ℕ
 failure_text kinds.Timeout = codes "timeout"
@@ -76,6 +101,7 @@ abbrev pub report_text : PlainReport → List ℕ
 report_text (handed message) = codes "handed " ++ message_text message
 report_text (refused message) = codes "refused " ++ message_text message
 report_text (changed_v4 state) = codes "state " ++ state4_text state
+report_text (changed_v6 state) = codes "state " ++ state6_text state
 report_text (failed kind) = codes "failed " ++ failure_text kind
 
 -- the line of an output
@@ -91,6 +117,7 @@ abbrev pub is_of : OutputKind → PlainReport → Bool
 is_of sorts.Handed (handed message) = true
 is_of sorts.Refused (refused message) = true
 is_of sorts.Changed (changed_v4 state) = true
+is_of sorts.Changed (changed_v6 state) = true
 is_of sorts.Failed (failed why) = true
 is_of _ _ = false
 

@@ -2,23 +2,28 @@
 use Rattle.std.specs.Prelude.{◌≡◌, ℕ, Bool, List, Option, Some, None, Result, Ok, Err}
 use Rattle.dhcp_wire.specs.Error.{ErrorParts, no_memory}
 use Rattle.dhcp_script.specs.declared.script.Script.{Script}
-use Rattle.dhcp_script.specs.declared.script.Script.TheVariants.{V4}
+use Rattle.dhcp_script.specs.declared.script.Script.TheVariants.{V4, V6}
 use Rattle.dhcp_script.specs.declared.version.Version.{Version}
 use Rattle.dhcp_script.specs.declared.version.Version.TheVariants.{One, Two}
 use Rattle.dhcp_script.specs.Script4 as v4
 use Rattle.dhcp_script.specs.Script4.{IsScript4, script4_text}
+use Rattle.dhcp_script.specs.Script6 as v6
+use Rattle.dhcp_script.specs.Script6.{IsScript6, script6_text}
 
 -- whether a script is valid
 abbrev pub is_valid : Script → Bool
 is_valid (V4 script) = v4.is_valid script
+is_valid (V6 script) = v6.is_valid script
 
 -- the text of a script in a version
 abbrev pub text_in : Version → Script → List ℕ
 text_in version (V4 script) = script4_text version script
+text_in version (V6 script) = script6_text version script
 
 -- a script that has a text in a version
 abbrev pub HasTextIn : Version → Script → Type 0
 HasTextIn version (V4 script) = IsScript4 version script
+HasTextIn version (V6 script) = IsScript6 version script
 
 -- the text of a script: that of version 2
 abbrev pub script_text : Script → List ℕ
@@ -32,7 +37,8 @@ IsScript script = HasTextIn Two script
 abbrev pub script_text_v1 : Script → List ℕ
 script_text_v1 script = text_in One script
 
--- the same, whose lease, if there is one, has the addresses and times alone
+-- the same, whose lease, if there is one, has in all fields that version 1 does not name those of
+-- the empty lease
 abbrev pub IsScriptV1 : Script → Type 0
 IsScriptV1 script = HasTextIn One script
 

@@ -1,5 +1,5 @@
 -- Scripts of an IPv4 client: their limits, the configuration that they give, and their text.
-use Rattle.std.specs.Prelude.{◌≡◌, Result, Ok, Err, ℕ, ◌==◌, ◌<◌, ◌^◌, Bool, true, ◌&&◌, not, nat_le, List, [], ◌∷◌, ◌++◌, length, codes, Option, Some, None, IfSome}
+use Rattle.std.specs.Prelude.{ℕ, ◌==◌, ◌<◌, ◌^◌, Bool, true, ◌&&◌, not, nat_le, List, [], ◌∷◌, ◌++◌, length, codes, Option, Some, None, IfSome}
 use Rattle.std.specs.List.{list_any}
 use Rattle.std.specs.Str.{is_utf8}
 use Rattle.std.specs.Fmt.{decimal}
@@ -7,13 +7,14 @@ use Rattle.hex.specs.Hex.{IsBytes, encode_lower}
 use Rattle.dhcp_stream.specs.HexText.{IsMac, hex_text}
 use Rattle.dhcp_stream.specs.Line.{line}
 use Rattle.dhcp4_msg.specs.declared.option_code.DhcpV4OptionCode.{DhcpV4OptionCode}
-use Rattle.dhcp_wire.specs.Error.{ErrorParts, no_memory}
 use Rattle.dhcp4_lease.specs.Config as configs
 use Rattle.dhcp4_lease.specs.Config.{Config, rising_codes}
 use Rattle.dhcp_script.specs.declared.lease4.Lease4.{Lease4}
 use Rattle.dhcp_script.specs.declared.script4.Script4.{Script4}
+use Rattle.dhcp_script.specs.Codes as lists
+use Rattle.dhcp_script.specs.Codes.{listed_text}
 use Rattle.dhcp_script.specs.Event.{are_valid}
-use Rattle.dhcp_script.specs.Field.{flag_text, or_word, spaced, unless_none}
+use Rattle.dhcp_script.specs.Field.{flag_text, spaced, unless_none}
 use Rattle.dhcp_script.specs.declared.version.Version.{Version}
 use Rattle.dhcp_script.specs.Lease4.{are_times_in_order, versioned_lease_text, HasLeaseText}
 use Rattle.dhcp_script.specs.Life.{IsLife, life_text}
@@ -36,8 +37,7 @@ is_host_name host =
 
 -- whether the codes that are listed, if any are, are not too many
 abbrev pub are_few : Option (List ℕ) → Bool
-are_few None = true
-are_few (Some listed) = nat_le (length listed) most_codes
+are_few listed = lists.are_few most_codes listed
 
 -- whether the times of a lease, if there is one, are in order
 abbrev pub is_in_order : Option Lease4 → Bool
@@ -52,16 +52,9 @@ is_valid script =
     && nat_le (length script.client) most_client_bytes && are_few script.codes
     && is_in_order script.lease && are_valid script.start script.events
 
--- the options that a configuration asks for: those listed, in rising order and each once; else
--- those of a new configuration
+-- the options that a configuration asks for
 abbrev pub requested : Option (List ℕ) → List DhcpV4OptionCode → List DhcpV4OptionCode
-requested None usual = usual
-requested (Some listed) usual = rising_codes listed
-
--- what was put into a configuration makes it this one, unless out of memory
-abbrev pub PutsConfig : {X : Type 0} → Result X ErrorParts → Config → Config → Type 0
-PutsConfig (Ok _) config expected = config ≡ expected
-PutsConfig (Err e) config expected = e ≡ no_memory
+requested listed usual = lists.requested rising_codes listed usual
 
 -- the configuration of the script's client; the interface has no name
 unfoldable pub config_of : Script4 → Config
@@ -74,10 +67,6 @@ config_of script = record (configs.config_of []) {
   host_name = script.host;
   request_opts = requested script.codes (configs.config_of []).request_opts;
 }
-
--- the codes: those listed, or the word `default`
-abbrev pub codes_text : Option (List ℕ) → List ℕ
-codes_text listed = or_word (codes "default") hex_text listed
 
 -- the interface
 abbrev pub iface_text : Script4 → List ℕ
@@ -97,7 +86,7 @@ first_lines version script =
 unfoldable pub script4_text : Version → Script4 → List ℕ
 script4_text version script =
     first_lines version script
-    ++ line (codes "codes " ++ codes_text script.codes)
+    ++ line (codes "codes " ++ listed_text hex_text script.codes)
     ++ line (codes "lease " ++ unless_none (versioned_lease_text version) script.lease)
     ++ life_text script.words script.start script.events
 

@@ -1,16 +1,29 @@
 //! Fields of a line: how their values are read.
 
 ghost use Rattle.std.specs.Prelude.{◌≡◌, ◌≤◌, [], ◌∷◌, ◌++◌, codes, IfOk, OnOk, string_bytes};
+ghost use Rattle.std.specs.Int.{w16};
 ghost use Rattle.std.specs.List.{flat_map};
-ghost use Rattle.dhcp_stream.specs.TextReader.{hex_in, in_field, number_in, Finds, Takes};
+ghost use Rattle.dhcp_stream.specs.TextReader.{
+  hex_in,
+  in_field,
+  number_in,
+  numbers_in,
+  Finds,
+  Takes,
+};
 ghost use Rattle.dhcp_script.specs.FieldReader.{flag_in, items_in};
+ghost use Rattle.dhcp_script.specs.Lease6Reader.{ia_type_in};
 
-use crate::hex_text::push_hex;
-use dhcp_stream::{ReadError, TextReader, cut_field, found, hex_field, ipv4_field, number_field};
+use crate::hex_text::{push_hex, push_octets};
+use dhcp_stream::{
+    ReadError, TextReader, codes_field, cut_field, found, hex_field, ipv4_field, ipv6_field,
+    number_field,
+};
 use dhcp_wire::{Bytes, Sequence, Text};
 use dhcp4_msg::DhcpV4ClasslessRoute;
+use dhcp6_msg::DhcpV6IaType;
 use std::alloc::{AllocError, Global};
-use std::net::Ipv4Addr;
+use std::net::{Ipv4Addr, Ipv6Addr};
 
 /// A value that a field has.
 pub trait Field: Drop {
@@ -47,6 +60,23 @@ impl Field for Ipv4Addr {
     fn push_to(&self, text: &mut String) -> Result<(), AllocError> {
         let address = *self;
         write!(text, "{address}")
+    }
+}
+
+impl Field for Ipv6Addr {
+    ghost use Rattle.dhcp_stream.specs.HexText.{address6_text};
+    ghost use Rattle.dhcp_stream.specs.TextReader.{address6_in};
+
+    ghost value_in = { address6_in };
+
+    ghost field_text = { address6_text };
+
+    fn from_field(_alloc: Global, field: &[u8]) -> Result<Self, ReadError> {
+        ipv6_field(field).ok_or(ReadError::Malformed)
+    }
+
+    fn push_to(&self, text: &mut String) -> Result<(), AllocError> {
+        push_octets(text, &self.octets())
     }
 }
 
@@ -161,6 +191,27 @@ impl Field for DhcpV4ClasslessRoute {
     }
 }
 
+impl Field for DhcpV6IaType {
+    ghost use Rattle.dhcp_script.specs.Lease6.{ia_type_text};
+    ghost use Rattle.dhcp_script.specs.Lease6Reader.{ia_type_in};
+
+    ghost value_in = { ia_type_in };
+
+    ghost field_text = { ia_type_text };
+
+    fn from_field(_alloc: Global, field: &[u8]) -> Result<Self, ReadError> {
+        ia_type(field).ok_or(ReadError::Malformed)
+    }
+
+    fn push_to(&self, text: &mut String) -> Result<(), AllocError> {
+        match self {
+            DhcpV6IaType::NonTemporaryAddresses => text.push_str("na"),
+            DhcpV6IaType::TemporaryAddresses => text.push_str("ta"),
+            DhcpV6IaType::PrefixDelegation => text.push_str("pd"),
+        }
+    }
+}
+
 impl<T: Field> Field for Option<T> {
     ghost use Rattle.dhcp_script.specs.Field.{unless_none};
     ghost use Rattle.std.specs.Prelude.{codes};
@@ -211,6 +262,21 @@ impl<T: Field> Field for Sequence<T> {
     }
 }
 
+// The type of an identity association.
+fn ia_type(field: &[u8]) -> Option<DhcpV6IaType>
+    ensures { result ≡ ia_type_in field.now }
+{
+    if field == b"na".as_slice() {
+        Some(DhcpV6IaType::NonTemporaryAddresses)
+    } else if field == b"ta".as_slice() {
+        Some(DhcpV6IaType::TemporaryAddresses)
+    } else if field == b"pd".as_slice() {
+        Some(DhcpV6IaType::PrefixDelegation)
+    } else {
+        None
+    }
+}
+
 // A decimal number, at most `max`.
 fn number(field: &[u8], max: u64) -> Result<u64, ReadError>
     ensures value { Finds result (number_in max field.now) }
@@ -224,6 +290,13 @@ pub fn hex(alloc: Global, field: &[u8]) -> Result<Bytes, ReadError>
     ensures { Finds result (hex_in field.now) }
 {
     found(hex_field(alloc, field))
+}
+
+/// Option codes of 16 bits in hex; `-` is none.
+pub fn hex_codes(alloc: Global, field: &[u8]) -> Result<Sequence<u16>, ReadError>
+    ensures { Finds result (numbers_in w16 field.now) }
+{
+    found(codes_field(alloc, field))
 }
 
 // The items of a list that is not empty, with commas between them.

@@ -1,10 +1,11 @@
 //! Hex in lower case, put at the end of a text.
 
 ghost use Rattle.std.specs.Prelude.{◌≡◌, ◌<◌, ◌++◌, ◌∷◌, [], OnOk, slice_index, string_bytes};
-ghost use Rattle.hex.specs.Hex.{lower_digits};
+ghost use Rattle.hex.specs.Hex.{encode_lower, lower_digits};
 ghost use Rattle.std.specs.List.{flat_map};
 ghost use Rattle.dhcp_script.specs.Field.{byte_digits};
 ghost use Rattle.dhcp_stream.specs.HexText.{hex_text};
+ghost use Rattle.dhcp_stream.specs.Line.{line};
 
 use std::alloc::AllocError;
 
@@ -19,6 +20,91 @@ pub fn push_hex(text: &mut String, bytes: &[u8]) -> Result<(), AllocError>
     } else {
         push_digits(text, bytes)
     }
+}
+
+/// Puts a line of bytes in hex at the end of a text.
+pub fn push_hex_line(text: &mut String, tag: &str, bytes: &[u8]) -> Result<(), AllocError>
+    ensures { OnOk result (string_bytes text.new
+        ≡ string_bytes text.old ++ line (tag.now ++ hex_text bytes.now)) }
+{
+    text.push_str(tag)?;
+    push_hex(text, bytes)?;
+    text.push('\n')
+}
+
+/// Puts octets in hex, such as those of an address, at the end of a text.
+pub fn push_octets(text: &mut String, octets: &[u8]) -> Result<(), AllocError>
+    ensures { OnOk result (string_bytes text.new
+        ≡ string_bytes text.old ++ encode_lower octets.now) }
+{
+    push_digits(text, octets)
+}
+
+/// A number that is printed as its bytes in hex.
+pub trait HexNumber: Copy + Drop {
+    ghost use Rattle.std.specs.Prelude.{◌≡◌, ◌<◌, ◌++◌, ℕ, List, OnOk, length, string_bytes};
+    ghost use Rattle.std.specs.List.{flat_map};
+    ghost use Rattle.dhcp_script.specs.Field.{byte_digits};
+
+    /// Its bytes, the most significant one first.
+    ghost bytes: { Self → List ℕ };
+
+    /// Puts their digits at the end of a text.
+    fn push_to(self, text: &mut String) -> Result<(), AllocError>
+        ensures { OnOk result (string_bytes text.new
+            ≡ string_bytes text.old ++ flat_map byte_digits (bytes self)) };
+
+    /// It has some.
+    ghost is_some: { (number : Self) → 0 < length (bytes number) };
+}
+
+impl HexNumber for u32 {
+    ghost use Rattle.std.specs.Int.{w32, to_be_bytes};
+    ghost use Rattle.std.proofs.Common.{lit<};
+
+    ghost bytes = { to_be_bytes w32 };
+
+    fn push_to(self, text: &mut String) -> Result<(), AllocError> {
+        push_digits(text, &self.to_be_bytes())
+    }
+
+    ghost is_some = { λ number. lit< tt };
+}
+
+impl HexNumber for u16 {
+    ghost use Rattle.std.specs.Int.{w16, to_be_bytes};
+    ghost use Rattle.std.proofs.Common.{lit<};
+
+    ghost bytes = { to_be_bytes w16 };
+
+    fn push_to(self, text: &mut String) -> Result<(), AllocError> {
+        push_digits(text, &self.to_be_bytes())
+    }
+
+    ghost is_some = { λ number. lit< tt };
+}
+
+/// Puts numbers in hex at the end of a text, or `-` for none.
+pub fn push_numbers<N: HexNumber>(text: &mut String, numbers: &[N]) -> Result<(), AllocError>
+    ensures { OnOk result (string_bytes text.new
+        ≡ string_bytes text.old ++ hex_text (flat_map N.bytes numbers.now)) }
+{
+    if numbers.is_empty() {
+        text.push('-')
+    } else {
+        push_each(text, numbers)
+    }
+}
+
+// Puts the digits of numbers at the end of a text.
+fn push_each<N: HexNumber>(text: &mut String, numbers: &[N]) -> Result<(), AllocError>
+    ensures { OnOk result (string_bytes text.new ≡ string_bytes text.old
+        ++ flat_map (λ number. flat_map byte_digits (N.bytes number)) numbers.now) }
+{
+    for number in numbers {
+        (*number).push_to(text)?;
+    }
+    Ok(())
 }
 
 /// Puts two hex digits for each byte at the end of a text.

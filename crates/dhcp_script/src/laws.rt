@@ -1,10 +1,20 @@
-//! A law of the texts. A call does nothing.
+//! Laws of the texts. A call does nothing.
 
 ghost use Rattle.std.specs.Prelude.{◌≡◌};
 ghost use Rattle.dhcp_script.specs.declared.script.Script.{Script};
-ghost use Rattle.dhcp_script.specs.Script.{script_text, script_text_v1};
+ghost use Rattle.dhcp_script.specs.declared.script.Script.TheVariants.{V4, V6};
+ghost use Rattle.dhcp_script.specs.declared.script4.Script4.{Script4};
+ghost use Rattle.dhcp_script.specs.declared.script6.Script6.{Script6};
+ghost use Rattle.dhcp_script.specs.declared.version.Version.{Version};
+ghost use Rattle.dhcp_script.specs.Script.{script_text, script_text_v1, text_in};
 
 /// No text is of both versions, be it of one script or of two.
 pub fn no_text_is_of_both_versions()
     ensures { (first second : Script) → script_text_v1 first ≡ script_text second → ⊥ }
+{}
+
+/// No text is of both families, in whatever versions.
+pub fn no_text_is_of_both_families()
+    ensures { (version other : Version) (first : Script4) (second : Script6)
+        → text_in version (V4 first) ≡ text_in other (V6 second) → ⊥ }
 {}

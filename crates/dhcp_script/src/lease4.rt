@@ -6,12 +6,17 @@ pub mod reader;
 ghost use Rattle.std.specs.Prelude.{◌≡◌, option_copied};
 ghost use Rattle.dhcp_wire.specs.Outcome.{Makes};
 ghost use Rattle.dhcp_script.specs.Lease4 as leases;
-ghost use Rattle.dhcp_script.specs.Lease4.{Puts};
+ghost use Rattle.dhcp_script.specs.Puts.{Puts};
 
+use self::printer::push_fields;
+use self::reader::read_lease;
+use crate::held::HeldLease;
+use crate::version::Version;
+use dhcp_stream::{ReadError, TextReader};
 use dhcp_wire::{DhcpError, Sequence, Text};
 use dhcp4_lease::DhcpV4Lease;
 use dhcp4_msg::DhcpV4ClasslessRoute;
-use std::alloc::Global;
+use std::alloc::{AllocError, Global};
 use std::net::Ipv4Addr;
 
 /// The fields of an IPv4 lease that its text has: all public ones but the MAC address of the
@@ -104,6 +109,23 @@ impl Lease4 {
         lease.domain_name = copied_text(alloc, self.domain_name.as_ref())?;
         lease.classless_routes = copied(alloc, self.classless_routes.as_ref())?;
         Ok(())
+    }
+}
+
+impl HeldLease for Lease4 {
+    ghost use Rattle.dhcp_script.specs.Lease4.{lease_text};
+    ghost use Rattle.dhcp_script.specs.Lease4Reader.{lease4_at};
+
+    ghost lease_at = { lease4_at };
+
+    ghost lease_text = { lease_text };
+
+    fn read(alloc: Global, version: Version, text: &mut TextReader) -> Result<Self, ReadError> {
+        read_lease(alloc, version, text)
+    }
+
+    fn push_to(&self, text: &mut String) -> Result<(), AllocError> {
+        push_fields(text, self)
     }
 }
 

@@ -2,16 +2,21 @@
 //! texts.
 #![tactic(auto)]
 
+mod codes;
 mod demo;
+mod duid;
 mod event;
 mod field;
+mod held;
 mod hex_text;
 pub mod laws;
 mod lease4;
+mod lease6;
 mod life;
 mod output;
 mod script;
 mod script4;
+mod script6;
 #[cfg(test)]
 mod tests;
 mod version;
@@ -19,7 +24,9 @@ mod version;
 pub use demo::demo_script;
 pub use event::{Event, EventWhat, MAX_EVENTS, MAX_PACKET_LEN, MOMENT_LIMIT, are_valid};
 pub use lease4::Lease4;
+pub use lease6::Lease6;
 pub use output::summary::print_summary;
 pub use output::{Output, OutputWhat, Reported, print_outputs};
 pub use script::{Script, read_script, read_script_v1, upgrade, write_script};
 pub use script4::Script4;
+pub use script6::Script6;

@@ -11,6 +11,7 @@ use self::printer::push_outputs;
 use dhcp_clock::Handed;
 use dhcp_wire::{Bytes, DhcpError, ErrorKind};
 use dhcp4_client::DhcpV4State;
+use dhcp6_client::DhcpV6State;
 use std::alloc::Global;
 
 /// The state of a client.
@@ -18,6 +19,8 @@ use std::alloc::Global;
 pub enum Reported {
     /// The state of an IPv4 client.
     V4(DhcpV4State),
+    /// The state of an IPv6 client.
+    V6(DhcpV6State),
 }
 
 /// What is reported.
@@ -51,7 +54,7 @@ pub fn print_outputs(alloc: Global, outputs: &[Output]) -> Result<Bytes, DhcpErr
     ensures { Makes (λ text. text) result (outputs_text (map plain_output outputs.now)) }
 {
     let mut text = String::new(alloc);
-    push_outputs(&mut text, outputs)?;
+    push_outputs(alloc, &mut text, outputs)?;
     text.push_str("ok\n")?;
     Ok(Bytes::from(text.into_bytes()))
 }

@@ -17,9 +17,10 @@ ghost use Rattle.dhcp_script.specs.Script.{
   IsScriptV1,
 };
 
-use crate::Script4;
 use crate::script4::printer::push_script4;
+use crate::script6::printer::push_script6;
 use crate::version::Version;
+use crate::{Script4, Script6};
 use dhcp_stream::ReadError;
 use dhcp_wire::{Bytes, DhcpError};
 use std::alloc::{AllocError, Global};
@@ -29,6 +30,8 @@ use std::alloc::{AllocError, Global};
 pub enum Script {
     /// A script of an IPv4 client.
     V4(Script4),
+    /// A script of an IPv6 client.
+    V6(Script6),
 }
 
 impl Script {
@@ -38,6 +41,7 @@ impl Script {
     {
         match self {
             Script::V4(script) => script.is_valid(),
+            Script::V6(script) => script.is_valid(),
         }
     }
 }
@@ -52,9 +56,10 @@ pub fn read_script(alloc: Global, text: &[u8]) -> Result<Option<Script>, DhcpErr
     read_version(alloc, Version::Two, text)
 }
 
-/// The script of a text in version 1, which has the addresses and times of a lease alone; its other
-/// fields are those of the empty lease. None if and only if no script has this version 1 text; no
-/// text is that of two scripts. Out of memory is the only error.
+/// The script of a text in version 1, which has the first fields of a lease alone, six of an IPv4
+/// lease and nine of an IPv6 lease; its other fields are those of the empty lease. None if and only
+/// if no script has this version 1 text; no text is that of two scripts. Out of memory is the only
+/// error.
 pub fn read_script_v1(alloc: Global, text: &[u8]) -> Result<Option<Script>, DhcpError>
     ensures reading { GivesReading script_text_v1 IsScriptV1 result text.now }
     ensures one { (script : Script) → IsScriptV1 script → script_text_v1 script ≡ text.now →
@@ -96,6 +101,7 @@ pub fn write_script(alloc: Global, script: &Script) -> Result<Bytes, DhcpError>
     let mut text = String::new(alloc);
     match script {
         Script::V4(script) => push_script4(&mut text, script)?,
+        Script::V6(script) => push_script6(&mut text, script)?,
     }
     Ok(Bytes::from(text.into_bytes()))
 }

@@ -8,9 +8,11 @@ ghost use Rattle.std.specs.Str as utf8;
 ghost use Rattle.std.specs.Str.{IsUtf8};
 ghost use Rattle.dhcp_wire.specs.Outcome.{Makes};
 ghost use Rattle.dhcp_script.specs.Lease4.{lease_with};
+ghost use Rattle.dhcp_script.specs.Puts.{Puts};
 ghost use Rattle.dhcp_script.specs.Script4 as scripts;
-ghost use Rattle.dhcp_script.specs.Script4.{config_of, is_valid, requested, PutsConfig};
+ghost use Rattle.dhcp_script.specs.Script4.{config_of, is_valid, requested};
 
+use crate::codes::are_few;
 use crate::{Event, Lease4, are_valid};
 use dhcp_wire::{Bytes, DhcpError, Sequence};
 use dhcp4_lease::{DhcpV4Config, DhcpV4Lease};
@@ -63,7 +65,7 @@ impl Script4 {
         self.iface_index != 0
             && is_host_name(self.host.as_slice())
             && self.client.len() <= MAX_CLIENT_LEN
-            && are_few(&self.codes)
+            && are_few(&self.codes, MAX_CODES)
             && is_in_order(&self.lease)
             && are_valid(self.start, self.events.as_slice())
     }
@@ -100,7 +102,7 @@ impl Script4 {
 #[tactic(auto, unfolding(dhcp4_lease::specs::Config::with_mac))]
 fn put_mac(config: &mut DhcpV4Config, mac: &[u8]) -> Result<(), DhcpError>
     requires { length mac.now ≡ 6 }
-    ensures { PutsConfig result config.new (record config.old { src_mac = mac.now }) }
+    ensures { Puts result config.new (record config.old { src_mac = mac.now }) }
 {
     config.set_iface_mac_raw(mac)?;
     Ok(())
@@ -109,7 +111,7 @@ fn put_mac(config: &mut DhcpV4Config, mac: &[u8]) -> Result<(), DhcpError>
 // Puts the host name into a configuration.
 fn put_host(alloc: Global, config: &mut DhcpV4Config, host: &[u8]) -> Result<(), DhcpError>
     requires { IsUtf8 host.now }
-    ensures { PutsConfig result config.new (record config.old { host_name = host.now }) }
+    ensures { Puts result config.new (record config.old { host_name = host.now }) }
 {
     if let Ok(name) = std::str::from_utf8(host) {
         config.set_host_name(alloc, name)?;
@@ -120,7 +122,7 @@ fn put_host(alloc: Global, config: &mut DhcpV4Config, host: &[u8]) -> Result<(),
 // Puts the client identifier, if there is one, into a configuration that has none.
 fn put_client(alloc: Global, config: &mut DhcpV4Config, client: &[u8]) -> Result<(), DhcpError>
     requires { config.old.client_id ≡ [] }
-    ensures { PutsConfig result config.new (record config.old { client_id = client.now }) }
+    ensures { Puts result config.new (record config.old { client_id = client.now }) }
 {
     if let Some((kind, bytes)) = client.split_first() {
         config.set_client_id(alloc, *kind, bytes)?;
@@ -134,7 +136,7 @@ fn put_codes(
     config: &mut DhcpV4Config,
     codes: &Option<Bytes>,
 ) -> Result<(), DhcpError>
-    ensures { PutsConfig result config.new
+    ensures { Puts result config.new
         (record config.old { request_opts = requested codes.now config.old.request_opts }) }
 {
     if let Some(listed) = codes {
@@ -155,16 +157,6 @@ fn is_utf8(bytes: &[u8]) -> bool
     ensures { result ≡ utf8.is_utf8 bytes.now }
 {
     std::str::from_utf8(bytes).is_ok()
-}
-
-// Whether the codes that are listed, if any are, are not too many.
-fn are_few(codes: &Option<Bytes>) -> bool
-    ensures { result ≡ scripts.are_few codes.now }
-{
-    match codes {
-        None => true,
-        Some(listed) => listed.len() <= MAX_CODES,
-    }
 }
 
 // Whether the times of a lease, if there is one, are in order.

@@ -1,8 +1,10 @@
 //! Runs of the texts, of the limits and of the demonstration.
 
 mod demo;
+mod ipv6;
 mod limits;
 mod outputs;
+mod states6;
 mod texts;
 mod versions;
 

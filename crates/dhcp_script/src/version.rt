@@ -6,7 +6,7 @@ ghost use Rattle.dhcp_script.specs.Version as versions;
 /// The version of a text.
 #[derive(Clone, Copy, Debug, PartialEq, Eq)]
 pub enum Version {
-    /// The first one: of a lease it has the addresses and the times alone.
+    /// The first one: of a lease it has the first fields alone, up to the last of its times.
     One,
     /// The second one, in which texts are written.
     Two,

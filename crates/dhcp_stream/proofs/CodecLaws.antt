@@ -1,5 +1,5 @@
 -- Reading and printing undo each other: fields, and what is made of them.
-use Rattle.std.proofs.Common.{◌≡◌, ◌≢◌, ℕ, ◌+◌, ◌<◌, ◌==◌, Bool, true, false, not, ◌&&◌, cond, eqb, List, [], ◌∷◌, ◌++◌, length, take, drop, get_or, Option, Some, None, option_map, unwrap_or, Result, Ok, Err, refl, sym, ap, ◌∙◌, append_assoc, get_or-take, eq-eqb, arith}
+use Rattle.std.proofs.Common.{◌≡◌, ◌≢◌, ℕ, ◌+◌, ◌<◌, ◌==◌, Bool, true, false, not, ◌&&◌, cond, eqb, List, [], ◌∷◌, ◌++◌, length, take, drop, get_or, Option, Some, None, option_map, unwrap_or, Err, refl, sym, ap, ◌∙◌, append_assoc, get_or-take, eq-eqb, arith}
 use Rattle.std.specs.Prelude.{All, MatchOption, position}
 use denote.Bor.{Bor}
 use Rattle.std.specs.Str.{bytes_eq}

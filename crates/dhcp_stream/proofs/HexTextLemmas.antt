@@ -8,7 +8,7 @@ use Rattle.std.proofs.lemmas.List.Elements.{All-nil, All-cons, All-head, All-tai
 use Rattle.hex.specs.Hex.{IsBytes, decode_of, decode_pairs, decode_sized, digit_or_error, hex_digit_value, encode_lower, encode_with, lower_digits, pair_value, value_at, ◌>>=◌}
 use Rattle.hex.specs.declared.error.FromHexError.{FromHexError}
 use Rattle.hex.proofs.HexLemmas.{decode_of-encode_lower, decode_of-even, decode_of-ok, decode_sized-ok, decode_sized-twice, length-encode_with}
-use Rattle.dhcp_stream.specs.HexText.{IsMac, hex_text, is_lower_digit}
+use Rattle.dhcp_stream.specs.HexText.{AreOctets, hex_text, is_lower_digit}
 use Rattle.dhcp_stream.specs.Reading.{IsReading}
 
 -- a byte passes, where it is a lower-case digit only where it is the digit of its value
@@ -158,16 +158,16 @@ decode_sized-encode_lower bytes n long fit =
     let twice = length-encode_with lower_digits bytes in
     decode_sized-twice (encode_lower bytes) n (omega (arith, twice)) ∙ decode_of-encode_lower bytes fit
 
--- what decoding a field of lower-case digits into room for six bytes answers is the reading of the field
-pub IsReading-mac : (field : List ℕ) (answer : Result (List ℕ) FromHexError) → AllPass is_lower_digit field → answer ≡ decode_sized field 6
-    → IsReading encode_lower IsMac (result_ok answer) field
-IsReading-mac field (Ok mac) lower e =
-    let twice = decode_sized-ok field 6 mac (sym e) in
-    let decoded = sym (decode_sized-twice field 6 twice) ∙ sym e in
-    let ok = decode_of-ok field mac decoded in
-    (encode_lower-decode_of field mac lower decoded, (omega (arith, ok.2), ok.3))
-IsReading-mac field (Err refusal) lower e =
-    λ mac h same. cc (e ∙ ap (λ text. decode_sized text 6) (sym same) ∙ decode_sized-encode_lower mac 6 h.0 h.1)
+-- what decoding a field of lower-case digits into room for n bytes answers is the reading of the field
+pub IsReading-octets : (n : ℕ) (field : List ℕ) (answer : Result (List ℕ) FromHexError) → AllPass is_lower_digit field → answer ≡ decode_sized field n
+    → IsReading encode_lower (AreOctets n) (result_ok answer) field
+IsReading-octets n field (Ok octets) lower e =
+    let twice = decode_sized-ok field n octets (sym e) in
+    let decoded = sym (decode_sized-twice field n twice) ∙ sym e in
+    let ok = decode_of-ok field octets decoded in
+    (encode_lower-decode_of field octets lower decoded, (omega (arith, ok.2), ok.3))
+IsReading-octets n field (Err refusal) lower e =
+    λ octets h same. cc (e ∙ ap (λ text. decode_sized text n) (sym same) ∙ decode_sized-encode_lower octets n h.0 h.1)
 
 -- a field with another byte than a lower-case digit is the text of no bytes
 pub encode_lower-not : (field : List ℕ) → (AllPass is_lower_digit field → ⊥) → (bytes : List ℕ) → IsBytes bytes → encode_lower bytes ≡ field → ⊥

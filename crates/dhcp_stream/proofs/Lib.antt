@@ -1,7 +1,9 @@
 pub mod CodecLaws
+pub mod HexNumberLemmas
 pub mod HexTextLemmas
+pub mod Ipv6Lemmas
+pub mod NumberBytes
 pub mod NumberLemmas
 pub mod SearchLemmas
 pub mod StreamLemmas
 pub mod ValueLemmas
-pub mod WordLemmas

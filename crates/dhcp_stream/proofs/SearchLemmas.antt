@@ -1,5 +1,5 @@
 -- What a search for a byte and a comparison of slices tell.
-use Rattle.std.proofs.Common.{◌≡◌, ℕ, ◌<◌, ◌≤◌, Bool, true, false, not, cond, ltb, List, ◌∷◌, ◌++◌, length, get_or, Some, None, refl, sym, ◌∙◌, length-append, arith}
+use Rattle.std.proofs.Common.{◌≡◌, ℕ, ◌≤◌, Bool, true, false, not, cond, ltb, List, ◌∷◌, ◌++◌, length, get_or, Some, None, refl, sym, ◌∙◌, length-append, arith}
 use Rattle.std.specs.Prelude.{position}
 use Rattle.std.specs.List.{position_or_len}
 use Rattle.std.specs.Str.{bytes_eq}

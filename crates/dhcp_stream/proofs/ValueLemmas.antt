@@ -1,35 +1,37 @@
 -- What each kind of field gives, and how its values are printed, undo each other.
-use Rattle.std.proofs.Common.{◌≡◌, ◌≢◌, ℕ, zero, suc, ◌<◌, ◌≤◌, ◌^◌, ◌==◌, Bool, true, false, List, [], ◌∷◌, ◌++◌, length, map, get_or, Option, Some, None, Result, Ok, Err, refl, sym, ap, ◌∙◌, append_assoc, append-nil, eq-eqb, arith, codes}
+use Rattle.std.proofs.Common.{◌≡◌, ℕ, zero, suc, ◌*◌, ◌<◌, ◌≤◌, ◌^◌, ◌==◌, Bool, true, false, List, [], ◌∷◌, ◌++◌, length, map, get_or, Option, Some, None, option_map, unwrap_or, Result, Ok, Err, refl, ap, ◌∙◌, append_assoc, length-append, eq-eqb, arith}
 use Rattle.std.specs.Prelude.{All, nat_le, nat_lt, ok_or, IfOk}
 use Rattle.std.specs.List.{list_all, slice_split}
 use Rattle.std.specs.Fmt.{decimal}
-use Rattle.std.specs.Int.{w32, from_be_bytes, to_be_bytes}
-use Rattle.std.specs.Net.Addr.{IsIpv4Addr, ipv4_octets}
+use Rattle.std.specs.Int.{Width, w16, w32, byte_len, from_be_bytes, to_be_bytes}
+use Rattle.std.specs.Net.Addr.{IsIpv4Addr, IsIpv6Addr, ipv4_octets, ipv6_octets, ipv6_segments, segments_of}
 use Rattle.std.specs.Net.Text.{ipv4_text}
 use Rattle.std.specs.Result.{result_unwrap_or}
-use Rattle.std.specs.Str.{IsUtf8, is_utf8}
+use Rattle.std.specs.Str.{is_utf8}
 use Rattle.std.specs.Str.Parse.{AllDigits, digits_value}
-use Rattle.std.specs.declared.net.Ipv4Addr.{Ipv4Addr}
+use Rattle.std.specs.declared.net.Ipv6Addr.{Ipv6Addr}
 use Rattle.std.proofs.lemmas.Bool.{and_parts, eqb-true, le-leb, leb-true, ltb-true, lt-ltb, ne_eqb}
 use Rattle.std.proofs.lemmas.Fmt.{decimal_is_IsNumeral, digits_value-decimal}
 use Rattle.std.proofs.lemmas.List.Elements.{All-cons, All-nil, All-head, All-tail, All-weaker, All-from_get_or}
 use Rattle.std.proofs.lemmas.List.Splits.{slice_split_at, slice_split_none}
-use Rattle.std.proofs.lemmas.Nat.{be_bytes_4, from_be_bytes-to_be_bytes_4}
 use Rattle.std.proofs.lemmas.Str.{IsUtf8-from_is_utf8, is_utf8-from_IsUtf8}
 use Rattle.std.proofs.lemmas.Str.Parse.{IsNumeralModel, digit_at, numerals_by_value, tells_digits}
 use Rattle.hex.specs.Hex.{IsBytes, decode_of, encode_lower}
 use Rattle.hex.specs.declared.error.FromHexError.{FromHexError}
 use Rattle.hex.proofs.HexLemmas.{decode_of-encode_lower, decode_of-ok}
 use Rattle.dhcp_wire.specs.Error.{ErrorParts}
-use Rattle.dhcp_wire.specs.Field.{address_of}
-use Rattle.dhcp_stream.specs.HexText.{AreWords, IsMac, IsText, hex_text, word_bytes, words_text}
+use Rattle.dhcp_wire.specs.Field.{Read, address_of, bytes_at, ipv6_address_of, number_at}
+use Rattle.dhcp_wire.proofs.FieldLaws.{HasBigEndian, big_endian_16, big_endian_32, bytes_at_cut, bytes_at_short, number_at-to_be_bytes}
+use Rattle.dhcp_stream.specs.HexText.{AreOctets, AreOfWidth, AreWords, IsMac, IsText, address6_text, hex_text, number_bytes, numbers_text, words_text}
 use Rattle.dhcp_stream.specs.Number.{address_text}
 use Rattle.dhcp_stream.specs.Reading.{IsReading, GivesReading}
 use Rattle.dhcp_stream.specs.declared.text_reader.ReadError.{ReadError}
 use Rattle.dhcp_stream.specs.declared.text_reader.ReadError.TheVariants.{Malformed}
-use Rattle.dhcp_stream.specs.TextReader.{address_in, are_octets, hex_bytes, hex_in, hex_utf8_in, mac_in, number_in, words_in, words_of_bytes, field_at, in_field, Finds, IsFound, Takes}
+use Rattle.dhcp_stream.specs.TextReader.{address6_in, address_in, are_octets, checked, hex_bytes, hex_in, hex_utf8_in, mac_in, number_in, numbers_in, numbers_of, numbers_within, words_in, field_at, in_field, Finds, IsFound, Takes}
 use Rattle.dhcp_stream.proofs.CodecLaws.{IsValue, IsValue-checked, by_reading}
-use Rattle.dhcp_stream.proofs.WordLemmas.{IsBytes-word_bytes}
+use Rattle.dhcp_stream.proofs.Ipv6Lemmas.{AreOctets-ipv6, segments_of-octets_of, segments-small}
+use Rattle.dhcp_stream.proofs.HexNumberLemmas.{IsBytes-number_bytes}
+use Rattle.dhcp_stream.proofs.NumberBytes.{IsBytes-front, IsBytes-rest, length-to_be_bytes}
 
 -- digits and their value, in std's words
 own : IsNumeralModel (AllDigits 10) (digits_value 10)
@@ -77,46 +79,116 @@ IsValue-hex_utf8 =
       utf8 = IsUtf8-from_is_utf8 (hex_bytes field) passes;
     })
 
+-- so many octets
+IsValue-octets : (n : ℕ) → IsValue encode_lower (AreOctets n) (λ field. checked encode_lower (λ bytes. length bytes == n) (hex_bytes field) field)
+IsValue-octets n =
+    IsValue-checked encode_lower (λ bytes. length bytes == n) (AreOctets n) hex_bytes (λ bytes fits. hex_bytes-encode_lower bytes fits.1) (λ bytes fits. eq-eqb (length bytes) n fits.0)
+    (λ field passes same. (eqb-true (length (hex_bytes field)) n passes, IsBytes-hex_bytes (decode_of field) field refl))
+
 -- MAC addresses
 pub IsValue-mac : IsValue encode_lower IsMac mac_in
 unfolding mac_in
-IsValue-mac =
-    IsValue-checked encode_lower (λ bytes. length bytes == 6) IsMac hex_bytes (λ bytes fits. hex_bytes-encode_lower bytes fits.1) (λ bytes fits. eq-eqb (length bytes) 6 fits.0)
-    (λ field passes same. (eqb-true (length (hex_bytes field)) 6 passes, IsBytes-hex_bytes (decode_of field) field refl))
+IsValue-mac = IsValue-octets 6
 
--- ---- words
+-- IPv6 addresses
+pub IsValue-address6 : IsValue address6_text IsIpv6Addr address6_in
+unfolding address6_in
+IsValue-address6 =
+    IsValue-checked address6_text (λ address. length (ipv6_segments address) == 8) IsIpv6Addr (λ field. ipv6_address_of (hex_bytes field))
+    (λ address fits. ap ipv6_address_of (hex_bytes-encode_lower (ipv6_octets address) (AreOctets-ipv6 address fits).1) ∙ of_octets address fits)
+    (λ address fits. eq-eqb (length (ipv6_segments address)) 8 fits.0)
+    (λ field passes same. (eqb-true (length (segments_of (hex_bytes field))) 8 passes, segments-small (hex_bytes field) (IsBytes-hex_bytes (decode_of field) field refl)))
+  where
+    of_octets : (address : Ipv6Addr) → IsIpv6Addr address → ipv6_address_of (ipv6_octets address) ≡ address
+    of_octets address fits = rw (segments_of-octets_of (ipv6_segments address) fits.1) refl
 
--- the bytes of words give them
-words_of_bytes-word_bytes : (words : List ℕ) → AreWords words → words_of_bytes (word_bytes words) ≡ words
-words_of_bytes-word_bytes [] fit = refl
-words_of_bytes-word_bytes (word ∷ words) fit =
-    let small : ℕ → Type 0 = λ n. n < 2 ^ 32 in
-    let ih = words_of_bytes-word_bytes words (All-tail small word words fit) in
-    let first : from_be_bytes w32 (to_be_bytes w32 word) ≡ word = from_be_bytes-to_be_bytes_4 word (All-head small word words fit) in
-    ap (λ w. w ∷ words_of_bytes (word_bytes words)) first ∙ ap (λ ws. word ∷ ws) ih
+-- ---- numbers of a width
 
--- the number of four bytes is a word
+-- a width of some bytes, at which numbers and their bytes undo each other
+record IsWholeWidth (width : Width) : Type 0 where
+  some : 0 < byte_len width
+  back : HasBigEndian width
+  small : (bytes : List ℕ) → length bytes ≡ byte_len width → IsBytes bytes → from_be_bytes width bytes < 2 ^ (8 * byte_len width)
+
+module _ (width : Width) (is : IsWholeWidth width) where
+  -- numbers have no fewer bytes
+  number_bytes-long : (numbers : List ℕ) → length numbers ≤ length (number_bytes width numbers)
+  number_bytes-long [] = omega arith
+  number_bytes-long (number ∷ numbers) =
+      let ih = number_bytes-long numbers in
+      let some = is.some in
+      let one = length-to_be_bytes width number in
+      let sum = length-append (to_be_bytes width number) (number_bytes width numbers) in
+      omega arith
+
+  -- no bytes are no number
+  number_at-none : number_at width [] ≡ None
+  number_at-none = rw (bytes_at_short (byte_len width) [] is.some) refl
+
+  -- the bytes of numbers give them
+  numbers_within-number_bytes : (most : ℕ) (numbers : List ℕ) → AreOfWidth width numbers → length numbers ≤ most → numbers_within most width (number_bytes width numbers) ≡ numbers
+  unfolding numbers_within
+  numbers_within-number_bytes zero [] fit few = refl
+  numbers_within-number_bytes zero (number ∷ numbers) fit few = absurd (omega arith)
+  numbers_within-number_bytes (suc most) [] fit few = rw number_at-none refl
+  numbers_within-number_bytes (suc most) (number ∷ numbers) fit few =
+      rw (number_at-to_be_bytes width is.back number (number_bytes width numbers) (All-head (λ n. n < 2 ^ (8 * byte_len width)) number numbers fit))
+      (ap (λ later. number ∷ later) (numbers_within-number_bytes most numbers (All-tail (λ n. n < 2 ^ (8 * byte_len width)) number numbers fit) (omega arith)))
+
+  -- the numbers of bytes fit the width
+  AreOfWidth-numbers_within : (most : ℕ) (bytes : List ℕ) → IsBytes bytes → AreOfWidth width (numbers_within most width bytes)
+  unfolding numbers_within
+  AreOfWidth-numbers_within zero bytes fit = All-nil (λ n. n < 2 ^ (8 * byte_len width))
+  AreOfWidth-numbers_within (suc most) bytes fit = by_read (λ rest fit. AreOfWidth-numbers_within most rest fit) (bytes_at (byte_len width) bytes) refl
+    where
+      next : Read (List ℕ) → List ℕ
+      next read = unwrap_or (option_map (λ (read : ℕ × List ℕ). read.0 ∷ numbers_within most width read.1) (option_map (λ (read : List ℕ × List ℕ). (from_be_bytes width read.0, read.1)) read)) []
+
+      by_read : ((rest : List ℕ) → IsBytes rest → AreOfWidth width (numbers_within most width rest)) → (read : Read (List ℕ)) → bytes_at (byte_len width) bytes ≡ read → AreOfWidth width (next read)
+      by_read ih None e = All-nil (λ n. n < 2 ^ (8 * byte_len width))
+      by_read ih (Some read) e =
+          let cut = bytes_at_cut (byte_len width) bytes read.0 read.1 e in
+          let both : IsBytes (read.0 ++ read.1) = λ i. rw (← cut.1) (fit i) in
+          All-cons (λ n. n < 2 ^ (8 * byte_len width)) (from_be_bytes width read.0) (numbers_within most width read.1)
+          (is.small read.0 cut.0 (IsBytes-front read.0 read.1 both)) (ih read.1 (IsBytes-rest read.0 read.1 both))
+
+  -- numbers of the width
+  IsValue-numbers : IsValue (numbers_text width) (AreOfWidth width) (numbers_in width)
+  unfolding numbers_in
+  IsValue-numbers =
+      IsValue-checked (numbers_text width) (λ numbers. true) (AreOfWidth width) (λ field. numbers_of width (hex_bytes field))
+      (λ numbers fits. ap (numbers_of width) (hex_bytes-hex_text (number_bytes width numbers) (IsBytes-number_bytes width numbers))
+      ∙ numbers_within-number_bytes (length (number_bytes width numbers)) numbers fits (number_bytes-long numbers))
+      (λ numbers fits. refl)
+      (λ field passes same. AreOfWidth-numbers_within (length (hex_bytes field)) (hex_bytes field) (IsBytes-hex_bytes (decode_of field) field refl))
+
+-- the number of two bytes, and of four
+short-fits : (a b : ℕ) → a < 256 → b < 256 → from_be_bytes w16 (a ∷ b ∷ []) < 2 ^ 16
+short-fits a b fa fb = omega arith
+
+two_bytes : (bytes : List ℕ) → length bytes ≡ 2 → IsBytes bytes → from_be_bytes w16 bytes < 2 ^ 16
+two_bytes [] long fit = absurd (omega arith)
+two_bytes (a ∷ []) long fit = absurd (omega arith)
+two_bytes (a ∷ b ∷ []) long fit = short-fits a b (fit 0) (fit 1)
+two_bytes (a ∷ b ∷ c ∷ rest) long fit = absurd (omega arith)
+
 word-fits : (a b c d : ℕ) → a < 256 → b < 256 → c < 256 → d < 256 → from_be_bytes w32 (a ∷ b ∷ c ∷ d ∷ []) < 2 ^ 32
 word-fits a b c d fa fb fc fd = omega arith
 
--- the words of bytes are words
-AreWords-words_of_bytes : (bytes : List ℕ) → IsBytes bytes → AreWords (words_of_bytes bytes)
-AreWords-words_of_bytes [] fit = All-nil (λ word. word < 2 ^ 32)
-AreWords-words_of_bytes (a ∷ []) fit = All-nil (λ word. word < 2 ^ 32)
-AreWords-words_of_bytes (a ∷ b ∷ []) fit = All-nil (λ word. word < 2 ^ 32)
-AreWords-words_of_bytes (a ∷ b ∷ c ∷ []) fit = All-nil (λ word. word < 2 ^ 32)
-AreWords-words_of_bytes (a ∷ b ∷ c ∷ d ∷ bytes) fit =
-    All-cons (λ word. word < 2 ^ 32) (from_be_bytes w32 (a ∷ b ∷ c ∷ d ∷ [])) (words_of_bytes bytes)
-    (word-fits a b c d (fit 0) (fit 1) (fit 2) (fit 3)) (AreWords-words_of_bytes bytes (λ i. fit (suc (suc (suc (suc i))))))
+four_bytes : (bytes : List ℕ) → length bytes ≡ 4 → IsBytes bytes → from_be_bytes w32 bytes < 2 ^ 32
+four_bytes [] long fit = absurd (omega arith)
+four_bytes (a ∷ []) long fit = absurd (omega arith)
+four_bytes (a ∷ b ∷ []) long fit = absurd (omega arith)
+four_bytes (a ∷ b ∷ c ∷ []) long fit = absurd (omega arith)
+four_bytes (a ∷ b ∷ c ∷ d ∷ []) long fit = word-fits a b c d (fit 0) (fit 1) (fit 2) (fit 3)
+four_bytes (a ∷ b ∷ c ∷ d ∷ e ∷ rest) long fit = absurd (omega arith)
 
--- words
+-- option codes of 16 bits, and words of 32 bits
+pub IsValue-codes : IsValue (numbers_text w16) (AreOfWidth w16) (numbers_in w16)
+IsValue-codes = IsValue-numbers w16 (record { some = omega arith; back = big_endian_16; small = two_bytes })
+
 pub IsValue-words : IsValue words_text AreWords words_in
-unfolding words_in
-IsValue-words =
-    IsValue-checked words_text (λ words. true) AreWords (λ field. words_of_bytes (hex_bytes field))
-    (λ words fits. ap words_of_bytes (hex_bytes-hex_text (word_bytes words) (IsBytes-word_bytes words fits)) ∙ words_of_bytes-word_bytes words fits)
-    (λ words fits. refl)
-    (λ field passes same. AreWords-words_of_bytes (hex_bytes field) (IsBytes-hex_bytes (decode_of field) field refl))
+IsValue-words = IsValue-numbers w32 (record { some = omega arith; back = big_endian_32; small = four_bytes })
 
 -- ---- addresses
 

@@ -1,9 +1,11 @@
--- Fields of texts in hex: bytes, two lower-case digits for each, words of 32 bits, and MAC
--- addresses.
-use Rattle.std.specs.Prelude.{◌≡◌, ◌<◌, ◌^◌, ℕ, Bool, ◌&&◌, ◌||◌, nat_le, List, [], ◌∷◌, length, codes, All}
+-- Fields of texts in hex: bytes, two lower-case digits for each, numbers of a width, MAC addresses
+-- and IPv6 addresses.
+use Rattle.std.specs.Prelude.{◌≡◌, ◌<◌, ◌^◌, ◌*◌, ℕ, Bool, ◌&&◌, ◌||◌, nat_le, List, [], ◌∷◌, length, codes, All}
 use Rattle.std.specs.List.{flat_map}
-use Rattle.std.specs.Int.{w32, to_be_bytes}
+use Rattle.std.specs.Int.{Width, w32, byte_len, to_be_bytes}
+use Rattle.std.specs.Net.Addr.{ipv6_octets}
 use Rattle.std.specs.Str.{IsUtf8}
+use Rattle.std.specs.declared.net.Ipv6Addr.{Ipv6Addr}
 use Rattle.hex.specs.Hex.{IsBytes, encode_lower}
 
 -- the text of a list of bytes: its digits, or `-` where it has none
@@ -15,21 +17,37 @@ hex_text (byte ∷ bytes) = encode_lower (byte ∷ bytes)
 abbrev pub is_lower_digit : ℕ → Bool
 is_lower_digit byte = (nat_le 48 byte && nat_le byte 57) || (nat_le 97 byte && nat_le byte 102)
 
+-- so many bytes
+abbrev pub AreOctets : ℕ → List ℕ → Type 0
+AreOctets n octets = (length octets ≡ n) × IsBytes octets
+
 -- the six bytes of an MAC address
 abbrev pub IsMac : List ℕ → Type 0
-IsMac mac = (length mac ≡ 6) × IsBytes mac
+IsMac mac = AreOctets 6 mac
 
--- the bytes of words, the most significant byte of each first
-abbrev pub word_bytes : List ℕ → List ℕ
-word_bytes words = flat_map (to_be_bytes w32) words
+-- the text of an IPv6 address: the digits of its sixteen octets
+abbrev pub address6_text : Ipv6Addr → List ℕ
+address6_text address = encode_lower (ipv6_octets address)
 
--- the text of words: eight digits for each, or `-` where there is none
+-- the bytes of numbers of a width, the most significant byte of each first
+abbrev pub number_bytes : Width → List ℕ → List ℕ
+number_bytes width numbers = flat_map (to_be_bytes width) numbers
+
+-- the text of such numbers: two digits for each byte, or `-` where there is none
+abbrev pub numbers_text : Width → List ℕ → List ℕ
+numbers_text width numbers = hex_text (number_bytes width numbers)
+
+-- numbers of a width
+abbrev pub AreOfWidth : Width → List ℕ → Type 0
+AreOfWidth width numbers = All (λ number. number < 2 ^ (8 * byte_len width)) numbers
+
+-- the text of words of 32 bits: eight digits for each, or `-` where there is none
 abbrev pub words_text : List ℕ → List ℕ
-words_text words = hex_text (word_bytes words)
+words_text words = numbers_text w32 words
 
 -- numbers of 32 bits
 abbrev pub AreWords : List ℕ → Type 0
-AreWords words = All (λ word. word < 2 ^ 32) words
+AreWords words = AreOfWidth w32 words
 
 -- the bytes of a text, which are UTF-8
 pub record IsText (bytes : List ℕ) : Type 0 where

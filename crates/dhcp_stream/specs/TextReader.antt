@@ -1,19 +1,20 @@
 -- Reading a text from its front: words, and fields up to a byte that they do not hold. A reading
 -- gives the value and what is left of the text.
-use Rattle.std.specs.Prelude.{◌≡◌, ℕ, ◌==◌, ◌&&◌, nat_lt, nat_le, Bool, true, false, if◌then◌else◌, List, [], ◌∷◌, length, map, position, Option, Some, None, option_map, option_and_then, Result, Ok, Err}
+use Rattle.std.specs.Prelude.{◌≡◌, ℕ, zero, suc, ◌==◌, ◌&&◌, nat_lt, nat_le, Bool, true, false, if◌then◌else◌, List, [], ◌∷◌, length, map, position, Option, Some, None, option_map, unwrap_or, Result, Ok, Err}
 use Rattle.std.specs.Borrow.{Bor}
 use Rattle.std.specs.List.{list_all, slice_split}
 use Rattle.std.specs.Fmt.{decimal}
 use Rattle.std.specs.Result.{result_unwrap_or}
 use Rattle.std.specs.Str.{bytes_eq, is_utf8}
 use Rattle.std.specs.Str.Parse.{digits_value}
-use Rattle.std.specs.Int.{w32, from_be_bytes}
-use Rattle.std.specs.Net.Addr.{ipv4_octets}
+use Rattle.std.specs.Int.{Width, w32}
+use Rattle.std.specs.Net.Addr.{ipv4_octets, ipv6_segments}
 use Rattle.std.specs.declared.net.Ipv4Addr.{Ipv4Addr}
+use Rattle.std.specs.declared.net.Ipv6Addr.{Ipv6Addr}
 use Rattle.hex.specs.Hex.{decode_of, encode_lower}
 use Rattle.dhcp_wire.specs.Error.{ErrorParts}
-use Rattle.dhcp_wire.specs.Field.{Read, ◌>>=◌, address_of}
-use Rattle.dhcp_stream.specs.HexText.{hex_text, words_text}
+use Rattle.dhcp_wire.specs.Field.{Read, ◌>>=◌, address_of, ipv6_address_of, number_at}
+use Rattle.dhcp_stream.specs.HexText.{address6_text, hex_text, numbers_text}
 use Rattle.dhcp_stream.specs.Number.{address_text}
 use Rattle.dhcp_stream.specs.declared.text_reader.ReadError.{ReadError}
 use Rattle.dhcp_stream.specs.declared.text_reader.ReadError.TheVariants.{Malformed, OutOfMemory}
@@ -124,12 +125,28 @@ hex_utf8_in field = checked hex_text is_utf8 (hex_bytes field) field
 unfoldable pub mac_in : List ℕ → Option (List ℕ)
 mac_in field = checked encode_lower (λ bytes. length bytes == 6) (hex_bytes field) field
 
--- the words of whole groups of four bytes
-abbrev pub words_of_bytes : List ℕ → List ℕ
-words_of_bytes (a ∷ b ∷ c ∷ d ∷ bytes) =
-    from_be_bytes w32 (a ∷ b ∷ c ∷ d ∷ []) ∷ words_of_bytes bytes
-words_of_bytes _ = []
+-- an IPv6 address
+unfoldable pub address6_in : List ℕ → Option Ipv6Addr
+address6_in field =
+    checked address6_text (λ address. length (ipv6_segments address) == 8)
+    (ipv6_address_of (hex_bytes field)) field
+
+-- numbers of a width, at most so many, from the front of some bytes
+unfoldable pub numbers_within : ℕ → Width → List ℕ → List ℕ
+numbers_within zero width bytes = []
+numbers_within (suc most) width bytes =
+    unwrap_or (option_map (λ read. read.0 ∷ numbers_within most width read.1)
+    (number_at width bytes)) []
+
+-- the numbers of whole groups of bytes: there are no more of them than bytes
+abbrev pub numbers_of : Width → List ℕ → List ℕ
+numbers_of width bytes = numbers_within (length bytes) width bytes
+
+-- numbers of a width, or `-`
+unfoldable pub numbers_in : Width → List ℕ → Option (List ℕ)
+numbers_in width field =
+    checked (numbers_text width) (λ numbers. true) (numbers_of width (hex_bytes field)) field
 
 -- words of eight hex digits, or `-`
-unfoldable pub words_in : List ℕ → Option (List ℕ)
-words_in field = checked words_text (λ words. true) (words_of_bytes (hex_bytes field)) field
+abbrev pub words_in : List ℕ → Option (List ℕ)
+words_in field = numbers_in w32 field

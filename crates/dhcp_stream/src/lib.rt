@@ -2,6 +2,7 @@
 //! numbers, addresses and hex, which are read from the front of a text.
 #![tactic(auto)]
 
+mod hex_numbers;
 mod hex_text;
 pub mod laws;
 mod memory;
@@ -13,7 +14,8 @@ mod tests;
 mod text_reader;
 mod whole;
 
-pub use hex_text::{hex_field, mac_field, words_field};
+pub use hex_numbers::{codes_field, words_field};
+pub use hex_text::{hex_field, ipv6_field, mac_field};
 pub use memory::{MemSink, MemSource};
 pub use number::{ipv4_field, number_field};
 pub use standard::{StdSink, StdSource};

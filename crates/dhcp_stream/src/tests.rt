@@ -5,7 +5,7 @@ ghost use Rattle.std.specs.Prelude.{◌≡◌, IfOk};
 use super::*;
 use std::alloc::Global;
 use std::io::{self, ErrorKind, Read, Write};
-use std::net::Ipv4Addr;
+use std::net::{Ipv4Addr, Ipv6Addr};
 use std::test::Fail;
 
 // A reader and a writer that give an error, then nothing.
@@ -160,11 +160,35 @@ fn hex_is_read_in_lower_case_pairs(rt: HostRuntime) -> Result<(), Fail> {
 }
 
 #[test]
-fn words_are_read_from_eight_digits_each(rt: HostRuntime) -> Result<(), Fail> {
+fn words_and_codes_are_read_from_their_digits(rt: HostRuntime) -> Result<(), Fail> {
     let words = words_field(rt.alloc(), b"12345678ffffffff")?.ok_or("refused")?;
     assert_eq!(rt; words.as_slice(), [0x12345678u32, 0xffffffff].as_slice());
     assert!(rt; words_field(rt.alloc(), b"1234567")?.is_none());
     assert!(rt; words_field(rt.alloc(), b"123456")?.is_none());
+    let codes = codes_field(rt.alloc(), b"0017ffff")?.ok_or("refused")?;
+    assert_eq!(rt; codes.as_slice(), [0x17u16, 0xffff].as_slice());
+    assert!(rt; codes_field(rt.alloc(), b"001700")?.is_none());
+    Ok(())
+}
+
+#[test]
+fn ipv6_addresses_are_32_lower_case_digits(rt: HostRuntime) -> Result<(), Fail> {
+    let address = Ipv6Addr::new(0xfe80, 0, 0, 0, 0, 0, 0, 0xa);
+    assert_eq!(rt;
+        ipv6_field(b"fe80000000000000000000000000000a"),
+        Some(address)
+    );
+    for field in [
+        "",
+        "-",
+        "fe80::a",
+        "fe8000000000000000000000000000a",
+        "fe80000000000000000000000000000a0",
+        "fe80000000000000000000000000000A",
+        "fe80000000000000000000000000000g",
+    ] {
+        assert!(rt; ipv6_field(field.as_bytes()).is_none(), "{field}");
+    }
     Ok(())
 }
 

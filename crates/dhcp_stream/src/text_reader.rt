@@ -1,6 +1,19 @@
 //! Reading a text from its front: words, and fields up to a byte that they do not hold.
 
-ghost use Rattle.std.specs.Prelude.{◌≡◌, ◌↔◌, [], IsTrue, IfSome, MatchOption, None, Some, length, ◌<◌, ◌≤◌, IfOk};
+ghost use Rattle.std.specs.Prelude.{
+  ◌≡◌,
+  ◌↔◌,
+  [],
+  IsTrue,
+  IfSome,
+  MatchOption,
+  None,
+  Some,
+  length,
+  ◌<◌,
+  ◌≤◌,
+  IfOk,
+};
 ghost use Rattle.dhcp_stream.specs.TextReader as values;
 ghost use Rattle.dhcp_stream.specs.TextReader.{field_at, in_field, tag_at, Finds, Takes};
 

@@ -4,7 +4,6 @@ ghost use Rattle.std.specs.Prelude.{◌≡◌};
 ghost use Rattle.dhcp_stream.specs.TextReader.{Takes};
 ghost use Rattle.dhcp_script.specs.Lease4Reader.{
   addresses_at,
-  held_lease4_at,
   later_at,
   lease4_at,
   link_at,
@@ -96,24 +95,13 @@ impl LeaseLater {
     }
 }
 
-/// Reads a lease or the word `none`, to the end of the line.
-#[tactic(auto, unfolding(crate::specs::Lease4Reader::held_lease4_at))]
-pub fn read_held_lease(
+/// Reads the fields of a lease, to the end of the line.
+#[tactic(auto, unfolding(crate::specs::Lease4Reader::lease4_at))]
+pub fn read_lease(
     alloc: Global,
     version: Version,
     text: &mut TextReader,
-) -> Result<Option<Lease4>, ReadError>
-    ensures { Takes result text.new (held_lease4_at version text.old) }
-{
-    if text.skip(b"none\n") {
-        return Ok(None);
-    }
-    Ok(Some(read_lease(alloc, version, text)?))
-}
-
-// Reads the fields of a lease, to the end of the line.
-#[tactic(auto, unfolding(crate::specs::Lease4Reader::lease4_at))]
-fn read_lease(alloc: Global, version: Version, text: &mut TextReader) -> Result<Lease4, ReadError>
+) -> Result<Lease4, ReadError>
     ensures { Takes result text.new (lease4_at version text.old) }
 {
     let addresses = read_addresses(alloc, text)?;

@@ -1,13 +1,11 @@
 //! The printer of what a script of either family has after its configuration.
 
 ghost use Rattle.std.specs.Prelude.{◌≡◌, ◌++◌, OnOk, codes, string_bytes};
-ghost use Rattle.std.specs.Int.{w32, to_be_bytes};
 ghost use Rattle.std.specs.List.{flat_map};
-ghost use Rattle.dhcp_stream.specs.HexText.{words_text};
-ghost use Rattle.dhcp_script.specs.Field.{byte_digits, flag_text};
+ghost use Rattle.dhcp_script.specs.Field.{flag_text};
 ghost use Rattle.dhcp_script.specs.Life.{event_line, life_text, what_text};
 
-use crate::hex_text::{push_digits, push_hex};
+use crate::hex_text::{push_hex, push_numbers};
 use crate::{Event, EventWhat};
 use dhcp_wire::Sequence;
 use std::alloc::AllocError;
@@ -23,33 +21,10 @@ pub fn push_life(
         ≡ string_bytes text.old ++ life_text words.now start events.now) }
 {
     text.push_str("words ")?;
-    push_words(text, words.as_slice())?;
+    push_numbers(text, words.as_slice())?;
     write!(text, "\nstart {start}\n")?;
     push_events(text, events.as_slice())?;
     text.push_str("end\n")
-}
-
-// Puts words in hex at the end of a text.
-fn push_words(text: &mut String, words: &[u32]) -> Result<(), AllocError>
-    ensures { OnOk result (string_bytes text.new
-        ≡ string_bytes text.old ++ words_text words.now) }
-{
-    if words.is_empty() {
-        text.push('-')
-    } else {
-        push_word_digits(text, words)
-    }
-}
-
-// Puts eight hex digits for each word at the end of a text.
-fn push_word_digits(text: &mut String, words: &[u32]) -> Result<(), AllocError>
-    ensures { OnOk result (string_bytes text.new ≡ string_bytes text.old
-        ++ flat_map (λ word. flat_map byte_digits (to_be_bytes w32 word)) words.now) }
-{
-    for word in words {
-        push_digits(text, &word.to_be_bytes())?;
-    }
-    Ok(())
 }
 
 // Puts the lines of events at the end of a text.

@@ -3,6 +3,7 @@
 ghost use Rattle.std.specs.Prelude.{◌≡◌, ◌++◌, OnOk, map, string_bytes};
 ghost use Rattle.std.specs.List.{flat_map};
 ghost use Rattle.dhcp4_client.specs.State.{plain_state};
+ghost use Rattle.dhcp6_client.specs.State as v6;
 ghost use Rattle.dhcp_script.specs.Output.{
   failure_text,
   message_text,
@@ -11,49 +12,56 @@ ghost use Rattle.dhcp_script.specs.Output.{
   plain_report,
   report_text,
   state4_text,
+  state6_text,
 };
 
 use crate::hex_text::push_hex;
 use crate::lease4::printer::push_lease;
+use crate::lease6::printer::push_lease as push_lease6;
 use crate::{Output, OutputWhat, Reported};
 use dhcp_clock::Handed;
 use dhcp_wire::ErrorKind;
 use dhcp4_client::DhcpV4State;
-use std::alloc::AllocError;
+use dhcp6_client::DhcpV6State;
+use std::alloc::{AllocError, Global};
 
 /// Puts the lines of outputs at the end of a text.
-pub fn push_outputs(text: &mut String, outputs: &[Output]) -> Result<(), AllocError>
+pub fn push_outputs(
+    alloc: Global,
+    text: &mut String,
+    outputs: &[Output],
+) -> Result<(), AllocError>
     ensures { OnOk result (string_bytes text.new
         ≡ string_bytes text.old ++ flat_map output_line (map plain_output outputs.now)) }
 {
-    push_each(text, outputs)
+    push_each(alloc, text, outputs)
 }
 
 // The same, output by output.
-fn push_each(text: &mut String, outputs: &[Output]) -> Result<(), AllocError>
+fn push_each(alloc: Global, text: &mut String, outputs: &[Output]) -> Result<(), AllocError>
     ensures { OnOk result (string_bytes text.new
         ≡ string_bytes text.old
         ++ flat_map (λ output. output_line (plain_output output)) outputs.now) }
 {
     for output in outputs {
-        push_output(text, output)?;
+        push_output(alloc, text, output)?;
     }
     Ok(())
 }
 
 // Puts the line of an output at the end of a text.
-fn push_output(text: &mut String, output: &Output) -> Result<(), AllocError>
+fn push_output(alloc: Global, text: &mut String, output: &Output) -> Result<(), AllocError>
     ensures { OnOk result (string_bytes text.new
         ≡ string_bytes text.old ++ output_line (plain_output output.now)) }
 {
     let event = output.event;
     write!(text, "{event} ")?;
-    push_report(text, &output.what)?;
+    push_report(alloc, text, &output.what)?;
     text.push('\n')
 }
 
 // Puts what is reported at the end of a text.
-fn push_report(text: &mut String, what: &OutputWhat) -> Result<(), AllocError>
+fn push_report(alloc: Global, text: &mut String, what: &OutputWhat) -> Result<(), AllocError>
     ensures { OnOk result (string_bytes text.new
         ≡ string_bytes text.old ++ report_text (plain_report what.now)) }
 {
@@ -69,6 +77,10 @@ fn push_report(text: &mut String, what: &OutputWhat) -> Result<(), AllocError>
         OutputWhat::Changed(Reported::V4(state)) => {
             text.push_str("state ")?;
             push_state(text, state)
+        }
+        OutputWhat::Changed(Reported::V6(state)) => {
+            text.push_str("state ")?;
+            push_state6(alloc, text, state)
         }
         OutputWhat::Failed(kind) => {
             text.push_str("failed ")?;
@@ -100,7 +112,7 @@ fn push_message(text: &mut String, message: &Handed) -> Result<(), AllocError>
     }
 }
 
-// Puts a state at the end of a text.
+// Puts a state of an IPv4 client at the end of a text.
 fn push_state(text: &mut String, state: &DhcpV4State) -> Result<(), AllocError>
     ensures { OnOk result (string_bytes text.new
         ≡ string_bytes text.old ++ state4_text (plain_state state.now)) }
@@ -114,6 +126,27 @@ fn push_state(text: &mut String, state: &DhcpV4State) -> Result<(), AllocError>
         DhcpV4State::Selecting => text.push_str("selecting"),
         DhcpV4State::Renewing => text.push_str("renewing"),
         DhcpV4State::Rebinding => text.push_str("rebinding"),
+    }
+}
+
+// Puts a state of an IPv6 client at the end of a text.
+fn push_state6(
+    alloc: Global,
+    text: &mut String,
+    state: &DhcpV6State,
+) -> Result<(), AllocError>
+    ensures { OnOk result (string_bytes text.new
+        ≡ string_bytes text.old ++ state6_text (v6.plain_state state.now)) }
+{
+    match state {
+        DhcpV6State::Done(lease) => {
+            text.push_str("done ")?;
+            push_lease6(alloc, text, lease)
+        }
+        DhcpV6State::Solicit => text.push_str("solicit"),
+        DhcpV6State::Request => text.push_str("request"),
+        DhcpV6State::Renew => text.push_str("renew"),
+        DhcpV6State::Rebind => text.push_str("rebind"),
     }
 }
 

@@ -1,12 +1,12 @@
-//! The reader of a script.
+//! The reader of a script of either family.
 
-ghost use Rattle.std.specs.Prelude.{◌≡◌};
-ghost use Rattle.dhcp_stream.specs.TextReader.{tag_at, Finds, Takes};
-ghost use Rattle.dhcp_script.specs.ScriptReader.{script_in};
-ghost use Rattle.dhcp_script.specs.Version.{first_line4};
+ghost use Rattle.dhcp_stream.specs.TextReader.{tag_at, Finds, Skips, Takes};
+ghost use Rattle.dhcp_script.specs.ScriptReader.{script_at, script_in};
+ghost use Rattle.dhcp_script.specs.Version.{first_line4, first_line6};
 
 use crate::Script;
 use crate::script4::reader::read_script4;
+use crate::script6::reader::read_script6;
 use crate::version::Version;
 use dhcp_stream::{ReadError, TextReader};
 use std::alloc::Global;
@@ -17,20 +17,45 @@ pub fn read_whole_script(alloc: Global, version: Version, text: &[u8]) -> Result
     ensures { Finds result (script_in version text.now) }
 {
     let mut text = TextReader::new(text);
-    skip_first_line(version, &mut text)?;
-    let script = read_script4(alloc, version, &mut text)?;
+    let script = read_front(alloc, version, &mut text)?;
     if !text.is_at_end() {
         return Err(ReadError::Malformed);
     }
-    Ok(Script::V4(script))
+    Ok(script)
 }
 
-// Skips the first line of a script of an IPv4 client.
-fn skip_first_line(version: Version, text: &mut TextReader) -> Result<(), ReadError>
-    ensures { Takes result text.new (tag_at (first_line4 version) text.old) }
+// Reads a script in a version from the front of a text.
+#[tactic(auto, unfolding(crate::specs::ScriptReader::script_at))]
+fn read_front(
+    alloc: Global,
+    version: Version,
+    text: &mut TextReader,
+) -> Result<Script, ReadError>
+    ensures { Takes result text.new (script_at version text.old) }
+{
+    if skip_first_line4(version, text) {
+        return Ok(Script::V4(read_script4(alloc, version, text)?));
+    }
+    skip_first_line6(version, text)?;
+    Ok(Script::V6(read_script6(alloc, version, text)?))
+}
+
+// Skips the first line of a script of an IPv4 client, if the text goes on with it.
+fn skip_first_line4(version: Version, text: &mut TextReader) -> bool
+    ensures { Skips result text.old text.new (tag_at (first_line4 version) text.old) }
 {
     match version {
-        Version::One => text.tag(b"dhcp4 1\n"),
-        Version::Two => text.tag(b"dhcp4 2\n"),
+        Version::One => text.skip(b"dhcp4 1\n"),
+        Version::Two => text.skip(b"dhcp4 2\n"),
+    }
+}
+
+// Skips the first line of a script of an IPv6 client.
+fn skip_first_line6(version: Version, text: &mut TextReader) -> Result<(), ReadError>
+    ensures { Takes result text.new (tag_at (first_line6 version) text.old) }
+{
+    match version {
+        Version::One => text.tag(b"dhcp6 1\n"),
+        Version::Two => text.tag(b"dhcp6 2\n"),
     }
 }

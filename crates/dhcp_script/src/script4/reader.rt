@@ -1,13 +1,12 @@
 //! The reader of the script of an IPv4 client.
 
-ghost use Rattle.std.specs.Prelude.{◌≡◌, codes};
-ghost use Rattle.dhcp_stream.specs.TextReader.{after_tag, in_field, hex_in, Takes};
-ghost use Rattle.dhcp_script.specs.FieldReader.{word_or};
+ghost use Rattle.dhcp_stream.specs.TextReader.{Takes};
 ghost use Rattle.dhcp_script.specs.ScriptReader.{identity4_at, iface4_at, script4_at};
 
 use crate::Script4;
-use crate::field::{flag, hex};
-use crate::lease4::reader::read_held_lease;
+use crate::codes::read_codes;
+use crate::field::flag;
+use crate::held::read_held_lease;
 use crate::life::read_life;
 use crate::version::Version;
 use dhcp_stream::{ReadError, TextReader};
@@ -88,17 +87,4 @@ fn read_identity(alloc: Global, text: &mut TextReader) -> Result<Identity4, Read
         client,
         codes,
     })
-}
-
-// Reads the line of the option codes.
-fn read_codes(alloc: Global, text: &mut TextReader) -> Result<Option<Bytes>, ReadError>
-    ensures { Takes result text.new
-        (after_tag (codes "codes ") (in_field (word_or (codes "default") hex_in) 10) text.old) }
-{
-    text.tag(b"codes ")?;
-    let field = text.field(b'\n')?;
-    if field == b"default".as_slice() {
-        return Ok(None);
-    }
-    Ok(Some(hex(alloc, field)?))
 }

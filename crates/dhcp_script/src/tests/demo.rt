@@ -36,7 +36,9 @@ fn a_round_is_an_offer_a_lease_its_renewal_and_its_release(rt: HostRuntime) -> R
 #[test]
 fn so_many_rounds_have_five_events_each_after_the_first(rt: HostRuntime) -> Result<(), Fail> {
     for (rounds, want) in [(1, 6), (2, 11), (2000, 10_001)] {
-        let Script::V4(script) = demo_script(rt.alloc(), rounds)?;
+        let Script::V4(script) = demo_script(rt.alloc(), rounds)? else {
+            return Err(Fail::from("of another family"));
+        };
         assert_eq!(rt; script.events.len(), want, "{rounds}");
     }
     Ok(())

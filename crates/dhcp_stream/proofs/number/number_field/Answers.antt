@@ -1,10 +1,9 @@
-use Rattle.std.proofs.Common.{◌≡◌, ◌<◌, ◌≤◌, ◌^◌, sym, ◌∙◌, arith}
+use Rattle.std.proofs.Common.{◌<◌, ◌^◌, sym, ◌∙◌, arith}
 use Rattle.std.specs.Fmt.{decimal}
-use Rattle.std.specs.Str.{IsUtf8}
 use Rattle.std.proofs.lemmas.Bool.{false≢true}
 use Rattle.std.proofs.lemmas.Fmt.{IsAscii-decimal}
 use Rattle.std.proofs.lemmas.Str.{IsUtf8-from_ascii}
-use Rattle.dhcp_stream.proofs.NumberLemmas.{BeginsPlainly, BeginsPlainly-decimal, decimal-is, decimal-parsed, decimal-unparsed}
+use Rattle.dhcp_stream.proofs.NumberLemmas.{BeginsPlainly-decimal, decimal-is, decimal-parsed, decimal-unparsed}
 use Rattle.dhcp_stream.proofs.number.number_field.Goals as goal
 
 pub returns-then-not-begins_plainly : goal.returns-then-not-begins_plainly

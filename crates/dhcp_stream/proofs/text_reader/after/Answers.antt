@@ -1,4 +1,3 @@
-use Rattle.std.proofs.Common.{ℕ, ◌≡◌, List, Some, None, Option}
 use Rattle.dhcp_stream.proofs.CodecLaws.{after_tag_is}
 use Rattle.dhcp_stream.proofs.text_reader.after.Goals as goal
 

@@ -4,14 +4,16 @@ use Rattle.dhcp_script.specs.Field.{unless_none}
 use Rattle.dhcp_script.specs.Lease4.{lease_text}
 use Rattle.dhcp_script.specs.Life.{life_text}
 use Rattle.dhcp_script.specs.declared.version.Version.TheVariants.{Two}
-use Rattle.dhcp_script.specs.Script4.{codes_text, first_lines}
+use Rattle.dhcp_script.specs.Codes.{listed_text}
+use Rattle.dhcp_script.specs.Script4.{first_lines}
+use Rattle.dhcp_stream.specs.HexText.{hex_text}
 use Rattle.dhcp_script.proofs.PrintLemmas.{pushed4, script4_text-lines}
 use Rattle.dhcp_script.proofs.script4.printer.push_script4.Goals as goal
 
 pub returns : goal.returns
 returns c =
     let script = c.args.script.now in
-    let asked = line (codes "codes " ++ codes_text script.codes) in
+    let asked = line (codes "codes " ++ listed_text hex_text script.codes) in
     let held = line (codes "lease " ++ unless_none lease_text script.lease) in
     pushed4 c.push_life.result _ _ _ _ _ (first_lines Two script) asked held (life_text script.words script.start script.events) _
     c.push_life.ensures c.in_ok-push_held_lease.ensures c.in_ok-push_codes.ensures c.in_ok-push_first_lines.ensures (script4_text-lines script)

@@ -1,4 +1,3 @@
-use Rattle.std.proofs.Common.{arith}
 use Rattle.dhcp_stream.proofs.ValueLemmas.{IsValue-address, takes_value}
 use Rattle.dhcp_stream.proofs.text_reader.TextReader.ipv4.Goals as goal
 

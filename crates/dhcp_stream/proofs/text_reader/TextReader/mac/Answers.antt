@@ -1,4 +1,3 @@
-use Rattle.std.proofs.Common.{arith}
 use Rattle.dhcp_stream.proofs.ValueLemmas.{IsValue-mac, takes_value}
 use Rattle.dhcp_stream.proofs.text_reader.TextReader.mac.Goals as goal
 

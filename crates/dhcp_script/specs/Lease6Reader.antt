@@ -1,0 +1,89 @@
+-- The reading of the fields of a lease of an IPv6 script.
+use Rattle.std.specs.Prelude.{ℕ, List, [], if◌then◌else◌, codes, Option, Some, None}
+use Rattle.std.specs.Str.{bytes_eq}
+use Rattle.std.specs.declared.net.Ipv6Addr.{Ipv6Addr}
+use Rattle.dhcp_wire.specs.Field.{Read}
+use Rattle.dhcp_stream.specs.TextReader.{address6_in, both, hex_in, in_field, made_of, number_in}
+use Rattle.dhcp6_opt.specs.Ia.{unspecified}
+use Rattle.dhcp6_msg.specs.declared.mode.DhcpV6IaType.{DhcpV6IaType}
+use Rattle.dhcp6_msg.specs.declared.mode.DhcpV6IaType.TheVariants.{NonTemporaryAddresses, TemporaryAddresses, PrefixDelegation}
+use Rattle.dhcp_script.specs.declared.lease6.Lease6.{Lease6}
+use Rattle.dhcp_script.specs.declared.lease6.reader.LeaseAssociation.{LeaseAssociation}
+use Rattle.dhcp_script.specs.declared.lease6.reader.LeaseTimes.{LeaseTimes}
+use Rattle.dhcp_script.specs.declared.lease6.reader.LeaseLater.{LeaseLater}
+use Rattle.dhcp_script.specs.declared.version.Version.{Version}
+use Rattle.dhcp_script.specs.declared.version.Version.TheVariants.{One, Two}
+use Rattle.dhcp_script.specs.FieldReader.{u32_at}
+use Rattle.dhcp_script.specs.Version.{end_of_times}
+
+-- the type of an identity association
+abbrev pub ia_type_in : List ℕ → Option DhcpV6IaType
+ia_type_in field =
+    if bytes_eq field (codes "na") then Some NonTemporaryAddresses
+    else if bytes_eq field (codes "ta") then Some TemporaryAddresses
+    else if bytes_eq field (codes "pd") then Some PrefixDelegation
+    else None
+
+abbrev pub association_of : DhcpV6IaType × (ℕ × (Ipv6Addr × (ℕ × List ℕ))) → LeaseAssociation
+association_of parts = record {
+  ia_type = parts.0;
+  iaid = parts.1.0;
+  address = parts.1.1.0;
+  prefix_len = parts.1.1.1.0;
+  srv_duid = parts.1.1.1.1;
+}
+
+-- the identity association, and the identifier of its server
+unfoldable pub association_at : List ℕ → Read LeaseAssociation
+association_at text =
+    made_of association_of (both (in_field ia_type_in 32) (both (u32_at 32)
+    (both (in_field address6_in 32)
+    (both (in_field (number_in 255) 32) (in_field hex_in 32))))) text
+
+abbrev pub times_of : ℕ × (ℕ × (ℕ × ℕ)) → LeaseTimes
+times_of parts = record {
+  t1_sec = parts.0;
+  t2_sec = parts.1.0;
+  preferred_time_sec = parts.1.1.0;
+  valid_time_sec = parts.1.1.1;
+}
+
+unfoldable pub times_at : Version → List ℕ → Read LeaseTimes
+times_at version text =
+    made_of times_of (both (u32_at 32) (both (u32_at 32)
+    (both (u32_at 32) (u32_at (end_of_times version))))) text
+
+abbrev pub later_of : ℕ × (List ℕ × Ipv6Addr) → LeaseLater
+later_of parts = record { xid = parts.0; cli_duid = parts.1.0; srv_ip = parts.1.1 }
+
+-- what the empty lease has of them
+abbrev pub no_later : LeaseLater
+no_later = record { xid = 0; cli_duid = []; srv_ip = unspecified }
+
+-- the fields that version 2 alone has
+unfoldable pub later_at : Version → List ℕ → Read LeaseLater
+later_at One text = Some (no_later, text)
+later_at Two text =
+    made_of later_of
+    (both (u32_at 32) (both (in_field hex_in 32) (in_field address6_in 10))) text
+
+abbrev pub lease6_of : LeaseAssociation × (LeaseTimes × LeaseLater) → Lease6
+lease6_of parts = record {
+  ia_type = parts.0.ia_type;
+  iaid = parts.0.iaid;
+  address = parts.0.address;
+  prefix_len = parts.0.prefix_len;
+  srv_duid = parts.0.srv_duid;
+  t1_sec = parts.1.0.t1_sec;
+  t2_sec = parts.1.0.t2_sec;
+  preferred_time_sec = parts.1.0.preferred_time_sec;
+  valid_time_sec = parts.1.0.valid_time_sec;
+  xid = parts.1.1.xid;
+  cli_duid = parts.1.1.cli_duid;
+  srv_ip = parts.1.1.srv_ip;
+}
+
+-- the fields of a lease, to the end of the line
+unfoldable pub lease6_at : Version → List ℕ → Read Lease6
+lease6_at version text =
+    made_of lease6_of (both association_at (both (times_at version) (later_at version))) text

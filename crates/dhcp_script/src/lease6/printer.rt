@@ -1,0 +1,72 @@
+//! The printer of the fields of a lease of an IPv6 script.
+
+ghost use Rattle.std.specs.Prelude.{◌≡◌, ◌++◌, ◌∷◌, [], OnOk, string_bytes, unwrap_or};
+ghost use Rattle.std.specs.Fmt.{decimal};
+ghost use Rattle.dhcp_stream.specs.HexText.{hex_text};
+ghost use Rattle.dhcp6_msg.specs.declared.mode.DhcpV6IaType.TheVariants.{NonTemporaryAddresses};
+ghost use Rattle.dhcp_script.specs.Lease6.{fields_of, lease_text};
+
+use crate::Lease6;
+use crate::field::{Field, push_three_more};
+use crate::hex_text::push_hex;
+use dhcp6_msg::DhcpV6Lease;
+use std::alloc::{AllocError, Global};
+
+/// Puts the fields of a lease at the end of a text.
+pub fn push_fields(text: &mut String, lease: &Lease6) -> Result<(), AllocError>
+    ensures { OnOk result (string_bytes text.new
+        ≡ string_bytes text.old ++ lease_text lease.now) }
+{
+    push_three_more(text, &lease.ia_type, &lease.iaid, &lease.address)?;
+    push_server_more(text, lease)?;
+    push_three_more(
+        text,
+        &lease.t1_sec,
+        &lease.t2_sec,
+        &lease.preferred_time_sec,
+    )?;
+    push_client_more(text, lease)?;
+    lease.srv_ip.push_to(text)
+}
+
+// Puts the length of its prefix and the identifier of its server at the end of a text, each with a
+// space after it.
+fn push_server_more(text: &mut String, lease: &Lease6) -> Result<(), AllocError>
+    ensures { OnOk result (string_bytes text.new ≡ string_bytes text.old
+        ++ (decimal lease.now.prefix_len ++ 32 ∷ (hex_text lease.now.srv_duid ++ 32 ∷ []))) }
+{
+    let prefix_len = lease.prefix_len;
+    write!(text, "{prefix_len} ")?;
+    push_hex(text, lease.srv_duid.as_slice())?;
+    text.push(' ')
+}
+
+// Puts its end, its transaction id and the identifier of its client at the end of a text, each with
+// a space after it.
+fn push_client_more(text: &mut String, lease: &Lease6) -> Result<(), AllocError>
+    ensures { OnOk result (string_bytes text.new ≡ string_bytes text.old
+        ++ (decimal lease.now.valid_time_sec ++ 32 ∷ (decimal lease.now.xid
+        ++ 32 ∷ (hex_text lease.now.cli_duid ++ 32 ∷ [])))) }
+{
+    let valid_time_sec = lease.valid_time_sec;
+    let xid = lease.xid;
+    write!(text, "{valid_time_sec} {xid} ")?;
+    push_hex(text, lease.cli_duid.as_slice())?;
+    text.push(' ')
+}
+
+/// Puts the same fields of a lease at the end of a text; without a type it is printed as one of an
+/// IA_NA.
+pub fn push_lease(
+    alloc: Global,
+    text: &mut String,
+    lease: &DhcpV6Lease,
+) -> Result<(), AllocError>
+    ensures { OnOk result (string_bytes text.new ≡ string_bytes text.old
+        ++ lease_text (fields_of (unwrap_or lease.now.ia_type NonTemporaryAddresses) lease.now)) }
+{
+    match Lease6::of_lease(alloc, lease) {
+        Ok(fields) => push_fields(text, &fields),
+        Err(_) => Err(AllocError),
+    }
+}

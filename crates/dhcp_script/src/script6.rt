@@ -1,0 +1,129 @@
+//! Scripts of an IPv6 client.
+
+pub mod printer;
+pub mod reader;
+
+ghost use Rattle.std.specs.Prelude.{◌≡◌, option_map};
+ghost use Rattle.dhcp_wire.specs.Outcome.{Makes};
+ghost use Rattle.dhcp6_msg.specs.Config.{rising_codes};
+ghost use Rattle.dhcp_script.specs.Codes.{requested};
+ghost use Rattle.dhcp_script.specs.Lease6.{lease_with};
+ghost use Rattle.dhcp_script.specs.Puts.{Puts};
+ghost use Rattle.dhcp_script.specs.Script6 as scripts;
+ghost use Rattle.dhcp_script.specs.Script6.{config_of, is_valid};
+
+use crate::codes::are_few;
+use crate::duid::{duid_of, is_duid_or_none};
+use crate::{Event, Lease6, are_valid};
+use dhcp_wire::{Bytes, DhcpError, Sequence};
+use dhcp6_msg::{DhcpV6Config, DhcpV6Lease, DhcpV6Mode};
+use std::alloc::Global;
+use std::net::Ipv6Addr;
+
+/// A script of an IPv6 client: its configuration, a lease that it held before, the words that it
+/// draws, and its events.
+#[derive(Debug, PartialEq, Drop)]
+pub struct Script6 {
+    /// The index of the network interface.
+    pub iface_index: u32,
+    /// The link-local address from which the client sends.
+    pub src_ip: Ipv6Addr,
+    /// The MAC address of the client.
+    pub mac: Option<[u8; 6]>,
+    /// What the client asks for.
+    pub mode: DhcpV6Mode,
+    /// How long the client stays in a state without a lease, in seconds; 0 is no limit.
+    pub timeout_sec: u32,
+    /// The identifier of the client; empty is none, and it then makes one.
+    pub duid: Bytes,
+    /// The option codes to ask for, as they are listed; none is the default list.
+    pub codes: Option<Sequence<u16>>,
+    /// The lease that the client held before.
+    pub lease: Option<Lease6>,
+    /// The words that the client draws; after the last one each is 0.
+    pub words: Sequence<u32>,
+    /// The moment at which the client begins, in milliseconds.
+    pub start: u64,
+    /// The events, in their order.
+    pub events: Sequence<Event>,
+}
+
+// How many option codes are listed at most.
+const MAX_CODES: usize = 1000;
+
+impl Script6 {
+    /// Whether it is within its limits: its interface index is not 0 and its address not ::; its
+    /// identifier is empty or has 2 to 130 bytes; its list of option codes has at most 1,000; its
+    /// lease is within its limits; its start and its events are valid.
+    #[tactic(auto, unfolding(crate::specs::Script6::is_valid))]
+    pub fn is_valid(&self) -> bool
+        ensures { result ≡ is_valid self.now }
+    {
+        self.iface_index != 0
+            && !self.src_ip.is_unspecified()
+            && is_duid_or_none(self.duid.as_slice())
+            && are_few(&self.codes, MAX_CODES)
+            && is_lease_valid(&self.lease)
+            && are_valid(self.start, self.events.as_slice())
+    }
+
+    /// The configuration of its client. Out of memory is the only error.
+    #[tactic(auto, unfolding(crate::specs::config6_of, dhcp6_msg::specs::Config::config_of))]
+    pub fn config(&self, alloc: Global) -> Result<DhcpV6Config, DhcpError>
+        ensures { Makes (λ config. config) result (config_of self.now) }
+    {
+        let mut config = DhcpV6Config::new(alloc, "", self.mode)?;
+        config.iface_index = self.iface_index;
+        config.src_ip = self.src_ip;
+        config.timeout_sec = self.timeout_sec;
+        put_mac(&mut config, self.mac);
+        config.duid = duid_of(alloc, self.duid.as_slice())?;
+        put_codes(alloc, &mut config, &self.codes)?;
+        Ok(config)
+    }
+
+    /// The lease that its client held before, if there is one. Out of memory is the only error.
+    pub fn held_lease(&self, alloc: Global) -> Result<Option<DhcpV6Lease>, DhcpError>
+        ensures { Makes (λ lease. lease) result (option_map lease_with self.now.lease) }
+    {
+        match &self.lease {
+            None => Ok(None),
+            Some(lease) => Ok(Some(lease.to_lease(alloc)?)),
+        }
+    }
+}
+
+// Puts the MAC address, if there is one, into a configuration that has none.
+fn put_mac(config: &mut DhcpV6Config, mac: Option<[u8; 6]>)
+    requires { config.old.src_mac ≡ None }
+    ensures { config.new ≡ record config.old { src_mac = mac } }
+{
+    if let Some(mac) = mac {
+        config.set_src_mac(mac);
+    }
+}
+
+// Puts the option codes that are listed, if any are, into a configuration.
+fn put_codes(
+    alloc: Global,
+    config: &mut DhcpV6Config,
+    codes: &Option<Sequence<u16>>,
+) -> Result<(), DhcpError>
+    ensures { Puts result config.new (record config.old {
+        request_opts = requested rising_codes codes.now config.old.request_opts }) }
+{
+    if let Some(listed) = codes {
+        config.override_request_dhcp_opts(alloc, listed.as_slice())?;
+    }
+    Ok(())
+}
+
+// Whether a lease, if there is one, is within its limits.
+fn is_lease_valid(lease: &Option<Lease6>) -> bool
+    ensures { result ≡ scripts.is_lease_valid lease.now }
+{
+    match lease {
+        None => true,
+        Some(lease) => lease.is_within_limits(),
+    }
+}
