@@ -6,22 +6,27 @@
 //! `frame` reads and writes a frame. `read6` reads a list of DHCPv6 options, and `options6` reads
 //! and writes it. Of a DHCPv6 message, `reply6` reads one, `message6` reads and writes it, `lease6`
 //! reads it and its lease, `moved6` does so and moves its options into the lease, and `solicit6`
-//! builds and writes a Solicit. Of a client, `idle` polls one that has a lease, `foreign` one whose
-//! Discover is open, each time with the frame of the line, and `life` has it live from its Discover
-//! to its release, with the frames of an Offer and of an Ack as two lines; these print how many
-//! polls or lives there were.
+//! builds and writes a Solicit. Of an IPv4 client, `idle` polls one that has a lease, `foreign` one
+//! whose Discover is open, each time with the frame of the line, and `life` has it live from its
+//! Discover to its release, with the frames of an Offer and of an Ack as two lines; `idle6`,
+//! `foreign6` and `life6` do so with an IPv6 client, and payloads. These print how many polls or
+//! lives there were.
 #![tactic(auto)]
 
-mod client;
+mod client4;
+mod client6;
+mod exchange;
 mod messages6;
 mod options6;
 
-use crate::client::Answers;
+use crate::exchange::{foreign, idle, lives};
 use dhcp_clock::WordList;
 use dhcp_frame::{MOST_PAYLOAD, read_frame, write_frame};
 use dhcp_wire::{BufferMut, DhcpError, ErrorKind, FixedText};
+use dhcp4_client::DhcpV4Client;
 use dhcp4_lease::{DhcpV4Config, DhcpV4Lease, new_discovery};
 use dhcp4_msg::DhcpV4Message;
+use dhcp6_client::DhcpV6Client;
 use std::alloc::{AllocError, Global};
 use std::process::ExitCode;
 use std::{env, io};
@@ -85,22 +90,35 @@ fn measured(alloc: Global, what: &str, times: u32, text: &str) -> Result<u64, Fa
         return Err(Failure::Hex);
     };
     let first = bytes_of(alloc, first)?;
+    let first = first.as_slice();
     match what {
-        "idle" => Ok(client::idle(alloc, times)?),
-        "foreign" => Ok(client::foreign(alloc, times, first.as_slice())?),
-        "life" => lived(alloc, times, first.as_slice(), rest),
-        what => total_of(alloc, what, times, first.as_slice()),
+        "idle" => Ok(idle::<DhcpV4Client>(alloc, times)?),
+        "idle6" => Ok(idle::<DhcpV6Client>(alloc, times)?),
+        "foreign" => Ok(foreign::<DhcpV4Client>(alloc, times, client4::frame(first))?),
+        "foreign6" => Ok(foreign::<DhcpV6Client>(alloc, times, client6::payload(first))?),
+        "life" | "life6" => lived(alloc, what, times, first, rest),
+        what => total_of(alloc, what, times, first),
     }
 }
 
-// How many lives there were, with this frame of an Offer, and that of an Ack in the next line.
-fn lived(alloc: Global, times: u32, offer: &[u8], rest: &[&str]) -> Result<u64, Failure> {
-    let [ack] = rest else {
+// How many lives there were, with this packet of an offer, and that of the answer with the lease in
+// the next line.
+fn lived(
+    alloc: Global,
+    what: &str,
+    times: u32,
+    offer: &[u8],
+    rest: &[&str],
+) -> Result<u64, Failure> {
+    let [lease] = rest else {
         return Err(Failure::Hex);
     };
-    let ack = bytes_of(alloc, ack)?;
-    let ack = ack.as_slice();
-    Ok(client::lives(alloc, times, Answers { offer, ack })?)
+    let lease = bytes_of(alloc, lease)?;
+    let lease = lease.as_slice();
+    Ok(match what {
+        "life" => lives::<DhcpV4Client>(alloc, times, client4::answers(offer, lease))?,
+        _ => lives::<DhcpV6Client>(alloc, times, client6::answers(offer, lease))?,
+    })
 }
 
 // The bytes of a line of hex.

@@ -1,0 +1,85 @@
+//! The IPv6 client, as it is measured.
+
+use crate::exchange::{Answer, Answers, Client};
+use dhcp_clock::{MemLink, PacketKind, WordList};
+use dhcp_wire::DhcpError;
+use dhcp6_client::DhcpV6Client;
+use dhcp6_msg::{DhcpV6Config, DhcpV6IaType, DhcpV6Lease, DhcpV6Mode};
+use dhcp6_opt::DhcpV6Duid;
+use std::alloc::Global;
+use std::net::Ipv6Addr;
+
+// The bytes of the client's identifier and of the server's.
+const CLIENT: [u8; 10] = [0, 3, 0, 1, 2, 0, 0, 0, 0, 1];
+
+const SERVER: [u8; 10] = [0, 3, 0, 1, 2, 0, 0, 0, 0, 2];
+
+impl Client for DhcpV6Client {
+    // Its first transaction id is abcdef, and each later one 000000.
+    fn begin(alloc: Global) -> Result<(Self, WordList), DhcpError> {
+        let config = config(alloc)?;
+        let mut words = WordList::new(vec![in alloc; 0x00abcdef]?);
+        let client = DhcpV6Client::init(alloc, config, None, 0, &mut words)?;
+        Ok((client, words))
+    }
+
+    fn hold_long_lease(&mut self, alloc: Global) -> Result<(), DhcpError> {
+        self.done(long_lease(alloc)?, 0)
+    }
+
+    fn poll(
+        &mut self,
+        now: u32,
+        words: &mut WordList,
+        link: &mut MemLink,
+    ) -> Result<(), DhcpError> {
+        self.run(u64::from(now), words, link)?;
+        Ok(())
+    }
+
+    fn renewal_time_sec(&self) -> Option<u32> {
+        Some(self.lease()?.t1_sec)
+    }
+
+    fn release(&mut self, now: u32, link: &mut MemLink) -> Result<bool, DhcpError> {
+        self.release_held(u64::from(now), link)
+    }
+}
+
+// Its configuration, for an address.
+fn config(alloc: Global) -> Result<DhcpV6Config, DhcpError> {
+    let mut config = DhcpV6Config::new(alloc, "eth0", DhcpV6Mode::NonTemporaryAddresses)?;
+    config.iface_index = 1;
+    config.src_ip = Ipv6Addr::new(0xfe80, 0, 0, 0, 0, 0, 0, 1);
+    config.duid = DhcpV6Duid::parse(alloc, &CLIENT)?;
+    Ok(config)
+}
+
+// A lease without an end, of 2001:db8::10.
+fn long_lease(alloc: Global) -> Result<DhcpV6Lease, DhcpError> {
+    let mut lease = DhcpV6Lease::empty(alloc);
+    lease.t1_sec = u32::MAX;
+    lease.t2_sec = u32::MAX;
+    lease.preferred_time_sec = u32::MAX;
+    lease.valid_time_sec = u32::MAX;
+    lease.ia_type = Some(DhcpV6IaType::NonTemporaryAddresses);
+    lease.address = Ipv6Addr::new(0x2001, 0xdb8, 0, 0, 0, 0, 0, 0x10);
+    lease.srv_duid = DhcpV6Duid::parse(alloc, &SERVER)?;
+    Ok(lease)
+}
+
+/// The payload of a UDP datagram.
+pub(crate) fn payload(bytes: &[u8]) -> Answer {
+    let kind = PacketKind::Payload;
+    Answer { kind, bytes }
+}
+
+/// What a server answers in a life: these payloads of an Advertise, of the transaction id abcdef,
+/// and of a Reply, of the transaction id 000000, which renews the lease too.
+pub(crate) fn answers<'a>(advertise: &'a [u8], reply: &'a [u8]) -> Answers<'a> {
+    Answers {
+        offer: payload(advertise),
+        lease: payload(reply),
+        renewal: payload(reply),
+    }
+}
