@@ -1,5 +1,5 @@
--- What the calls of a client promise, a record for each: first those of a client of some rules, then
--- those of a client with its configuration, which are the same at the protocol that it has.
+-- What the calls of a client promise, a record for each: first those of a client of some rules,
+-- then those of a client with its configuration, which are the same at the protocol that it has.
 use Rattle.std.specs.Prelude.{◌≡◌, ◌≤◌, ◌⊎◌, ◌||◌, ℕ, List, [], Bool, true, false, not, Option, None, is_some, if◌then◌else◌, Result, Ok, OnOk, OnErr, IfOk, IfErr, IfSome, IsSomeAnd}
 use Rattle.dhcp_wire.specs.Error.{ErrorParts, no_memory}
 use Rattle.dhcp_wire.specs.Fault.{HasCause}
