@@ -1,5 +1,5 @@
 -- The line of the option codes is read in one way alone.
-use Rattle.std.proofs.Common.{◌≡◌, ◌≢◌, ℕ, List, [], ◌∷◌, ◌++◌, Option, refl, arith, codes}
+use Rattle.std.proofs.Common.{◌≢◌, ℕ, List, [], ◌∷◌, ◌++◌, Option, refl, arith, codes}
 use Rattle.std.specs.Prelude.{IfSome}
 use Rattle.dhcp_stream.proofs.CodecLaws.{HasNo, HasNo-test, IsCodec, IsCodec-after_tag, IsCodec-in_field, IsValue}
 use Rattle.dhcp_script.specs.Codes.{codes_at, listed_text}

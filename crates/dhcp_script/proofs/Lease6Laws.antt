@@ -1,5 +1,5 @@
 -- The fields of a lease of an IPv6 script are read in one way alone.
-use Rattle.std.proofs.Common.{◌≡◌, ◌≢◌, ℕ, zero, suc, ◌<◌, ◌≤◌, ◌^◌, Bool, true, false, cond, List, [], ◌∷◌, ◌++◌, length, slice_index, Option, Some, None, refl, sym, subst, ap, append_assoc, arith, codes}
+use Rattle.std.proofs.Common.{◌≡◌, ℕ, zero, suc, ◌<◌, ◌≤◌, ◌^◌, Bool, true, false, cond, List, [], ◌∷◌, ◌++◌, slice_index, Some, None, refl, sym, subst, ap, append_assoc, arith, codes}
 use Rattle.std.specs.Prelude.{IfSome}
 use Rattle.std.specs.Fmt.{decimal}
 use Rattle.std.specs.Net.Addr.{IsIpv6Addr, ipv6_octets, ipv6_segments}
@@ -24,7 +24,7 @@ use Rattle.dhcp_script.specs.declared.lease6.reader.LeaseTimes.{LeaseTimes}
 use Rattle.dhcp_script.specs.declared.lease6.reader.LeaseLater.{LeaseLater}
 use Rattle.dhcp_script.specs.declared.version.Version.{Version}
 use Rattle.dhcp_script.specs.declared.version.Version.TheVariants.{One, Two}
-use Rattle.dhcp_script.specs.FieldReader.{held_at, u32_at}
+use Rattle.dhcp_script.specs.FieldReader.{held_at}
 use Rattle.dhcp_script.specs.Lease6.{HasLeaseText, IsLease6, first_alone, ia_type_text, lease_text, versioned_lease_text}
 use Rattle.dhcp_script.specs.Lease6Reader.{association_at, association_of, ia_type_in, later_at, later_of, lease6_at, lease6_of, no_later, times_at, times_of}
 use Rattle.dhcp_script.specs.Version.{end_of_times}

@@ -1,5 +1,5 @@
 -- A script of an IPv6 client is read in one way alone.
-use Rattle.std.proofs.Common.{◌≡◌, ◌≢◌, ℕ, ◌<◌, ◌≤◌, ◌^◌, List, [], ◌∷◌, ◌++◌, Option, Some, None, refl, sym, ap, ◌∙◌, append_assoc, arith, codes}
+use Rattle.std.proofs.Common.{◌≡◌, ℕ, ◌<◌, ◌≤◌, ◌^◌, List, [], ◌∷◌, ◌++◌, Option, Some, None, refl, ap, ◌∙◌, append_assoc, arith, codes}
 use Rattle.std.specs.Prelude.{IfSome}
 use Rattle.std.specs.Fmt.{decimal}
 use Rattle.std.specs.Int.{w16}
@@ -10,7 +10,7 @@ use Rattle.dhcp_wire.specs.Field.{Read}
 use Rattle.dhcp_stream.specs.HexText.{AreOfWidth, IsMac, address6_text, hex_text, number_bytes, numbers_text}
 use Rattle.dhcp_stream.specs.Line.{line}
 use Rattle.dhcp_stream.specs.TextReader.{after_tag, in_field, made_of, number_in, tag_at}
-use Rattle.dhcp_stream.proofs.CodecLaws.{HasNo, HasNo-test, IsCodec, IsCodec-after_tag, IsCodec-as, IsCodec-both, IsCodec-in_field, IsCodec-made_of, map_some, moved, same_read, tag_at-sound}
+use Rattle.dhcp_stream.proofs.CodecLaws.{HasNo-test, IsCodec, IsCodec-after_tag, IsCodec-as, IsCodec-both, IsCodec-in_field, IsCodec-made_of, map_some, moved, same_read, tag_at-sound}
 use Rattle.dhcp_stream.proofs.HexNumberLemmas.{IsBytes-number_bytes}
 use Rattle.dhcp_stream.proofs.ValueLemmas.{IsValue-codes, IsValue-mac}
 use Rattle.dhcp6_msg.specs.declared.mode.DhcpV6Mode.{DhcpV6Mode}
@@ -120,8 +120,8 @@ codec_identity : IsCodec identity_print IdentityFits identity6_at
 unfolding identity6_at identity_parts identity_print IdentityFits
 codec_identity =
     let listed =
-        IsCodec-codes IsValue-codes (λ numbers fits. HasNo-hex 117 (number_bytes w16 numbers) (IsBytes-number_bytes w16 numbers) (λ e. omega arith) refl)
-        (λ numbers fits. HasNo-numbers_text w16 10 numbers (omega arith)) in
+    IsCodec-codes IsValue-codes (λ numbers fits. HasNo-hex 117 (number_bytes w16 numbers) (IsBytes-number_bytes w16 numbers) (λ e. omega arith) refl)
+    (λ numbers fits. HasNo-numbers_text w16 10 numbers (omega arith)) in
     IsCodec-made_of (IsCodec-both (IsCodec-after_tag (codes "duid ") hex_line) listed) identity6_of identity_parts (λ x. refl) (λ y. refl)
 
 -- ---- the script

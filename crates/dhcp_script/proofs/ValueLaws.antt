@@ -1,5 +1,5 @@
 -- What fields give that are made of others, and how their values are printed, undo each other.
-use Rattle.std.proofs.Common.{◌≡◌, ◌≢◌, ℕ, ◌<◌, ◌≤◌, ◌^◌, ◌==◌, Bool, true, false, cond, List, [], ◌∷◌, ◌++◌, length, map, Option, Some, None, option_map, unwrap_or, refl, sym, ap, ◌∙◌, eq-eqb, arith, codes}
+use Rattle.std.proofs.Common.{◌≡◌, ◌≢◌, ℕ, ◌<◌, ◌≤◌, ◌==◌, Bool, true, false, cond, List, [], ◌∷◌, ◌++◌, length, map, Option, Some, option_map, unwrap_or, refl, sym, ap, ◌∙◌, eq-eqb, arith, codes}
 use Rattle.std.specs.Prelude.{All, IfSome}
 use Rattle.std.specs.Fmt.{decimal}
 use Rattle.std.specs.List.{slice_split, join_with_byte}
@@ -8,7 +8,7 @@ use Rattle.std.proofs.lemmas.Slice.Eq.{bytes_eq-Decides}
 use Rattle.std.proofs.lemmas.List.Elements.{All-cons, All-nil, All-head, All-tail}
 use Rattle.std.proofs.lemmas.List.Splits.{slice_split_at, slice_split_none, join_with_byte-slice_split, length-slice_split}
 use Rattle.dhcp_wire.specs.Field.{Read, ◌>>=◌}
-use Rattle.dhcp_stream.specs.TextReader.{in_field, number_in}
+use Rattle.dhcp_stream.specs.TextReader.{in_field}
 use Rattle.dhcp_stream.proofs.CodecLaws.{HasNo, IsCodec, IsCodec-in_field, IsValue, bind_some, map_some}
 use Rattle.dhcp_stream.proofs.ValueLemmas.{IsValue-number}
 use Rattle.dhcp_script.specs.declared.version.Version.{Version}

@@ -63,6 +63,7 @@ HasReportText (what.Refused message) = Unit {0}
 HasReportText (what.Changed (V4 state)) = Unit {0}
 HasReportText (what.Changed (V6 state)) = HasStateText6 (v6.plain_state state)
 
+-- an output that has a text
 abbrev pub HasFailureText : Output → Type 0
 HasFailureText output = HasReportText output.what
 

@@ -49,10 +49,7 @@ pub fn read_held_lease<L: HeldLease>(
 }
 
 /// Puts the line of a lease at the end of a text.
-pub fn push_held_lease<L: HeldLease>(
-    text: &mut String,
-    lease: &Option<L>,
-) -> Result<(), AllocError>
+pub fn push_held_lease<L: HeldLease>(text: &mut String, lease: &Option<L>) -> Result<(), AllocError>
     ensures { OnOk result (string_bytes text.new ≡ string_bytes text.old
         ++ line (codes "lease " ++ unless_none L.lease_text lease.now)) }
 {

@@ -89,9 +89,7 @@ impl Lease6 {
             (unwrap_or lease.now.ia_type DhcpV6IaType.NonTemporaryAddresses) lease.now) }
     {
         Ok(Lease6 {
-            ia_type: lease
-                .ia_type
-                .unwrap_or(DhcpV6IaType::NonTemporaryAddresses),
+            ia_type: lease.ia_type.unwrap_or(DhcpV6IaType::NonTemporaryAddresses),
             iaid: lease.iaid,
             address: lease.address,
             prefix_len: lease.prefix_len,

@@ -110,7 +110,8 @@ fn put_codes(
     codes: &Option<Sequence<u16>>,
 ) -> Result<(), DhcpError>
     ensures { Puts result config.new (record config.old {
-        request_opts = requested rising_codes codes.now config.old.request_opts }) }
+      request_opts = requested rising_codes codes.now config.old.request_opts;
+    }) }
 {
     if let Some(listed) = codes {
         config.override_request_dhcp_opts(alloc, listed.as_slice())?;

@@ -57,11 +57,7 @@ fn push_client_more(text: &mut String, lease: &Lease6) -> Result<(), AllocError>
 
 /// Puts the same fields of a lease at the end of a text; without a type it is printed as one of an
 /// IA_NA.
-pub fn push_lease(
-    alloc: Global,
-    text: &mut String,
-    lease: &DhcpV6Lease,
-) -> Result<(), AllocError>
+pub fn push_lease(alloc: Global, text: &mut String, lease: &DhcpV6Lease) -> Result<(), AllocError>
     ensures { OnOk result (string_bytes text.new ≡ string_bytes text.old
         ++ lease_text (fields_of (unwrap_or lease.now.ia_type NonTemporaryAddresses) lease.now)) }
 {

@@ -87,6 +87,7 @@ pub fn read_lease(
     })
 }
 
+// Reads the identity association, and the identifier of its server.
 #[tactic(auto, unfolding(crate::specs::Lease6Reader::association_at))]
 fn read_association(alloc: Global, text: &mut TextReader) -> Result<LeaseAssociation, ReadError>
     ensures { Takes result text.new (association_at text.old) }
@@ -100,6 +101,7 @@ fn read_association(alloc: Global, text: &mut TextReader) -> Result<LeaseAssocia
     })
 }
 
+// Reads the times, of which the last ends the line in version 1.
 #[tactic(auto, unfolding(crate::specs::Lease6Reader::times_at))]
 fn read_times(
     alloc: Global,
@@ -116,6 +118,7 @@ fn read_times(
     })
 }
 
+// Reads the fields that version 2 alone has; in version 1 they are those of the empty lease.
 #[tactic(auto, unfolding(crate::specs::Lease6Reader::later_at))]
 fn read_later(
     alloc: Global,

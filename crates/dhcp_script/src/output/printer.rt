@@ -26,11 +26,7 @@ use dhcp6_client::DhcpV6State;
 use std::alloc::{AllocError, Global};
 
 /// Puts the lines of outputs at the end of a text.
-pub fn push_outputs(
-    alloc: Global,
-    text: &mut String,
-    outputs: &[Output],
-) -> Result<(), AllocError>
+pub fn push_outputs(alloc: Global, text: &mut String, outputs: &[Output]) -> Result<(), AllocError>
     ensures { OnOk result (string_bytes text.new
         ≡ string_bytes text.old ++ flat_map output_line (map plain_output outputs.now)) }
 {
@@ -130,11 +126,7 @@ fn push_state(text: &mut String, state: &DhcpV4State) -> Result<(), AllocError>
 }
 
 // Puts a state of an IPv6 client at the end of a text.
-fn push_state6(
-    alloc: Global,
-    text: &mut String,
-    state: &DhcpV6State,
-) -> Result<(), AllocError>
+fn push_state6(alloc: Global, text: &mut String, state: &DhcpV6State) -> Result<(), AllocError>
     ensures { OnOk result (string_bytes text.new
         ≡ string_bytes text.old ++ state6_text (v6.plain_state state.now)) }
 {

@@ -26,11 +26,7 @@ pub fn read_whole_script(alloc: Global, version: Version, text: &[u8]) -> Result
 
 // Reads a script in a version from the front of a text.
 #[tactic(auto, unfolding(crate::specs::ScriptReader::script_at))]
-fn read_front(
-    alloc: Global,
-    version: Version,
-    text: &mut TextReader,
-) -> Result<Script, ReadError>
+fn read_front(alloc: Global, version: Version, text: &mut TextReader) -> Result<Script, ReadError>
     ensures { Takes result text.new (script_at version text.old) }
 {
     if skip_first_line4(version, text) {

@@ -68,6 +68,7 @@ pub fn read_script6(
     })
 }
 
+// Reads the line of the interface.
 #[tactic(auto, unfolding(crate::specs::ScriptReader::iface6_at))]
 fn read_iface(alloc: Global, text: &mut TextReader) -> Result<Iface6, ReadError>
     ensures { Takes result text.new (iface6_at text.old) }
@@ -108,6 +109,7 @@ fn read_mode(alloc: Global, text: &mut TextReader) -> Result<DhcpV6Mode, ReadErr
     Ok(DhcpV6Mode::PrefixDelegation(read_field(alloc, text, b' ')?))
 }
 
+// Reads the lines of the identifier and of the codes.
 #[tactic(auto, unfolding(crate::specs::ScriptReader::identity6_at))]
 fn read_identity(alloc: Global, text: &mut TextReader) -> Result<Identity6, ReadError>
     ensures { Takes result text.new (identity6_at text.old) }

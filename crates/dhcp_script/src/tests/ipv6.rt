@@ -50,7 +50,12 @@ fn texts_of_ipv6_are_written_back(rt: HostRuntime) -> Result<(), Fail> {
             "-",
             lease.as_str(),
         ],
-        ["0 00000000000000000000000000000000 - ta 7", "-", "default", lease.as_str()],
+        [
+            "0 00000000000000000000000000000000 - ta 7",
+            "-",
+            "default",
+            lease.as_str(),
+        ],
     ];
     for lines in cases {
         assert!(rt; is_written_back(rt.alloc(), lines)?, "{lines:?}");
@@ -62,7 +67,10 @@ fn texts_of_ipv6_are_written_back(rt: HostRuntime) -> Result<(), Fail> {
 fn interfaces_of_ipv6_are_read_or_refused(rt: HostRuntime) -> Result<(), Fail> {
     let cases = [
         ("1 fe800000000000000000000000000001 02000000000a na 0", true),
-        ("1 fe800000000000000000000000000001 02000000000A na 0", false),
+        (
+            "1 fe800000000000000000000000000001 02000000000A na 0",
+            false,
+        ),
         ("1 FE800000000000000000000000000001 - na 0", false),
         ("1 fe80::1 - na 0", false),
         ("1 fe800000000000000000000000000001 - pd 255 0", true),
@@ -86,9 +94,24 @@ fn leases_of_ipv6_are_read_or_refused(rt: HostRuntime) -> Result<(), Fail> {
         (LEASED, TIMES, NO_LATER, true),
         (LEASED, "50 80 100", LATER, false),
         (LEASED, TIMES, "7 - 0.0.0.0", false),
-        ("no 40 20010db8000000000000000000000010 128 00", TIMES, LATER, false),
-        ("pd 40 20010db8000000000000000000000000 256 00", TIMES, LATER, false),
-        ("192.0.2.10 192.0.2.1 192.0.2.1", "10 20 30", NO_FIELDS, false),
+        (
+            "no 40 20010db8000000000000000000000010 128 00",
+            TIMES,
+            LATER,
+            false,
+        ),
+        (
+            "pd 40 20010db8000000000000000000000000 256 00",
+            TIMES,
+            LATER,
+            false,
+        ),
+        (
+            "192.0.2.10 192.0.2.1 192.0.2.1",
+            "10 20 30",
+            NO_FIELDS,
+            false,
+        ),
     ];
     for (leased, times, later, want) in cases {
         let lease = format!(in rt.alloc(); "{leased} {times} {later}")?;
@@ -153,8 +176,16 @@ fn leases_of_ipv6_are_within_their_limits(rt: HostRuntime) -> Result<(), Fail> {
         (LEASED, "81 80 100 100", false),
         (LEASED, "50 101 100 100", false),
         (LEASED, "50 80 101 100", false),
-        ("na 40 00000000000000000000000000000000 128 0003", TIMES, false),
-        ("na 40 20010db8000000000000000000000010 128 00", TIMES, false),
+        (
+            "na 40 00000000000000000000000000000000 128 0003",
+            TIMES,
+            false,
+        ),
+        (
+            "na 40 20010db8000000000000000000000010 128 00",
+            TIMES,
+            false,
+        ),
         ("na 40 20010db8000000000000000000000010 128 -", TIMES, false),
     ];
     for (leased, times, want) in cases {

@@ -27,10 +27,12 @@ fn done_with_prefix(alloc: Global) -> Result<DhcpV6State, Fail>
 fn printed(alloc: Global, state: DhcpV6State) -> Result<Bytes, Fail>
     requires { HasStateText6 (plain_state state) }
 {
-    let outputs = vec![in alloc; Output {
-        event: 3,
-        what: OutputWhat::Changed(Reported::V6(state)),
-    }]?;
+    let outputs = vec![in alloc;
+        Output {
+            event: 3,
+            what: OutputWhat::Changed(Reported::V6(state)),
+        },
+    ]?;
     Ok(print_outputs(alloc, outputs.as_slice())?)
 }
 
@@ -51,9 +53,7 @@ fn states_of_ipv6_are_printed(rt: HostRuntime) -> Result<(), Fail> {
 fn a_lease_of_ipv6_is_printed_with_its_type_and_its_length(rt: HostRuntime) -> Result<(), Fail> {
     let state = done_with_prefix(rt.alloc())?;
     let text = printed(rt.alloc(), state)?;
-    let want = format!(in rt.alloc();
-        "3 state done pd 0 {ZEROS} 60 - 0 0 7 8 0 - {ZEROS}\nok\n"
-    )?;
+    let want = format!(in rt.alloc(); "3 state done pd 0 {ZEROS} 60 - 0 0 7 8 0 - {ZEROS}\nok\n")?;
     assert_eq!(rt; text.as_slice(), want.as_str().as_bytes());
     Ok(())
 }
