@@ -1,5 +1,9 @@
+pub mod Life
 pub mod Promises
+pub mod Promises4
+pub mod Promises6
 pub mod Replayed
 pub mod Replayed4
+pub mod Replayed6
 pub mod Request
 pub mod Tool

@@ -1,66 +1,28 @@
 -- The life of an IPv4 client over the events of a script: its history, and what is reported of it.
-use Rattle.std.specs.Prelude.{◌≡◌, ℕ, suc, Bool, true, false, ◌&&◌, List, [], ◌∷◌, map, drop, Option}
-use Rattle.dhcp_wire.specs.Error.{ErrorParts, no_memory}
-use Rattle.dhcp_wire.specs.declared.error.ErrorKind.TheVariants.{Timeout, IoError, InvalidArgument}
+pub use Rattle.dhcp_replay.specs.Life.{IsRefusal}
+use Rattle.std.specs.Prelude.{◌≡◌, ℕ, Bool, ◌&&◌, List, map, drop, Option}
 use Rattle.dhcp_clock.specs.declared.link.Handed.{Handed}
 use Rattle.dhcp_clock.specs.declared.link.Packet.{Packet}
-use Rattle.dhcp_clock.specs.declared.link.PacketKind.TheVariants as carriers
 use Rattle.dhcp_clock.specs.Words.{next_of}
 use Rattle.dhcp_history.specs.Client.{view_of}
 use Rattle.dhcp_history.specs.EventLoop.{events_at}
 use Rattle.dhcp_history.specs.History.{Stay, history, outputs}
 use Rattle.dhcp_history.specs.Machine.{View, first_view}
-use Rattle.dhcp_history.specs.declared.script.Event.{Event as LifeEvent}
-use Rattle.dhcp_history.specs.declared.script.Input.{Input}
-use Rattle.dhcp_history.specs.declared.script.Input.TheVariants as inputs
-use Rattle.dhcp_history.specs.declared.script.Report.{Report}
-use Rattle.dhcp_history.specs.declared.script.Report.TheVariants as reports
-use Rattle.dhcp_history.specs.declared.script.Failure.TheVariants as failures
-use Rattle.dhcp_history.specs.declared.script.Output.{Output as LifeOutput}
 use Rattle.dhcp_history.specs.Script.{Script}
 use Rattle.dhcp4_lease.specs.Config.{Config}
 use Rattle.dhcp4_lease.specs.Lease.{Lease}
 use Rattle.dhcp4_client.specs.Client.{ClientParts, can_begin, first_exchange, first_state}
 use Rattle.dhcp4_client.specs.Rules.{protocol}
-use Rattle.dhcp4_client.specs.State.{PlainState}
 use Rattle.dhcp4_client.specs.declared.client_state.ClientState.{ClientState}
 use Rattle.dhcp4_client.specs.declared.client_state.Exchange.{Exchange}
 use Rattle.dhcp_script.specs.Event.{are_valid}
-use Rattle.dhcp_script.specs.Output.{PlainOutput, PlainReport, handed, refused, changed_v4, failed}
+use Rattle.dhcp_script.specs.Output.{PlainOutput, changed_v4}
 use Rattle.dhcp_script.specs.declared.event.Event.{Event}
-use Rattle.dhcp_script.specs.declared.event.EventWhat.{EventWhat}
-use Rattle.dhcp_script.specs.declared.event.EventWhat.TheVariants.{Nothing, Frame, Payload, Release, CleanUp}
+use Rattle.dhcp_replay.specs.Life.{numbered, output_of}
 
 -- whether a client can live so: start and events are within their limits, and it can begin
 abbrev pub can_replay : Config → Option Lease → ℕ → List Event → Bool
 can_replay config lease start events = are_valid start events && can_begin config lease
-
--- the error of a replay: out of memory if what it was given is valid, InvalidArgument if not
-abbrev pub IsRefusal : Bool → ErrorParts → Type 0
-IsRefusal true error = error ≡ no_memory
-IsRefusal false error = error.kind ≡ InvalidArgument
-
--- what an event brings to the client
-abbrev pub input_of : EventWhat → Input Packet
-input_of Nothing = inputs.Nothing
-input_of (Frame bytes) = inputs.Arrival (record { kind = carriers.Frame; bytes = bytes })
-input_of (Payload bytes) = inputs.Arrival (record { kind = carriers.Payload; bytes = bytes })
-input_of Release = inputs.Release
-input_of CleanUp = inputs.CleanUp
-
--- an event by its number
-abbrev pub numbered_event : ℕ → Event → LifeEvent Packet
-numbered_event number event = record {
-  number = number;
-  moment = event.moment;
-  refuse = event.refuse;
-  input = input_of event.what;
-}
-
--- events by their numbers, from this one on
-abbrev pub numbered : ℕ → List Event → List (LifeEvent Packet)
-numbered number [] = []
-numbered number (event ∷ events) = numbered_event number event ∷ numbered (suc number) events
 
 -- The life of a client with this configuration, and with a lease that it held before or none: its
 -- transaction id is the first word, and its events are numbered from 1.
@@ -92,18 +54,7 @@ pub record IsClientAfter (config : Config) (lease : Option Lease) (words : List 
   pub view : view_of client.client (client_after config lease words events).words
       ≡ client_after config lease words events
 
--- what is reported
-abbrev pub report_of : Report PlainState Handed → PlainReport
-report_of (reports.Handed message) = handed message
-report_of (reports.Refused message) = refused message
-report_of (reports.Changed state) = changed_v4 state
-report_of (reports.Failed failures.TimedOut) = failed Timeout
-report_of (reports.Failed failures.SendRefused) = failed IoError
-
-abbrev pub output_of : LifeOutput PlainState Handed → PlainOutput
-output_of output = record { event = output.event; report = report_of output.report }
-
 -- what is reported of that life
 unfoldable pub outputs4 : Config → Option Lease → List ℕ → List Event → List PlainOutput
 outputs4 config lease words events =
-    map output_of (outputs (protocol config) (history4 config lease words events))
+    map (output_of changed_v4) (outputs (protocol config) (history4 config lease words events))

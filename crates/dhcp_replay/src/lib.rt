@@ -3,21 +3,25 @@
 #![tactic(auto)]
 
 pub mod laws;
+mod life;
 mod replayed;
 mod replayed4;
+mod replayed6;
 mod request;
 #[cfg(test)]
 mod tests;
 mod tool;
 
 pub use dhcp_script::{
-    Event, EventWhat, Lease4, Output, OutputWhat, Reported, Script, Script4, print_outputs,
-    read_script, write_script,
+    Event, EventWhat, Lease4, Lease6, Output, OutputWhat, Reported, Script, Script4, Script6,
+    print_outputs, read_script, read_script_v1, upgrade, write_script,
 };
 pub use dhcp_stream::{
     MAX_INPUT, MemSink, MemSource, ReadOutcome, Sink, Source, StdSink, StdSource, Whole,
-    WriteOutcome, hex_field, ipv4_field, mac_field, number_field, read_whole, write_whole,
+    WriteOutcome, hex_field, ipv4_field, ipv6_field, mac_field, number_field, read_whole,
+    write_whole,
 };
 pub use replayed::{Replayed, replay};
 pub use replayed4::{Replayed4, replay4};
+pub use replayed6::{Replayed6, replay6};
 pub use tool::{Status, replay_tool, status_without_words};

@@ -4,14 +4,17 @@ ghost use Rattle.std.specs.Prelude.{◌≡◌, IfErr, IfOk, OnOk, All, map, true
 ghost use Rattle.dhcp_script.specs.Output.{HasFailureText, plain_output};
 ghost use Rattle.dhcp_script.specs.Script as scripts;
 ghost use Rattle.dhcp_script.specs.Script4 as v4;
-ghost use Rattle.dhcp_replay.specs.Promises.{KeepsPromisesOf, KeepsPromisesOfV4};
+ghost use Rattle.dhcp_script.specs.Script6 as v6;
+ghost use Rattle.dhcp_replay.specs.Life.{IsRefusal};
+ghost use Rattle.dhcp_replay.specs.Promises.{KeepsPromisesOf};
+ghost use Rattle.dhcp_replay.specs.Promises4.{KeepsPromisesOfV4};
+ghost use Rattle.dhcp_replay.specs.Promises6.{KeepsPromisesOfV6};
 ghost use Rattle.dhcp_replay.specs.Replayed as lives;
 ghost use Rattle.dhcp_replay.specs.Replayed.{outputs_in};
-ghost use Rattle.dhcp_replay.specs.Replayed4.{IsRefusal};
 
-use crate::{Replayed4, replay4};
+use crate::{Replayed4, Replayed6, replay4, replay6};
 use dhcp_clock::WordList;
-use dhcp_script::{Output, Script, Script4};
+use dhcp_script::{Output, Script, Script4, Script6};
 use dhcp_wire::{DhcpError, ErrorKind, FixedText};
 use std::alloc::Global;
 
@@ -20,6 +23,8 @@ use std::alloc::Global;
 pub enum Replayed {
     /// Of an IPv4 script.
     V4(Replayed4),
+    /// Of an IPv6 script.
+    V6(Replayed6),
 }
 
 impl Replayed {
@@ -29,6 +34,7 @@ impl Replayed {
     {
         match self {
             Replayed::V4(replayed) => replayed.outputs.as_slice(),
+            Replayed::V6(replayed) => replayed.outputs.as_slice(),
         }
     }
 }
@@ -45,6 +51,7 @@ pub fn replay(alloc: Global, script: &Script) -> Result<Replayed, DhcpError>
 {
     match script {
         Script::V4(script) => Ok(Replayed::V4(replay_script4(alloc, script)?)),
+        Script::V6(script) => Ok(Replayed::V6(replay_script6(alloc, script)?)),
     }
 }
 
@@ -66,4 +73,24 @@ fn replay_script4(alloc: Global, script: &Script4) -> Result<Replayed4, DhcpErro
     let mut words = WordList::new(script.words.as_slice().to_vec(alloc)?);
     let events = script.events.as_slice();
     replay4(alloc, config, lease, &mut words, script.start, events)
+}
+
+// Plays an IPv6 script.
+fn replay_script6(alloc: Global, script: &Script6) -> Result<Replayed6, DhcpError>
+    ensures valid { OnOk result (v6.is_valid script.now ≡ true) }
+    ensures refused { IfErr result (IsRefusal (v6.is_valid script.now)) }
+    ensures outputs { IfOk result (λ replayed.
+        map plain_output replayed.outputs ≡ lives.outputs_of_v6 script.now) }
+    ensures failures { IfOk result (λ replayed. All HasFailureText replayed.outputs) }
+    ensures client { IfOk result (λ replayed. lives.HasClientOfV6 script.now replayed) }
+    ensures promises { OnOk result (KeepsPromisesOfV6 script.now) }
+{
+    if !script.is_valid() {
+        return Err(DhcpError::new_fixed(ErrorKind::InvalidArgument, FixedText::Script));
+    }
+    let config = script.config(alloc)?;
+    let lease = script.held_lease(alloc)?;
+    let mut words = WordList::new(script.words.as_slice().to_vec(alloc)?);
+    let events = script.events.as_slice();
+    replay6(alloc, config, lease, &mut words, script.start, events)
 }

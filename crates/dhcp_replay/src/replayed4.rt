@@ -1,18 +1,18 @@
 //! The life of an IPv4 client over the events of a script.
 
-ghost use Rattle.std.specs.Prelude.{◌≡◌, ◌≤◌, All, IfErr, IfOk, IfSome, OnOk, length, map, true};
-ghost use Rattle.dhcp_script.specs.Output.{HasFailureText, HasReportText, plain_output, plain_report};
-ghost use Rattle.dhcp_replay.specs.Promises.{KeepsPromises};
+ghost use Rattle.std.specs.Prelude.{◌≡◌, All, IfErr, IfOk, IfSome, OnOk, map, true};
+ghost use Rattle.dhcp_script.specs.Output.{HasFailureText, plain_output};
+ghost use Rattle.dhcp_replay.specs.Promises4.{KeepsPromises};
 ghost use Rattle.dhcp_replay.specs.Replayed4 as lives;
 
 use crate::laws;
-use dhcp_clock::{Handed, Packet, PacketKind, Words};
-use dhcp_history::{Failure, Input, Report};
-use dhcp_script::{Event, EventWhat, Output, OutputWhat, Reported, are_valid};
-use dhcp_wire::{Bytes, DhcpError, ErrorKind, FixedText, Sequence};
-use dhcp4_client::{DhcpV4Client, ReportedState};
+use crate::life::{numbered, outputs_of};
+use dhcp_clock::Words;
+use dhcp_script::{Event, Output, are_valid};
+use dhcp_wire::{DhcpError, ErrorKind, FixedText, Sequence};
+use dhcp4_client::DhcpV4Client;
 use dhcp4_lease::{DhcpV4Config, DhcpV4Lease};
-use std::alloc::{AllocError, Global};
+use std::alloc::Global;
 
 /// What happened to an IPv4 client, and the client at the end.
 #[derive(Drop)]
@@ -56,78 +56,4 @@ pub fn replay4<W: Words>(
         outputs: outputs_of(alloc, reported)?,
         client,
     })
-}
-
-// The events by their numbers.
-fn numbered(alloc: Global, events: &[Event]) -> Result<Vec<dhcp_history::Event<Packet>>, AllocError>
-    requires { length events.now ≤ 20000 }
-    ensures { IfOk result (λ made. made.items ≡ lives.numbered 1 events.now) }
-{
-    let mut made = Vec::new(alloc);
-    let mut number = 1u32;
-    for event in events {
-        made.push(dhcp_history::Event {
-            number,
-            moment: event.moment,
-            refuse: event.refuse,
-            input: input_of(alloc, &event.what)?,
-        })?;
-        number += 1;
-    }
-    Ok(made)
-}
-
-// What an event brings to the client.
-fn input_of(alloc: Global, what: &EventWhat) -> Result<Input<Packet>, AllocError>
-    ensures { IfOk result (λ input. input ≡ lives.input_of what.now) }
-{
-    match what {
-        EventWhat::Nothing => Ok(Input::Nothing),
-        EventWhat::Frame(bytes) => arrival(alloc, PacketKind::Frame, bytes),
-        EventWhat::Payload(bytes) => arrival(alloc, PacketKind::Payload, bytes),
-        EventWhat::Release => Ok(Input::Release),
-        EventWhat::CleanUp => Ok(Input::CleanUp),
-    }
-}
-
-// A packet that comes in.
-fn arrival(alloc: Global, kind: PacketKind, bytes: &Bytes) -> Result<Input<Packet>, AllocError>
-    ensures { IfOk result (λ input.
-        input ≡ Input.Arrival (record { kind = kind; bytes = bytes.now })) }
-{
-    let bytes = Bytes::from(bytes.as_slice().to_vec(alloc)?);
-    Ok(Input::Arrival(Packet { kind, bytes }))
-}
-
-// What was reported, as outputs of a script.
-fn outputs_of(
-    alloc: Global,
-    reported: Vec<dhcp_history::Output<ReportedState, Handed>>,
-) -> Result<Sequence<Output>, AllocError>
-    ensures outputs { IfOk result (λ outputs.
-        map plain_output outputs ≡ map lives.output_of reported.items) }
-    ensures failures { IfOk result (λ outputs. All HasFailureText outputs) }
-{
-    let mut outputs = Vec::new(alloc);
-    for output in reported {
-        outputs.push(Output {
-            event: output.event,
-            what: what_of(output.report),
-        })?;
-    }
-    Ok(Sequence::from(outputs))
-}
-
-// What is reported.
-fn what_of(report: Report<ReportedState, Handed>) -> OutputWhat
-    ensures report { plain_report result ≡ lives.report_of report }
-    ensures failure { HasReportText result }
-{
-    match report {
-        Report::Handed(message) => OutputWhat::Handed(message),
-        Report::Refused(message) => OutputWhat::Refused(message),
-        Report::Changed(state) => OutputWhat::Changed(Reported::V4(state.into_state())),
-        Report::Failed(Failure::TimedOut) => OutputWhat::Failed(ErrorKind::Timeout),
-        Report::Failed(Failure::SendRefused) => OutputWhat::Failed(ErrorKind::IoError),
-    }
 }

@@ -12,6 +12,7 @@ ghost use Rattle.dhcp_script.specs.Demo.{most_rounds};
 ghost use Rattle.dhcp_script.specs.Script.{IsScript, is_valid, script_text};
 ghost use Rattle.dhcp_script.specs.declared.script.Script.{Script};
 ghost use Rattle.dhcp_replay.specs.Promises.{KeepsPromisesOf};
+ghost use Rattle.dhcp_replay.specs.Replayed.{events_of};
 ghost use Rattle.dhcp_replay.specs.Request.{AsksFor, AsksForNothing, IsRequest};
 ghost use Rattle.dhcp_replay.specs.Tool.{
   demo_summary,
@@ -247,8 +248,17 @@ fn summary_of(alloc: Global, rounds: u32) -> Result<Bytes, DhcpError>
 {
     let script = demo_script(alloc, rounds)?;
     let replayed = replay(alloc, &script)?;
-    let Script::V4(script) = &script;
-    print_summary(alloc, script.events.len(), replayed.outputs())
+    print_summary(alloc, event_count(&script), replayed.outputs())
+}
+
+// How many events a script has.
+fn event_count(script: &Script) -> usize
+    ensures { result ≡ length (events_of script.now) }
+{
+    match script {
+        Script::V4(script) => script.events.len(),
+        Script::V6(script) => script.events.len(),
+    }
 }
 
 // The text to print for these bytes, or the status.

@@ -1,0 +1,95 @@
+-- What the lives of the clients of both families share: the events that come to a client, what is
+-- reported of it, and what is promised of its polls and of its messages.
+use Rattle.std.specs.Prelude.{◌≡◌, ◌⊎◌, ℕ, suc, ◌≤◌, Bool, true, false, List, [], ◌∷◌, All}
+use Rattle.dhcp_wire.specs.Error.{ErrorParts, no_memory}
+use Rattle.dhcp_wire.specs.declared.error.ErrorKind.TheVariants.{Timeout, IoError, InvalidArgument}
+use Rattle.dhcp_clock.specs.declared.link.Handed.{Handed}
+use Rattle.dhcp_clock.specs.declared.link.Packet.{Packet}
+use Rattle.dhcp_clock.specs.declared.link.PacketKind.TheVariants as carriers
+use Rattle.dhcp_history.specs.Bounds.{attempts_of, count_of, is_change, poll_count, IsWithinState}
+use Rattle.dhcp_history.specs.EventLoop.{call_at, event_at}
+use Rattle.dhcp_history.specs.History.{Stay}
+use Rattle.dhcp_history.specs.Machine.{View, polls}
+use Rattle.dhcp_history.specs.Protocol.{Protocol}
+use Rattle.dhcp_history.specs.Script.{after_call}
+use Rattle.dhcp_history.specs.declared.script.Event.{Event as LifeEvent}
+use Rattle.dhcp_history.specs.declared.script.Failure.TheVariants as failures
+use Rattle.dhcp_history.specs.declared.script.Input.{Input}
+use Rattle.dhcp_history.specs.declared.script.Input.TheVariants as inputs
+use Rattle.dhcp_history.specs.declared.script.Output.{Output as LifeOutput}
+use Rattle.dhcp_history.specs.declared.script.Report.{Report}
+use Rattle.dhcp_history.specs.declared.script.Report.TheVariants as reports
+use Rattle.dhcp_script.specs.Output.{PlainOutput, PlainReport, handed, refused, failed}
+use Rattle.dhcp_script.specs.declared.event.Event.{Event}
+use Rattle.dhcp_script.specs.declared.event.EventWhat.{EventWhat}
+use Rattle.dhcp_script.specs.declared.event.EventWhat.TheVariants.{Nothing, Frame, Payload, Release, CleanUp}
+
+-- the error of a replay: out of memory if what it was given is valid, InvalidArgument if not
+abbrev pub IsRefusal : Bool → ErrorParts → Type 0
+IsRefusal true error = error ≡ no_memory
+IsRefusal false error = error.kind ≡ InvalidArgument
+
+-- 1. Events.
+
+-- what an event brings to the client
+abbrev pub input_of : EventWhat → Input Packet
+input_of Nothing = inputs.Nothing
+input_of (Frame bytes) = inputs.Arrival (record { kind = carriers.Frame; bytes = bytes })
+input_of (Payload bytes) = inputs.Arrival (record { kind = carriers.Payload; bytes = bytes })
+input_of Release = inputs.Release
+input_of CleanUp = inputs.CleanUp
+
+-- an event by its number
+abbrev pub numbered_event : ℕ → Event → LifeEvent Packet
+numbered_event number event = record {
+  number = number;
+  moment = event.moment;
+  refuse = event.refuse;
+  input = input_of event.what;
+}
+
+-- events by their numbers, from this one on
+abbrev pub numbered : ℕ → List Event → List (LifeEvent Packet)
+numbered number [] = []
+numbered number (event ∷ events) = numbered_event number event ∷ numbered (suc number) events
+
+-- 2. What is reported.
+
+-- what is reported, by what is reported of a client that comes to a state
+abbrev pub report_of : {State : Type 0} → (State → PlainReport) → Report State Handed → PlainReport
+report_of changed (reports.Handed message) = handed message
+report_of changed (reports.Refused message) = refused message
+report_of changed (reports.Changed state) = changed state
+report_of changed (reports.Failed failures.TimedOut) = failed Timeout
+report_of changed (reports.Failed failures.SendRefused) = failed IoError
+
+abbrev pub output_of : {State : Type 0} → (State → PlainReport) → LifeOutput State Handed →
+    PlainOutput
+output_of changed output =
+    record { event = output.event; report = report_of changed output.report }
+
+-- 3. What is promised.
+
+module _ {PublicState State Exchange Answer Lease : Type 0}
+    (p : Protocol PublicState Packet Handed State Exchange Answer Lease) where
+  -- At an event, after its call, the client is polled at most seven times, and changes its state at
+  -- most six times. After the polls a client without a kept error is in no state whose end has
+  -- come.
+  pub record SettlesAt (event : LifeEvent Packet) (client : View State Exchange) : Type 0 where
+    pub seven_polls : (fuel : ℕ) → poll_count p fuel event client ≤ 7
+    pub six_changes : (fuel : ℕ) → count_of is_change (polls p fuel event client).outputs ≤ 6
+    pub not_overdue : IsWithinState p event.moment (polls p 7 event client).view
+
+  -- and so at each of these events
+  abbrev pub SettlesAtEach : View State Exchange → List (LifeEvent Packet) → Type 0
+  SettlesAtEach client [] = Unit {0}
+  SettlesAtEach client (event ∷ events) =
+      SettlesAt (after_call event) (call_at p event client).view
+      × SettlesAtEach (event_at p event client).view events
+
+-- the messages of a stay are those of its state, which has a basis
+pub record NamesItsBasis {State : Type 0} (HasBasis : State → Type 0)
+    (IsMessageOf : State → Handed → Type 0) (stay : Stay State Handed) : Type 0 where
+  pub basis : HasBasis stay.setting.state
+  pub messages : All (λ attempt. IsMessageOf stay.setting.state attempt.message)
+      (attempts_of stay.acts)

@@ -1,0 +1,78 @@
+-- What is promised of the IPv4 client of every script: how its polls go, and how much it sends.
+use Rattle.std.specs.Prelude.{◌≡◌, ℕ, ◌≤◌, List, map, All, Option, Some, option_map}
+use Rattle.std.specs.List.{Contains}
+use Rattle.dhcp_clock.specs.declared.link.Handed.{Handed}
+use Rattle.dhcp_clock.specs.declared.link.Packet.{Packet}
+use Rattle.dhcp_clock.specs.Words.{next_of}
+use Rattle.dhcp_history.specs.Bounds.{allowed, count_of, is_send_at}
+use Rattle.dhcp_history.specs.History.{outputs}
+use Rattle.dhcp_history.specs.Machine.{first_view}
+use Rattle.dhcp_history.specs.declared.script.Event.{Event as LifeEvent}
+use Rattle.dhcp_history.specs.declared.script.Input.TheVariants as inputs
+use Rattle.dhcp4_lease.specs.Config.{Config}
+use Rattle.dhcp4_lease.specs.Lease.{Lease}
+use Rattle.dhcp4_client.specs.Answer.{awaited, message_for, reading_of}
+use Rattle.dhcp4_client.specs.Bounds.{AreFarApart, GetsRarer, HasFourRequests}
+use Rattle.dhcp4_client.specs.Message.{attempt_message}
+use Rattle.dhcp4_client.specs.Rules.{protocol}
+use Rattle.dhcp4_client.specs.declared.answer.Answer.TheVariants.{Granted}
+use Rattle.dhcp4_client.specs.declared.client_state.ClientState.{ClientState}
+use Rattle.dhcp4_client.specs.declared.client_state.ClientState.TheVariants.{InitReboot, Selecting, Rebooting, Done, Renewing, Rebinding}
+use Rattle.dhcp_script.specs.Lease4.{lease_with}
+use Rattle.dhcp_script.specs.Script4.{config_of}
+use Rattle.dhcp_script.specs.declared.event.Event.{Event}
+use Rattle.dhcp_script.specs.declared.script4.Script4.{Script4}
+use Rattle.dhcp_replay.specs.Life.{numbered, NamesItsBasis, SettlesAtEach}
+use Rattle.dhcp_replay.specs.Replayed4.{history4, life_of}
+
+-- The lease is read from a packet that comes in at one of these events, as the answer that is
+-- awaited to a transaction id.
+pub record IsReadFrom (events : List (LifeEvent Packet)) (xid : ℕ) (lease : Lease) : Type 0 where
+  pub packet : Packet
+  pub comes_in : Contains (map (λ event. event.input) events) (inputs.Arrival packet)
+  pub state : ClientState
+  pub drawn : List ℕ
+  pub reads : (reading_of (awaited state) (message_for (awaited state) xid packet) drawn).value
+      ≡ Some (Granted lease)
+
+-- where the offer or the lease of a state comes from: it was read from a packet, or it is the lease
+-- that the client held before
+abbrev pub HasBasis : Option Lease → List (LifeEvent Packet) → ℕ → ClientState → Type 0
+HasBasis before events xid InitReboot = Unit {0}
+HasBasis before events xid (Selecting offer) = IsReadFrom events xid offer
+HasBasis before events xid (Rebooting lease) = before ≡ Some lease
+HasBasis before events xid (Done bound) = IsReadFrom events xid bound.lease
+HasBasis before events xid (Renewing bound) = IsReadFrom events xid bound.lease
+HasBasis before events xid (Rebinding bound) = IsReadFrom events xid bound.lease
+
+-- the message of a state names its offer or its lease
+abbrev pub IsMessageOf : Config → ℕ → ClientState → Handed → Type 0
+IsMessageOf config xid state message = message ≡ attempt_message xid config state
+
+-- What is promised of a client with this configuration, and with a lease that it held before or
+-- none, over these words and events. A message counts if the link took it.
+pub record KeepsPromises (config : Config) (lease : Option Lease) (words : List ℕ)
+    (events : List Event) : Type 0 where
+  -- the requests of a stay in RENEWING, or in REBINDING, get rarer by half
+  pub requests_get_rarer : All GetsRarer (history4 config lease words events)
+  -- the messages of a stay are three seconds apart, those in RENEWING and in REBINDING a minute
+  pub messages_far_apart : All AreFarApart (history4 config lease words events)
+  -- a lease that was held before is requested at most four times in a stay
+  pub four_requests : All HasFourRequests (history4 config lease words events)
+  -- an event has at most two messages, and one more where it asks for a release
+  pub two_messages : (number : ℕ) → count_of (is_send_at number)
+      (outputs (protocol config) (history4 config lease words events))
+      ≤ allowed number (numbered 1 events)
+  -- each message names the offer or the lease of its state
+  pub names_its_basis :
+      All (NamesItsBasis (HasBasis lease (numbered 1 events) (next_of words))
+      (IsMessageOf config (next_of words))) (history4 config lease words events)
+  -- Each event has its few polls. After them a client without a kept error is not in BOUND at or
+  -- past T1, in RENEWING at or past T2, or in REBINDING at or past the end of its lease.
+  pub settles : SettlesAtEach (protocol config) (first_view (life_of config lease words events))
+      (numbered 1 events)
+
+-- what is promised of the client of a script
+abbrev pub KeepsPromisesOfV4 : Script4 → Type 0
+KeepsPromisesOfV4 script =
+    KeepsPromises (config_of script) (option_map lease_with script.lease) script.words script.events

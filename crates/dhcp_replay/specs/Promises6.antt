@@ -1,0 +1,83 @@
+-- What is promised of the IPv6 client of every script: how its polls go, and how much it sends.
+use Rattle.std.specs.Prelude.{◌≡◌, ◌⊎◌, ℕ, ◌≤◌, List, map, All, Option, Some, option_map}
+use Rattle.std.specs.List.{Contains}
+use Rattle.dhcp_clock.specs.declared.link.Handed.{Handed}
+use Rattle.dhcp_clock.specs.declared.link.Packet.{Packet}
+use Rattle.dhcp_history.specs.Bounds.{allowed, count_of, is_send_at}
+use Rattle.dhcp_history.specs.History.{outputs}
+use Rattle.dhcp_history.specs.Machine.{first_view}
+use Rattle.dhcp_history.specs.declared.script.Event.{Event as LifeEvent}
+use Rattle.dhcp_history.specs.declared.script.Input.TheVariants as inputs
+use Rattle.dhcp6_msg.specs.Config.{Config}
+use Rattle.dhcp6_msg.specs.Lease.{Lease}
+use Rattle.dhcp6_client.specs.Answer.{answer_of, awaited, message_for}
+use Rattle.dhcp6_client.specs.Bounds.{AreFarApart, HasElevenRequests}
+use Rattle.dhcp6_client.specs.Message.{attempt_message}
+use Rattle.dhcp6_client.specs.Rules.{protocol}
+use Rattle.dhcp6_client.specs.declared.client_state.ClientState.{ClientState}
+use Rattle.dhcp6_client.specs.declared.client_state.ClientState.TheVariants.{Solicit, Request, Done, Temporary, Renew, Rebind}
+use Rattle.dhcp_script.specs.Lease6.{lease_with}
+use Rattle.dhcp_script.specs.Script6.{config_of}
+use Rattle.dhcp_script.specs.declared.event.Event.{Event}
+use Rattle.dhcp_script.specs.declared.script6.Script6.{Script6}
+use Rattle.dhcp_replay.specs.Life.{numbered, NamesItsBasis, SettlesAtEach}
+use Rattle.dhcp_replay.specs.Replayed6.{config_in, history6, life_of}
+
+-- the lease is read from a packet that comes in at one of these events, as the answer that a state
+-- awaits to a transaction id
+pub record IsReadFrom (events : List (LifeEvent Packet)) (lease : Lease) : Type 0 where
+  pub packet : Packet
+  pub comes_in : Contains (map (λ event. event.input) events) (inputs.Arrival packet)
+  pub state : ClientState
+  pub xid : ℕ
+  pub reads : answer_of (message_for (awaited state) xid packet) ≡ Some lease
+
+-- where a lease comes from: it was read from a packet, or the client held it before
+abbrev pub IsKnown : Option Lease → List (LifeEvent Packet) → Lease → Type 0
+IsKnown before events lease = IsReadFrom events lease ⊎ (before ≡ Some lease)
+
+-- where the offer or the lease of a state comes from; a client that has a lease has it from a
+-- packet, until it renews the one that it held before
+abbrev pub HasBasis : Option Lease → List (LifeEvent Packet) → ClientState → Type 0
+HasBasis before events Solicit = Unit {0}
+HasBasis before events (Request offer) = IsReadFrom events offer
+HasBasis before events (Done bound) = IsReadFrom events bound.lease
+HasBasis before events (Temporary bound) = IsReadFrom events bound.lease
+HasBasis before events (Renew bound) = IsKnown before events bound.lease
+HasBasis before events (Rebind bound) = IsKnown before events bound.lease
+
+-- the message of a state names its offer or its lease; it has a transaction id, the time since
+-- which the client tries, and in a Solicit the identifier of an association
+pub record IsMessageOf (config : Config) (state : ClientState) (message : Handed) : Type 0 where
+  pub xid : ℕ
+  pub elapsed : ℕ
+  pub iaid : ℕ
+  pub is : message ≡ attempt_message xid config elapsed iaid state
+
+-- What is promised of a client with this configuration, and with a lease that it held before or
+-- none, from this start on, over these words and events. A message counts if the link took it.
+pub record KeepsPromises (config : Config) (lease : Option Lease) (start : ℕ) (words : List ℕ)
+    (events : List Event) : Type 0 where
+  -- an offer is requested at most eleven times in a stay
+  pub eleven_requests : All HasElevenRequests (history6 config lease start words events)
+  -- the messages of a stay are 0.9 seconds apart, those in Renew and in Rebind nine seconds
+  pub messages_far_apart : All AreFarApart (history6 config lease start words events)
+  -- an event has at most two messages, and one more where it asks for a release
+  pub two_messages : (number : ℕ) → count_of (is_send_at number)
+      (outputs (protocol (config_in config words)) (history6 config lease start words events))
+      ≤ allowed number (numbered 1 events)
+  -- each message names the offer or the lease of its state
+  pub names_its_basis :
+      All (NamesItsBasis (HasBasis lease (numbered 1 events))
+      (IsMessageOf (config_in config words))) (history6 config lease start words events)
+  -- Each event has its few polls. After them a client without a kept error does not hold a lease at
+  -- or past its T1, or its end if it is of temporary addresses, is not in Renew at or past T2, and
+  -- not in Rebind at or past the end of its lease.
+  pub settles : SettlesAtEach (protocol (config_in config words))
+      (first_view (life_of config lease start words events)) (numbered 1 events)
+
+-- what is promised of the client of a script
+abbrev pub KeepsPromisesOfV6 : Script6 → Type 0
+KeepsPromisesOfV6 script =
+    KeepsPromises (config_of script) (option_map lease_with script.lease) script.start
+    script.words script.events

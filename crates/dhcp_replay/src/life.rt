@@ -1,0 +1,123 @@
+//! What the lives of the clients of both families share: the events that come to a client, and the
+//! outputs of what it reports.
+
+ghost use Rattle.std.specs.Prelude.{◌≡◌, ◌≤◌, IfOk, length, map};
+ghost use Rattle.dhcp_script.specs.Output.{plain_output, plain_report};
+ghost use Rattle.dhcp_replay.specs.Life as lives;
+
+use dhcp_clock::{Handed, Packet, PacketKind};
+use dhcp_history::{Failure, Input, Report};
+use dhcp_script::{Event, EventWhat, Output, OutputWhat, Reported};
+use dhcp_wire::{Bytes, ErrorKind, Sequence};
+use dhcp4_client::ReportedState as ReportedState4;
+use dhcp6_client::ReportedState as ReportedState6;
+use std::alloc::{AllocError, Global};
+
+/// A state as the client of one family reports it.
+pub trait FamilyState: Drop {
+    ghost use Rattle.std.specs.Prelude.{◌≡◌};
+    ghost use Rattle.dhcp_script.specs.Output.{PlainReport, plain_report};
+    ghost use Rattle.dhcp_script.specs.declared.output.OutputWhat.TheVariants.{Changed};
+
+    /// What is reported of a client that comes to it.
+    ghost changed: { Self → PlainReport };
+
+    /// The state, by its family.
+    fn into_reported(self) -> Reported
+        ensures { plain_report (Changed result) ≡ changed self };
+}
+
+impl FamilyState for ReportedState4 {
+    ghost use Rattle.dhcp_script.specs.Output.{changed_v4};
+
+    ghost changed = { changed_v4 };
+
+    fn into_reported(self) -> Reported {
+        Reported::V4(self.into_state())
+    }
+}
+
+impl FamilyState for ReportedState6 {
+    ghost use Rattle.dhcp_script.specs.Output.{changed_v6};
+
+    ghost changed = { changed_v6 };
+
+    fn into_reported(self) -> Reported {
+        Reported::V6(self.into_state())
+    }
+}
+
+/// The events by their numbers, from 1 on.
+pub fn numbered(
+    alloc: Global,
+    events: &[Event],
+) -> Result<Vec<dhcp_history::Event<Packet>>, AllocError>
+    requires { length events.now ≤ 20000 }
+    ensures { IfOk result (λ made. made.items ≡ lives.numbered 1 events.now) }
+{
+    let mut made = Vec::new(alloc);
+    let mut number = 1u32;
+    for event in events {
+        made.push(dhcp_history::Event {
+            number,
+            moment: event.moment,
+            refuse: event.refuse,
+            input: input_of(alloc, &event.what)?,
+        })?;
+        number += 1;
+    }
+    Ok(made)
+}
+
+// What an event brings to the client.
+fn input_of(alloc: Global, what: &EventWhat) -> Result<Input<Packet>, AllocError>
+    ensures { IfOk result (λ input. input ≡ lives.input_of what.now) }
+{
+    match what {
+        EventWhat::Nothing => Ok(Input::Nothing),
+        EventWhat::Frame(bytes) => arrival(alloc, PacketKind::Frame, bytes),
+        EventWhat::Payload(bytes) => arrival(alloc, PacketKind::Payload, bytes),
+        EventWhat::Release => Ok(Input::Release),
+        EventWhat::CleanUp => Ok(Input::CleanUp),
+    }
+}
+
+// A packet that comes in.
+fn arrival(alloc: Global, kind: PacketKind, bytes: &Bytes) -> Result<Input<Packet>, AllocError>
+    ensures { IfOk result (λ input.
+        input ≡ Input.Arrival (record { kind = kind; bytes = bytes.now })) }
+{
+    let bytes = Bytes::from(bytes.as_slice().to_vec(alloc)?);
+    Ok(Input::Arrival(Packet { kind, bytes }))
+}
+
+/// What was reported, as outputs of a script.
+pub fn outputs_of<S: FamilyState>(
+    alloc: Global,
+    reported: Vec<dhcp_history::Output<S, Handed>>,
+) -> Result<Sequence<Output>, AllocError>
+    ensures { IfOk result (λ outputs.
+        map plain_output outputs ≡ map (lives.output_of S.changed) reported.items) }
+{
+    let mut outputs = Vec::new(alloc);
+    for output in reported {
+        outputs.push(Output {
+            event: output.event,
+            what: what_of(output.report),
+        })?;
+    }
+    Ok(Sequence::from(outputs))
+}
+
+// What is reported.
+fn what_of<S: FamilyState>(report: Report<S, Handed>) -> OutputWhat
+    ensures { plain_report result ≡ lives.report_of S.changed report }
+{
+    match report {
+        Report::Handed(message) => OutputWhat::Handed(message),
+        Report::Refused(message) => OutputWhat::Refused(message),
+        Report::Changed(state) => OutputWhat::Changed(state.into_reported()),
+        Report::Failed(Failure::TimedOut) => OutputWhat::Failed(ErrorKind::Timeout),
+        Report::Failed(Failure::SendRefused) => OutputWhat::Failed(ErrorKind::IoError),
+    }
+}

@@ -1,0 +1,61 @@
+//! The life of an IPv6 client over the events of a script.
+
+ghost use Rattle.std.specs.Prelude.{◌≡◌, All, IfErr, IfOk, IfSome, OnOk, map, true};
+ghost use Rattle.dhcp_script.specs.Output.{HasFailureText, plain_output};
+ghost use Rattle.dhcp_replay.specs.Promises6.{KeepsPromises};
+ghost use Rattle.dhcp_replay.specs.Replayed6 as lives;
+
+use crate::laws;
+use crate::life::{numbered, outputs_of};
+use dhcp_clock::Words;
+use dhcp_script::{Event, Output, are_valid};
+use dhcp_wire::{DhcpError, ErrorKind, FixedText, Sequence};
+use dhcp6_client::DhcpV6Client;
+use dhcp6_msg::{DhcpV6Config, DhcpV6Lease};
+use std::alloc::Global;
+
+/// What happened to an IPv6 client, and the client at the end.
+#[derive(Drop)]
+pub struct Replayed6 {
+    /// What is reported of each event, in order.
+    pub outputs: Sequence<Output>,
+    /// The client as it is after the last event.
+    pub client: DhcpV6Client,
+}
+
+/// Plays the events of a script with a client of this configuration, and with a lease that it held
+/// before, if there is one, whose times count from the start. The start and the moments of the
+/// events are in milliseconds. `InvalidArgument` if and only if the client cannot begin so, or
+/// start and events are not within their limits.
+pub fn replay6<W: Words>(
+    alloc: Global,
+    config: DhcpV6Config,
+    lease: Option<DhcpV6Lease>,
+    words: &mut W,
+    start: u64,
+    events: &[Event],
+) -> Result<Replayed6, DhcpError>
+    ensures valid { OnOk result (lives.can_replay config lease start events.now ≡ true) }
+    ensures refused { IfErr result
+        (lives.IsRefusal (lives.can_replay config lease start events.now)) }
+    ensures outputs { IfOk result (λ replayed. IfSome (W.left words.old) (λ drawn.
+        map plain_output replayed.outputs
+        ≡ lives.outputs6 config lease start drawn events.now)) }
+    ensures client { IfOk result (λ replayed. IfSome (W.left words.old) (λ drawn.
+        lives.IsClientAfter config lease start drawn events.now replayed.client)) }
+    ensures failures { IfOk result (λ replayed. IfSome (W.left words.old) (λ drawn.
+        All HasFailureText replayed.outputs)) }
+    ensures promises { OnOk result (IfSome (W.left words.old) (λ drawn.
+        KeepsPromises config lease start drawn events.now)) }
+{
+    if !are_valid(start, events) {
+        return Err(DhcpError::new_fixed(ErrorKind::InvalidArgument, FixedText::Script));
+    }
+    let mut client = DhcpV6Client::init(alloc, config, lease, start, words)?;
+    laws::promises6_are_kept(&client);
+    let reported = client.replay(words, numbered(alloc, events)?)?;
+    Ok(Replayed6 {
+        outputs: outputs_of(alloc, reported)?,
+        client,
+    })
+}
