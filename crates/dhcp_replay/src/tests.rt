@@ -1,6 +1,7 @@
 //! Whole lives of a client, from the text of a script to the text of what is printed.
 
 mod lives;
+mod lives6;
 mod packets;
 mod requests;
 mod statuses;

@@ -5,6 +5,12 @@ use super::statuses::run;
 use std::alloc::{AllocError, Global};
 use std::test::Fail;
 
+/// The family of a script: the tag of its first line, and its lines before the events.
+pub(super) type Family = (&'static str, &'static [(&'static str, &'static str)]);
+
+/// Scripts of an IPv4 client.
+pub(super) const IPV4: Family = ("dhcp4", &FRONT);
+
 // The lines of a script before its events.
 const FRONT: [(&str, &str); 7] = [
     ("iface", "1 020000000001 0 0"),
@@ -31,24 +37,27 @@ const PAUSE_OF_5: (&str, &str) = ("words", "1234567800000005");
 
 const LAST_START: (&str, &str) = ("start", "1152921504606846975");
 
-/// The text of a script with this line changed and these events.
+/// The text of a script of a family with this line changed and these events.
 pub(super) fn script(
     alloc: Global,
+    family: Family,
     change: (&str, &str),
     events: &str,
 ) -> Result<String, AllocError> {
-    script_in(alloc, 2, change, events)
+    script_in(alloc, family, 2, change, events)
 }
 
 /// Its text in a version.
 pub(super) fn script_in(
     alloc: Global,
+    family: Family,
     version: u32,
     change: (&str, &str),
     events: &str,
 ) -> Result<String, AllocError> {
-    let mut text = format!(in alloc; "dhcp4 {version}\n")?;
-    for (tag, usual) in &FRONT {
+    let (first, front) = family;
+    let mut text = format!(in alloc; "{first} {version}\n")?;
+    for (tag, usual) in front {
         let fields = if *tag == change.0 { change.1 } else { *usual };
         push_lines(&mut text, format!(in alloc; "{tag} {fields}")?.as_str())?;
     }
@@ -298,12 +307,13 @@ const LIVES: [(&str, (&str, &str), &str, &str, &str, &str); 27] = [
 // What is printed for a script with this line changed and these events.
 fn is_printed(
     alloc: Global,
+    family: Family,
     change: (&str, &str),
     events: [&str; 2],
     outputs: [&str; 2],
 ) -> Result<bool, Fail> {
     let events = format!(in alloc; "{}{}", events[0], events[1])?;
-    let text = script(alloc, change, events.as_str())?;
+    let text = script(alloc, family, change, events.as_str())?;
     let mut wanted = String::new(alloc);
     push_lines(&mut wanted, outputs[0])?;
     push_lines(&mut wanted, outputs[1])?;
@@ -312,8 +322,8 @@ fn is_printed(
     Ok(status == 0 && taken.as_slice() == wanted.as_bytes())
 }
 
-// One life: what it shows, and the other fields of `LIVES`.
-type Life = (
+/// One life: what it shows, and the other fields of `LIVES`.
+pub(super) type Life = (
     &'static str,
     (&'static str, &'static str),
     &'static str,
@@ -322,11 +332,11 @@ type Life = (
     &'static str,
 );
 
-// Fails with the name of the first life that is not printed so.
-fn are_printed(alloc: Global, lives: &[Life]) -> Result<(), Fail> {
+/// Fails with the name of the first life that is not printed so.
+pub(super) fn are_printed(alloc: Global, family: Family, lives: &[Life]) -> Result<(), Fail> {
     for (name, change, first, further, printed, also_printed) in lives {
         let outputs = [*printed, *also_printed];
-        if !is_printed(alloc, *change, [*first, *further], outputs)? {
+        if !is_printed(alloc, family, *change, [*first, *further], outputs)? {
             return Err(Fail::from(*name));
         }
     }
@@ -335,7 +345,7 @@ fn are_printed(alloc: Global, lives: &[Life]) -> Result<(), Fail> {
 
 #[test]
 fn each_life_is_printed(rt: HostRuntime) -> Result<(), Fail> {
-    are_printed(rt.alloc(), &LIVES)
+    are_printed(rt.alloc(), IPV4, &LIVES)
 }
 
 #[test]
@@ -344,8 +354,13 @@ fn the_last_moment_is_lawful(rt: HostRuntime) -> Result<(), Fail> {
     let last = "at 1152921504606846975 ok frame OFFER\nat 1152921504606846975 ok frame ACK\n";
     let outputs = "1 handed frame DISCOVER\n1 state selecting\n1 handed frame REQUEST\n\
         2 state done LEASE 48 85 100 REST\n";
-    assert!(rt; is_printed(alloc, LAST_START, [last, ""], [outputs, ""])?);
-    let past = script(alloc, LAST_START, "at 1152921504606846976 ok frame OFFER\n")?;
+    assert!(rt; is_printed(alloc, IPV4, LAST_START, [last, ""], [outputs, ""])?);
+    let past = script(
+        alloc,
+        IPV4,
+        LAST_START,
+        "at 1152921504606846976 ok frame OFFER\n",
+    )?;
     assert_eq!(rt; run(alloc, &["run"], past.as_bytes(), [0, 0])?.0, 7);
     Ok(())
 }

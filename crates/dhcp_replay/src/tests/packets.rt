@@ -86,12 +86,65 @@ const PACKETS: [(&str, &str, &str, &str, &str); 19] = [
     ("ANOTHER_ACK", SERVER, "", FOREIGN, ACK),
 ];
 
+// Options of DHCPv6: the identifiers of the client and of the server; what a Solicit asks for; the
+// association with its address, with times and without; the codes that are asked for.
+const OPTIONS6: [(&str, &str); 7] = [
+    ("CLIENT_ID", "0001000a00030001020000000001"),
+    ("SERVER_ID", "0002000a00030001020000000002"),
+    ("NO_ADDRESS", "0003000c *12"),
+    ("NO_PREFIX", "00190029 *12 001a0019 *8 3c *16"),
+    (
+        "ADDRESS",
+        "00030028 *4 00000032 00000050 00050018 20010db8000000000000000000000010 00000064 000000c8",
+    ),
+    (
+        "ADDRESS_OF_NO_TIME",
+        "00030028 *12 00050018 20010db8000000000000000000000010 *8",
+    ),
+    ("CODES", "000600020017"),
+];
+
+// Messages of DHCPv6, each without its elapsed time: the type, the transaction id and the options.
+const MESSAGES6: [(&str, &str); 15] = [
+    ("SOLICIT6", "01abcdef CLIENT_ID NO_ADDRESS CODES"),
+    (
+        "SOLICIT6_OF_PREFIX",
+        "01abcdef CLIENT_ID CODES 000800020000 NO_PREFIX",
+    ),
+    ("SOLICIT6_AGAIN", "01000000 CLIENT_ID NO_ADDRESS CODES"),
+    ("ADVERTISE6", "02abcdef CLIENT_ID SERVER_ID ADDRESS"),
+    ("ADVERTISE6_TO_0", "02000000 CLIENT_ID SERVER_ID ADDRESS"),
+    ("REQUEST6", "03000000 CLIENT_ID SERVER_ID ADDRESS CODES"),
+    ("RENEW6", "05000000 CLIENT_ID SERVER_ID ADDRESS CODES"),
+    ("RENEW6_OF_7", "05000007 CLIENT_ID SERVER_ID ADDRESS CODES"),
+    ("REBIND6", "06000000 CLIENT_ID ADDRESS CODES"),
+    ("REBIND6_OF_8", "06000008 CLIENT_ID ADDRESS CODES"),
+    ("REPLY6", "07000000 CLIENT_ID SERVER_ID ADDRESS"),
+    (
+        "REPLY6_OF_NO_TIME",
+        "07000000 CLIENT_ID SERVER_ID ADDRESS_OF_NO_TIME",
+    ),
+    ("REPLY6_TO_7", "07000007 CLIENT_ID SERVER_ID ADDRESS"),
+    ("REPLY6_TO_8", "07000008 CLIENT_ID SERVER_ID ADDRESS"),
+    ("RELEASE6", "08000000 CLIENT_ID SERVER_ID ADDRESS"),
+];
+
 // Fields that are no packets: the addresses of the lease; what else its text has where the Ack says
-// nothing of it; the carrier from the client's address to the server's.
-const FIELDS: [(&str, &str); 3] = [
+// nothing of it; the carrier from the client's address to the server's. The same of an IPv6 lease: up to its
+// times, and what else its text has where the Reply was read, and in a lease of version 1.
+const FIELDS: [(&str, &str); 6] = [
     ("LEASE", "192.0.2.10 192.0.2.1 192.0.2.1"),
     ("REST", "0.0.0.0 none none none none none none none none"),
     ("UNICAST", "udp4 192.0.2.10 192.0.2.1"),
+    (
+        "LEASE6",
+        "na 0 20010db8000000000000000000000010 128 00030001020000000002",
+    ),
+    (
+        "REST6",
+        "0 00030001020000000001 00000000000000000000000000000000",
+    ),
+    ("NO_REST6", "0 - 00000000000000000000000000000000"),
 ];
 
 /// Adds a text to another, each of its words in capitals replaced by what it stands for.
@@ -128,6 +181,26 @@ fn push_word(text: &mut String, word: &str) -> Result<(), AllocError> {
             return text.push_str(field);
         }
     }
+    push_word6(text, word)
+}
+
+// Adds a DHCPv6 message, after whose name its elapsed time may stand behind a dot, in hex; or the
+// word itself.
+fn push_word6(text: &mut String, word: &str) -> Result<(), AllocError> {
+    let mut parts = word.split('.');
+    let first = parts.next().unwrap_or(word);
+    for (name, words) in &MESSAGES6 {
+        if *name == first {
+            push_hex(text, words)?;
+            return match parts.next() {
+                Some(elapsed) => {
+                    text.push_str("00080002")?;
+                    text.push_str(elapsed)
+                }
+                None => Ok(()),
+            };
+        }
+    }
     text.push_str(word)
 }
 
@@ -139,15 +212,27 @@ fn push_message(text: &mut String, front: &str, options: &str) -> Result<(), All
     push_hex(text, options)
 }
 
-// Adds hex whose words stand apart, with runs of zero bytes.
+// Adds hex whose words stand apart, with runs of zero bytes and options of DHCPv6.
 fn push_hex(text: &mut String, words: &str) -> Result<(), AllocError> {
     for word in words.split(' ') {
-        match word.strip_prefix('*') {
-            Some(count) => push_zeros(text, count.parse::<u32>().unwrap_or(0))?,
-            None => text.push_str(word)?,
+        for part in option6(word).split(' ') {
+            match part.strip_prefix('*') {
+                Some(count) => push_zeros(text, count.parse::<u32>().unwrap_or(0))?,
+                None => text.push_str(part)?,
+            }
         }
     }
     Ok(())
+}
+
+// The bytes of an option of DHCPv6, or the word itself.
+fn option6(word: &str) -> &str {
+    for (name, bytes) in &OPTIONS6 {
+        if *name == word {
+            return bytes;
+        }
+    }
+    word
 }
 
 // Adds so many zero bytes.

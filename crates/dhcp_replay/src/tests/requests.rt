@@ -1,6 +1,7 @@
 //! What is written for the words `upgrade` and `demo`.
 
-use super::lives::script_in;
+use super::lives::{IPV4, script_in};
+use super::lives6::IPV6;
 use super::statuses::run;
 use std::test::Fail;
 
@@ -11,13 +12,20 @@ const EVENT: &str = "at 0 ok none\n";
 fn an_upgrade_has_the_same_lines_in_version_2(rt: HostRuntime) -> Result<(), Fail> {
     let alloc = rt.alloc();
     let cases = [
-        ("lease", "LEASE 10 20 30", "LEASE 10 20 30 REST"),
-        ("lease", "LEASE 20 10 30", "LEASE 20 10 30 REST"),
-        ("iface", "0 020000000001 0 0", "0 020000000001 0 0"),
+        (IPV4, "lease", "LEASE 10 20 30", "LEASE 10 20 30 REST"),
+        (IPV4, "lease", "LEASE 20 10 30", "LEASE 20 10 30 REST"),
+        (IPV4, "iface", "0 020000000001 0 0", "0 020000000001 0 0"),
+        (
+            IPV6,
+            "lease",
+            "LEASE6 50 80 100 200",
+            "LEASE6 50 80 100 200 NO_REST6",
+        ),
+        (IPV6, "duid", "ff", "ff"),
     ];
-    for (tag, old_fields, new_fields) in cases {
-        let old = script_in(alloc, 1, (tag, old_fields), EVENT)?;
-        let new = script_in(alloc, 2, (tag, new_fields), EVENT)?;
+    for (family, tag, old_fields, new_fields) in cases {
+        let old = script_in(alloc, family, 1, (tag, old_fields), EVENT)?;
+        let new = script_in(alloc, family, 2, (tag, new_fields), EVENT)?;
         let (status, taken) = run(alloc, &["upgrade"], old.as_bytes(), [0, 0])?;
         assert_eq!(rt;
             (status, taken.as_slice()),
@@ -31,10 +39,12 @@ fn an_upgrade_has_the_same_lines_in_version_2(rt: HostRuntime) -> Result<(), Fai
 #[test]
 fn each_version_has_its_word(rt: HostRuntime) -> Result<(), Fail> {
     let alloc = rt.alloc();
-    for (version, word) in [(1, "run"), (2, "upgrade")] {
-        let text = script_in(alloc, version, ("", ""), EVENT)?;
-        let (status, taken) = run(alloc, &[word], text.as_bytes(), [0, 0])?;
-        assert_eq!(rt; (status, taken.len()), (2, 0), "{word}");
+    for family in [IPV4, IPV6] {
+        for (version, word) in [(1, "run"), (2, "upgrade")] {
+            let text = script_in(alloc, family, version, ("", ""), EVENT)?;
+            let (status, taken) = run(alloc, &[word], text.as_bytes(), [0, 0])?;
+            assert_eq!(rt; (status, taken.len()), (2, 0), "{word}");
+        }
     }
     Ok(())
 }

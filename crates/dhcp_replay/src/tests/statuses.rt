@@ -1,6 +1,7 @@
 //! Each exit status by its cause.
 
-use super::lives::script;
+use super::lives::{IPV4, script};
+use super::lives6::IPV6;
 use crate::{MemSink, MemSource, replay_tool};
 use std::alloc::Global;
 use std::test::Fail;
@@ -34,7 +35,7 @@ pub(super) fn run(
 #[test]
 fn other_words_are_wrong(rt: HostRuntime) -> Result<(), Fail> {
     let alloc = rt.alloc();
-    let text = script(alloc, ("", ""), LEASED)?;
+    let text = script(alloc, IPV4, ("", ""), LEASED)?;
     let cases: [&[&str]; 13] = [
         &[],
         &["run", "x"],
@@ -64,7 +65,6 @@ fn texts_are_no_script_or_not_valid(rt: HostRuntime) -> Result<(), Fail> {
     let packet = format!(in alloc; "at 0 ok frame {}\n", repeated(alloc, "00", 1501)?)?;
     let events = repeated(alloc, "at 0 ok none\n", 20_001)?;
     let cases = [
-        ("no text", "", "", "", 2),
         (
             "a MAC in upper case",
             "iface",
@@ -106,15 +106,60 @@ fn texts_are_no_script_or_not_valid(rt: HostRuntime) -> Result<(), Fail> {
         ),
     ];
     for (name, tag, fields, events, expected) in cases {
-        let text = script(alloc, (tag, fields), events)?;
-        let input = if expected == 2 && tag.is_empty() {
-            ""
-        } else {
-            text.as_str()
-        };
-        let (status, taken) = run(alloc, &["run"], input.as_bytes(), [0, 0])?;
+        let text = script(alloc, IPV4, (tag, fields), events)?;
+        let (status, taken) = run(alloc, &["run"], text.as_bytes(), [0, 0])?;
         assert_eq!(rt; (status, taken.len()), (expected, 0), "{name}");
     }
+    Ok(())
+}
+
+#[test]
+fn texts_of_ipv6_are_no_script_or_not_valid(rt: HostRuntime) -> Result<(), Fail> {
+    let alloc = rt.alloc();
+    let codes = repeated(alloc, "0017", 1001)?;
+    let cases = [
+        (
+            "a MAC in upper case",
+            "iface",
+            "1 fe800000000000000000000000000001 02000000000A na 0",
+            2,
+        ),
+        ("an IPv4 interface", "iface", "1 020000000001 0 0", 2),
+        ("an IPv4 lease", "lease", "LEASE 10 20 30 REST", 2),
+        ("a lease of version 1", "lease", "LEASE6 50 80 100 200", 2),
+        (
+            "index 0",
+            "iface",
+            "0 fe800000000000000000000000000001 - na 0",
+            7,
+        ),
+        (
+            "an address of zero",
+            "iface",
+            "1 00000000000000000000000000000000 - na 0",
+            7,
+        ),
+        ("an identifier of one byte", "duid", "ff", 7),
+        ("1,001 codes", "codes", codes.as_str(), 7),
+        (
+            "a lease that ends before T2",
+            "lease",
+            "LEASE6 50 80 70 70 REST6",
+            7,
+        ),
+        (
+            "a lease that is preferred past its end",
+            "lease",
+            "LEASE6 50 80 201 200 REST6",
+            7,
+        ),
+    ];
+    for (name, tag, fields, expected) in cases {
+        let text = script(alloc, IPV6, (tag, fields), "at 0 ok none\n")?;
+        let (status, taken) = run(alloc, &["run"], text.as_bytes(), [0, 0])?;
+        assert_eq!(rt; (status, taken.len()), (expected, 0), "{name}");
+    }
+    assert_eq!(rt; run(alloc, &["run"], b"", [0, 0])?.0, 2);
     Ok(())
 }
 
@@ -141,7 +186,7 @@ fn more_than_the_limit_is_too_long(rt: HostRuntime) -> Result<(), Fail> {
 #[test]
 fn each_failing_read_and_write_has_its_status(rt: HostRuntime) -> Result<(), Fail> {
     let alloc = rt.alloc();
-    let text = script(alloc, ("", ""), LEASED)?;
+    let text = script(alloc, IPV4, ("", ""), LEASED)?;
     let (_, whole) = run(alloc, &["run"], text.as_bytes(), [0, 0])?;
     for number in 1..4u32 {
         let (status, taken) = run(alloc, &["run"], text.as_bytes(), [number, 0])?;
