@@ -14,7 +14,7 @@ use Rattle.dhcp_history.specs.declared.script.Event.{Event as LifeEvent}
 use Rattle.dhcp_history.specs.declared.script.Input.{Input}
 use Rattle.dhcp_script.specs.Event.{are_in_order, are_valid, is_within_limits, moment_limit, most_events, most_packet_bytes, packet_of}
 use Rattle.dhcp_script.specs.declared.event.Event.{Event}
-use Rattle.dhcp_replay.specs.Replayed4.{IsRefusal, input_of, numbered, numbered_event}
+use Rattle.dhcp_replay.specs.Life.{IsRefusal, input_of, numbered, numbered_event}
 
 numbered-append : (n : ℕ) (events : List Event) (event : Event) → numbered n (events ++ event ∷ []) ≡ numbered n events ++ numbered_event (n + length events) event ∷ []
 numbered-append n [] event = ap (λ m. numbered_event m event ∷ []) (omega arith)
@@ -52,6 +52,7 @@ numbered_below n (event ∷ events) all =
 
 -- the parts of the test of events
 record AreValid (start : ℕ) (events : List Event) : Type 0 where
+  begins : nat_lt start moment_limit ≡ true
   few : nat_le (length events) most_events ≡ true
   within : list_all is_within_limits events ≡ true
 
@@ -60,10 +61,12 @@ unfolding are_valid
 valid_parts start events valid =
     let most = and_parts (nat_lt start moment_limit && nat_le (length events) most_events && list_all is_within_limits events) (are_in_order start events) valid in
     let both = and_parts (nat_lt start moment_limit && nat_le (length events) most_events) (list_all is_within_limits events) most.0 in
-    record {
-      few = (and_parts (nat_lt start moment_limit) (nat_le (length events) most_events) both.0).1;
-      within = both.1;
-    }
+    let first = and_parts (nat_lt start moment_limit) (nat_le (length events) most_events) both.0 in
+    record { begins = first.0; few = first.1; within = both.1 }
+
+-- a valid start is below 2^60
+pub start_below : (start : ℕ) (events : List Event) → are_valid start events ≡ true → start < 2 ^ 60
+start_below start events valid = ltb-true start moment_limit (valid_parts start events valid).begins
 
 -- valid events are few
 pub few_events : (start : ℕ) (events : List Event) → are_valid start events ≡ true → length events ≤ 20000

@@ -6,4 +6,5 @@ pub mod Replayed
 pub mod Replayed4
 pub mod Replayed6
 pub mod Request
+pub mod Settles
 pub mod Tool

@@ -1,17 +1,11 @@
--- What the lives of the clients of both families share: the events that come to a client, what is
--- reported of it, and what is promised of its polls and of its messages.
-use Rattle.std.specs.Prelude.{◌≡◌, ◌⊎◌, ℕ, suc, ◌≤◌, Bool, true, false, List, [], ◌∷◌, All}
+-- What the lives of the clients of both families share: the events that come to a client, and what
+-- is reported of it.
+use Rattle.std.specs.Prelude.{◌≡◌, ℕ, suc, Bool, true, false, List, [], ◌∷◌}
 use Rattle.dhcp_wire.specs.Error.{ErrorParts, no_memory}
 use Rattle.dhcp_wire.specs.declared.error.ErrorKind.TheVariants.{Timeout, IoError, InvalidArgument}
 use Rattle.dhcp_clock.specs.declared.link.Handed.{Handed}
 use Rattle.dhcp_clock.specs.declared.link.Packet.{Packet}
 use Rattle.dhcp_clock.specs.declared.link.PacketKind.TheVariants as carriers
-use Rattle.dhcp_history.specs.Bounds.{attempts_of, count_of, is_change, poll_count, IsWithinState}
-use Rattle.dhcp_history.specs.EventLoop.{call_at, event_at}
-use Rattle.dhcp_history.specs.History.{Stay}
-use Rattle.dhcp_history.specs.Machine.{View, polls}
-use Rattle.dhcp_history.specs.Protocol.{Protocol}
-use Rattle.dhcp_history.specs.Script.{after_call}
 use Rattle.dhcp_history.specs.declared.script.Event.{Event as LifeEvent}
 use Rattle.dhcp_history.specs.declared.script.Failure.TheVariants as failures
 use Rattle.dhcp_history.specs.declared.script.Input.{Input}
@@ -67,29 +61,3 @@ abbrev pub output_of : {State : Type 0} → (State → PlainReport) → LifeOutp
     PlainOutput
 output_of changed output =
     record { event = output.event; report = report_of changed output.report }
-
--- 3. What is promised.
-
-module _ {PublicState State Exchange Answer Lease : Type 0}
-    (p : Protocol PublicState Packet Handed State Exchange Answer Lease) where
-  -- At an event, after its call, the client is polled at most seven times, and changes its state at
-  -- most six times. After the polls a client without a kept error is in no state whose end has
-  -- come.
-  pub record SettlesAt (event : LifeEvent Packet) (client : View State Exchange) : Type 0 where
-    pub seven_polls : (fuel : ℕ) → poll_count p fuel event client ≤ 7
-    pub six_changes : (fuel : ℕ) → count_of is_change (polls p fuel event client).outputs ≤ 6
-    pub not_overdue : IsWithinState p event.moment (polls p 7 event client).view
-
-  -- and so at each of these events
-  abbrev pub SettlesAtEach : View State Exchange → List (LifeEvent Packet) → Type 0
-  SettlesAtEach client [] = Unit {0}
-  SettlesAtEach client (event ∷ events) =
-      SettlesAt (after_call event) (call_at p event client).view
-      × SettlesAtEach (event_at p event client).view events
-
--- the messages of a stay are those of its state, which has a basis
-pub record NamesItsBasis {State : Type 0} (HasBasis : State → Type 0)
-    (IsMessageOf : State → Handed → Type 0) (stay : Stay State Handed) : Type 0 where
-  pub basis : HasBasis stay.setting.state
-  pub messages : All (λ attempt. IsMessageOf stay.setting.state attempt.message)
-      (attempts_of stay.acts)

@@ -22,8 +22,9 @@ use Rattle.dhcp_script.specs.Lease4.{lease_with}
 use Rattle.dhcp_script.specs.Script4.{config_of}
 use Rattle.dhcp_script.specs.declared.event.Event.{Event}
 use Rattle.dhcp_script.specs.declared.script4.Script4.{Script4}
-use Rattle.dhcp_replay.specs.Life.{numbered, NamesItsBasis, SettlesAtEach}
+use Rattle.dhcp_replay.specs.Life.{numbered}
 use Rattle.dhcp_replay.specs.Replayed4.{history4, life_of}
+use Rattle.dhcp_replay.specs.Settles.{NamesItsBasis, SettlesAtEach}
 
 -- The lease is read from a packet that comes in at one of these events, as the answer that is
 -- awaited to a transaction id.

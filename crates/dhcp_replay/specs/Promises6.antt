@@ -4,8 +4,9 @@ use Rattle.std.specs.List.{Contains}
 use Rattle.dhcp_clock.specs.declared.link.Handed.{Handed}
 use Rattle.dhcp_clock.specs.declared.link.Packet.{Packet}
 use Rattle.dhcp_history.specs.Bounds.{allowed, count_of, is_send_at}
-use Rattle.dhcp_history.specs.History.{outputs}
+use Rattle.dhcp_history.specs.History.{history, outputs}
 use Rattle.dhcp_history.specs.Machine.{first_view}
+use Rattle.dhcp_history.specs.Script.{Script}
 use Rattle.dhcp_history.specs.declared.script.Event.{Event as LifeEvent}
 use Rattle.dhcp_history.specs.declared.script.Input.TheVariants as inputs
 use Rattle.dhcp6_msg.specs.Config.{Config}
@@ -16,12 +17,13 @@ use Rattle.dhcp6_client.specs.Message.{attempt_message}
 use Rattle.dhcp6_client.specs.Rules.{protocol}
 use Rattle.dhcp6_client.specs.declared.client_state.ClientState.{ClientState}
 use Rattle.dhcp6_client.specs.declared.client_state.ClientState.TheVariants.{Solicit, Request, Done, Temporary, Renew, Rebind}
+use Rattle.dhcp6_client.specs.declared.client_state.Exchange.{Exchange}
 use Rattle.dhcp_script.specs.Lease6.{lease_with}
 use Rattle.dhcp_script.specs.Script6.{config_of}
 use Rattle.dhcp_script.specs.declared.event.Event.{Event}
 use Rattle.dhcp_script.specs.declared.script6.Script6.{Script6}
-use Rattle.dhcp_replay.specs.Life.{numbered, NamesItsBasis, SettlesAtEach}
-use Rattle.dhcp_replay.specs.Replayed6.{config_in, history6, life_of}
+use Rattle.dhcp_replay.specs.Replayed6.{config_in, life_of}
+use Rattle.dhcp_replay.specs.Settles.{NamesItsBasis, SettlesAtEach}
 
 -- the lease is read from a packet that comes in at one of these events, as the answer that a state
 -- awaits to a transaction id
@@ -55,26 +57,30 @@ pub record IsMessageOf (config : Config) (state : ClientState) (message : Handed
   pub is : message ≡ attempt_message xid config elapsed iaid state
 
 -- What is promised of a client with this configuration, and with a lease that it held before or
--- none, from this start on, over these words and events. A message counts if the link took it.
-pub record KeepsPromises (config : Config) (lease : Option Lease) (start : ℕ) (words : List ℕ)
-    (events : List Event) : Type 0 where
+-- none, over this life. A message counts if the link took it.
+pub record KeepsPromisesOver (config : Config) (lease : Option Lease)
+    (life : Script Packet ClientState Exchange) : Type 0 where
   -- an offer is requested at most eleven times in a stay
-  pub eleven_requests : All HasElevenRequests (history6 config lease start words events)
+  pub eleven_requests : All HasElevenRequests (history (protocol config) life)
   -- the messages of a stay are 0.9 seconds apart, those in Renew and in Rebind nine seconds
-  pub messages_far_apart : All AreFarApart (history6 config lease start words events)
+  pub messages_far_apart : All AreFarApart (history (protocol config) life)
   -- an event has at most two messages, and one more where it asks for a release
   pub two_messages : (number : ℕ) → count_of (is_send_at number)
-      (outputs (protocol (config_in config words)) (history6 config lease start words events))
-      ≤ allowed number (numbered 1 events)
+      (outputs (protocol config) (history (protocol config) life)) ≤ allowed number life.events
   -- each message names the offer or the lease of its state
   pub names_its_basis :
-      All (NamesItsBasis (HasBasis lease (numbered 1 events))
-      (IsMessageOf (config_in config words))) (history6 config lease start words events)
+      All (NamesItsBasis (HasBasis lease life.events) (IsMessageOf config))
+      (history (protocol config) life)
   -- Each event has its few polls. After them a client without a kept error does not hold a lease at
   -- or past its T1, or its end if it is of temporary addresses, is not in Renew at or past T2, and
   -- not in Rebind at or past the end of its lease.
-  pub settles : SettlesAtEach (protocol (config_in config words))
-      (first_view (life_of config lease start words events)) (numbered 1 events)
+  pub settles : SettlesAtEach (protocol config) (first_view life) life.events
+
+-- the same of a client that begins with this configuration and this lease at this start, over these
+-- words and events
+abbrev pub KeepsPromises : Config → Option Lease → ℕ → List ℕ → List Event → Type 0
+KeepsPromises config lease start words events =
+    KeepsPromisesOver (config_in config words) lease (life_of config lease start words events)
 
 -- what is promised of the client of a script
 abbrev pub KeepsPromisesOfV6 : Script6 → Type 0

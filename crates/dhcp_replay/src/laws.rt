@@ -1,14 +1,14 @@
 //! What is promised of every client, over every script. A law is the clause of a function that does
 //! nothing.
 
-ghost use Rattle.std.specs.Prelude.{◌≡◌, ℕ, List, Option};
+ghost use Rattle.std.specs.Prelude.{ℕ, List, Option};
 ghost use Rattle.dhcp4_lease.specs.Lease.{Lease};
 ghost use Rattle.dhcp6_msg.specs.Config as configs6;
 ghost use Rattle.dhcp6_msg.specs.Lease as leases6;
 ghost use Rattle.dhcp_script.specs.declared.event.Event.{Event};
 ghost use Rattle.dhcp_replay.specs.Promises4.{KeepsPromises};
-ghost use Rattle.dhcp_replay.specs.Promises6 as promises6;
-ghost use Rattle.dhcp_replay.specs.Replayed6.{config_in};
+ghost use Rattle.dhcp_replay.specs.Promises6.{KeepsPromisesOver};
+ghost use Rattle.dhcp_replay.specs.Replayed6.{life_of};
 
 use dhcp4_client::{DhcpV4Client, laws};
 use dhcp6_client::{DhcpV6Client, laws as laws6};
@@ -28,14 +28,14 @@ pub fn promises_are_kept(client: &DhcpV4Client)
     laws::no_state_is_overdue(client);
 }
 
-/// Over all words and events with which a client of IPv6 has its configuration, and with whatever
-/// lease it begins, an offer is requested at most eleven times, its messages are far apart and few
-/// at an event, each names the offer or the lease of its state, and after the polls of an event it
-/// is in no state whose end has come.
+/// Over all words and events, and with whatever configuration and lease it begins, a client of IPv6
+/// requests an offer at most eleven times, its messages are far apart and few at an event, each
+/// names the offer or the lease of its state, and after the polls of an event it is in no state
+/// whose end has come.
 pub fn promises6_are_kept(client: &DhcpV6Client)
-    ensures { (config : configs6.Config) (lease : Option leases6.Lease) (start : ℕ)
-        (words : List ℕ) (events : List Event) → client.now.config ≡ config_in config words →
-        promises6.KeepsPromises config lease start words events }
+    ensures { (given : configs6.Config) (lease : Option leases6.Lease) (start : ℕ)
+        (words : List ℕ) (events : List Event) →
+        KeepsPromisesOver client.now.config lease (life_of given lease start words events) }
 {
     laws6::table_is_lawful();
     laws6::eleven_requests_of_an_offer(client);

@@ -3,9 +3,10 @@ use Rattle.std.proofs.Common.{refl}
 use Rattle.dhcp_history.proofs.Messages.{history_sends}
 use Rattle.dhcp_history.specs.Machine.{first_view}
 use Rattle.dhcp4_client.specs.Rules.{protocol}
-use Rattle.dhcp_replay.specs.Replayed4.{life_of, numbered}
-use Rattle.dhcp_replay.proofs.BasisLemmas.{names_its_basis}
-use Rattle.dhcp_replay.proofs.PromiseLemmas.{settles_at_each}
+use Rattle.dhcp_replay.specs.Life.{numbered}
+use Rattle.dhcp_replay.specs.Replayed4.{life_of}
+use Rattle.dhcp_replay.proofs.Basis4Lemmas.{names_its_basis}
+use Rattle.dhcp_replay.proofs.SettlesLemmas.{settles_at_each}
 use Rattle.dhcp_replay.proofs.laws.promises_are_kept.Goals as goal
 
 pub returns : goal.returns
@@ -15,5 +16,5 @@ returns c = λ lease words events. record {
   four_requests = c.four_requests_of_a_lease.ensures (life_of c.args.client.now.config lease words events);
   two_messages = history_sends (protocol c.args.client.now.config) (c.table_is_lawful.ensures c.args.client.now.config) (life_of c.args.client.now.config lease words events);
   names_its_basis = names_its_basis c.args.client.now.config lease words events;
-  settles = settles_at_each c.args.client.now.config c.seven_polls_an_event.ensures.polls c.seven_polls_an_event.ensures.changes c.no_state_is_overdue.ensures (first_view (life_of c.args.client.now.config lease words events)) (numbered 1 events);
+  settles = settles_at_each (protocol c.args.client.now.config) c.seven_polls_an_event.ensures.polls c.seven_polls_an_event.ensures.changes c.no_state_is_overdue.ensures (first_view (life_of c.args.client.now.config lease words events)) (numbered 1 events);
 }

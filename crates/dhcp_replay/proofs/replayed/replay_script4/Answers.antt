@@ -1,6 +1,6 @@
 -- A valid script can be played.
 use Rattle.std.proofs.Common.{◌∙◌, sym}
-use Rattle.dhcp_replay.proofs.ValidLemmas.{host_utf8, played_refusal}
+use Rattle.dhcp_replay.proofs.Valid4Lemmas.{host_utf8, played_refusal}
 use Rattle.dhcp_replay.proofs.replayed.replay_script4.Goals as goal
 
 pub config-requires : goal.config-requires

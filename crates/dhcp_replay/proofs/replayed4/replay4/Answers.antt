@@ -2,8 +2,9 @@
 use Rattle.std.proofs.Common.{◌∙◌, sym}
 use Rattle.std.specs.Prelude.{map}
 use Rattle.dhcp_script.specs.Output.{plain_output}
-use Rattle.dhcp_replay.proofs.LifeLemmas.{life_client, life_outputs, life_promises}
+use Rattle.dhcp_replay.proofs.Life4Lemmas.{client4, promises4, reported4}
 use Rattle.dhcp_replay.proofs.ReplayLemmas.{few_events, moments_below}
+use Rattle.dhcp_replay.proofs.TextLemmas.{texts4}
 use Rattle.dhcp_replay.proofs.replayed4.replay4.Goals as goal
 
 pub numbered-requires : goal.numbered-requires
@@ -14,13 +15,17 @@ replay-requires g c = moments_below c.args.start c.args.events.now c.in_ok-numbe
 
 pub returns-clause-outputs : goal.returns-clause-outputs
 returns-clause-outputs g c =
-    life_outputs (g.W.Words.left c.args.words.now) (g.W.Words.left c.init.new.words) c.args.config c.args.lease c.in_ok-client.client c.args.events.now c.in_ok-numbered.field-0.items c.in_ok-reported.reported.items
-    (map plain_output c.in_ok-outputs_of.field-0) c.in_ok-client.ensures.drawn c.in_ok-client.ensures.begun c.in_ok-numbered.ensures c.in_ok-reported.ensures.history c.in_ok-outputs_of.ensures.outputs
+    reported4 c.args.config c.args.lease c.args.events.now c.in_ok-client.client (g.W.Words.left c.args.words.now) (g.W.Words.left c.init.new.words) c.in_ok-client.ensures.drawn c.in_ok-client.ensures.begun
+    c.in_ok-numbered.field-0.items c.in_ok-reported.reported.items c.in_ok-numbered.ensures (map plain_output c.in_ok-outputs_of.field-0) c.in_ok-reported.ensures.history c.in_ok-outputs_of.ensures
 
 pub returns-clause-client : goal.returns-clause-client
 returns-clause-client g c =
-    life_client (g.W.Words.left c.args.words.now) (g.W.Words.left c.init.new.words) (g.W.Words.left c.replay.new.words) c.args.config c.args.lease c.in_ok-client.client c.replay.new.self c.args.events.now c.in_ok-numbered.field-0.items c.in_ok-reported.reported.items
-    c.in_ok-client.ensures.drawn c.in_ok-client.ensures.begun c.in_ok-numbered.ensures c.in_ok-reported.ensures.reported c.in_ok-reported.ensures.config
+    client4 c.args.config c.args.lease c.args.events.now c.in_ok-client.client (g.W.Words.left c.args.words.now) (g.W.Words.left c.init.new.words) c.in_ok-client.ensures.drawn c.in_ok-client.ensures.begun
+    c.in_ok-numbered.field-0.items c.in_ok-reported.reported.items c.in_ok-numbered.ensures c.replay.new.self (g.W.Words.left c.replay.new.words) c.in_ok-reported.ensures.reported c.in_ok-reported.ensures.config
+
+pub returns-clause-failures : goal.returns-clause-failures
+returns-clause-failures g c = texts4 c.in_ok-outputs_of.field-0 c.in_ok-reported.reported.items c.in_ok-outputs_of.ensures
 
 pub returns-clause-promises : goal.returns-clause-promises
-returns-clause-promises g c = life_promises (g.W.Words.left c.args.words.now) c.args.config c.args.lease c.in_ok-client.client c.args.events.now c.in_ok-client.ensures.begun c.promises_are_kept.ensures
+returns-clause-promises g c =
+    promises4 c.args.config c.args.lease c.args.events.now c.in_ok-client.client (g.W.Words.left c.args.words.now) (g.W.Words.left c.init.new.words) c.in_ok-client.ensures.drawn c.in_ok-client.ensures.begun c.promises_are_kept.ensures

@@ -1,12 +1,9 @@
--- The client of a valid script can begin.
+-- The client of a valid IPv4 script can begin.
 use Rattle.std.proofs.Common.{◌≡◌, ℕ, suc, ◌+◌, ◌≤◌, Bool, true, List, [], ◌∷◌, length, Option, Some, None, refl, subst, sym, ap, ◌∙◌, arith}
-use Rattle.std.specs.Prelude.{◌&&◌, ◌==◌, nat_le, not, fold, option_map, IfErr, Result}
-use Rattle.std.specs.BTreeSet.{insert_key}
+use Rattle.std.specs.Prelude.{◌&&◌, ◌==◌, nat_le, not, option_map, IfErr, Result}
 use Rattle.std.specs.List.{list_any}
 use Rattle.std.specs.Option.{option_map_or}
-use Rattle.std.specs.Ordering.{match_ordering, nat_cmp}
 use Rattle.std.specs.Str.{IsUtf8, is_utf8}
-use Rattle.std.specs.declared.cmp.Ordering.TheVariants.{Less, Equal, Greater}
 use Rattle.std.proofs.lemmas.Bool.{and_from, and_parts, le-leb, leb-true}
 use Rattle.std.proofs.lemmas.List.{length-map}
 use Rattle.std.proofs.lemmas.Str.{IsUtf8-from_is_utf8}
@@ -21,19 +18,11 @@ use Rattle.dhcp_script.specs.Script4.{are_few, config_of, is_host_name, is_in_or
 use Rattle.dhcp_script.specs.declared.event.Event.{Event}
 use Rattle.dhcp_script.specs.declared.lease4.Lease4.{Lease4}
 use Rattle.dhcp_script.specs.declared.script4.Script4.{Script4}
-use Rattle.dhcp_replay.specs.Replayed4.{IsRefusal, can_replay}
+use Rattle.dhcp_replay.specs.Life.{IsRefusal}
+use Rattle.dhcp_replay.specs.Replayed4.{can_replay}
+use Rattle.dhcp_replay.proofs.RisingLemmas.{rising_from}
 
--- numbers in rising order are no more than they were
-inserted : (keys : List ℕ) (k : ℕ) → length (insert_key nat_cmp keys k) ≤ suc (length keys)
-inserted [] k = omega arith
-inserted (x ∷ keys) k =
-    elim (nat_cmp k x) as (λ order. length (match_ordering order (k ∷ x ∷ keys) (x ∷ keys) (x ∷ insert_key nat_cmp keys k)) ≤ suc (length (x ∷ keys)))
-    [ Less ↦ omega arith | Equal ↦ omega arith | Greater ↦ omega (arith, inserted keys k) ]
-
-rising_from : (numbers keys : List ℕ) → length (fold (insert_key nat_cmp) keys numbers) ≤ length keys + length numbers
-rising_from [] keys = omega arith
-rising_from (number ∷ numbers) keys = omega (arith, rising_from numbers (insert_key nat_cmp keys number), inserted keys number)
-
+-- codes in rising order are no more than were listed
 rising_few : (numbers : List ℕ) → length (rising_codes numbers) ≤ length numbers
 unfolding rising_codes
 rising_few numbers = rw (length-map (rising numbers) code_of) (omega (arith, rising_from numbers []))

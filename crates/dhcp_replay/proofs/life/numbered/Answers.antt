@@ -1,7 +1,7 @@
 -- One event more is made.
 use Rattle.std.proofs.Common.{arith}
 use Rattle.dhcp_replay.proofs.ReplayLemmas.{numbered_push}
-use Rattle.dhcp_replay.proofs.replayed4.numbered.Goals as goal
+use Rattle.dhcp_replay.proofs.life.numbered.Goals as goal
 
 pub loop-event-preserved : goal.loop-event-preserved
 loop-event-preserved c = record {

@@ -1,6 +1,6 @@
 use Rattle.std.proofs.Common.{◌≡◌, ◌+◌, take}
-use Rattle.dhcp_replay.specs.Replayed4.{numbered}
-use Rattle.dhcp_replay.proofs.replayed4.numbered.Given as goal
+use Rattle.dhcp_replay.specs.Life.{numbered}
+use Rattle.dhcp_replay.proofs.life.numbered.Given as goal
 
 -- the events so far are made, and the number of the next one
 abbrev pub invariant-loop-event : goal.invariant-loop-event

@@ -1,15 +1,10 @@
 -- Each message of an IPv4 client names the offer or the lease of its state.
-use Rattle.std.proofs.Common.{◌≡◌, ℕ, List, [], ◌∷◌, Option, Some, None, refl, sym, ap, ◌∙◌}
-use Rattle.std.specs.Prelude.{map, All}
-use Rattle.std.specs.List.{AllByRecursion, Contains}
-use Rattle.std.proofs.lemmas.List.Elements.{All-contains_itself, All-from_recursion, recursion_from_All}
+use Rattle.std.proofs.Common.{◌≡◌, ℕ, List, Option, Some, None, refl, sym, ap, ◌∙◌}
+use Rattle.std.specs.Prelude.{All}
 use Rattle.dhcp_clock.specs.Words.{next_of}
 use Rattle.dhcp_clock.specs.declared.link.Handed.{Handed}
 use Rattle.dhcp_clock.specs.declared.link.Packet.{Packet}
-use Rattle.dhcp_history.specs.History.{Stay}
 use Rattle.dhcp_history.specs.declared.script.Event.{Event as LifeEvent}
-use Rattle.dhcp_history.specs.declared.script.Input.{Input}
-use Rattle.dhcp_history.specs.declared.script.Input.TheVariants as inputs
 use Rattle.dhcp_history.proofs.HistoryLemmas as kept
 use Rattle.dhcp4_lease.specs.Config.{Config}
 use Rattle.dhcp4_lease.specs.Lease.{Lease}
@@ -23,13 +18,13 @@ use Rattle.dhcp4_client.specs.declared.client_state.ClientState.{ClientState}
 use Rattle.dhcp4_client.specs.declared.client_state.ClientState.TheVariants.{InitReboot, Selecting, Rebooting, Done, Renewing, Rebinding}
 use Rattle.dhcp4_client.specs.declared.client_state.Exchange.{Exchange}
 use Rattle.dhcp_script.specs.declared.event.Event.{Event}
-use Rattle.dhcp_replay.specs.Promises.{HasBasis, IsReadFrom, NamesItsBasis}
-use Rattle.dhcp_replay.specs.Replayed4.{history4, life_of, numbered}
+use Rattle.dhcp_replay.specs.Life.{numbered}
+use Rattle.dhcp_replay.specs.Promises4.{HasBasis, IsMessageOf, IsReadFrom}
+use Rattle.dhcp_replay.specs.Replayed4.{history4, life_of}
+use Rattle.dhcp_replay.specs.Settles.{NamesItsBasis}
+use Rattle.dhcp_replay.proofs.SettlesLemmas.{Comes, stays_named}
 
 module _ (config : Config) (before : Option Lease) (events : List (LifeEvent Packet)) (xid : ℕ) where
-  abbrev Comes : Packet → Type 0
-  Comes packet = Contains (map (λ (event : LifeEvent Packet). event.input) events) (inputs.Arrival packet)
-
   abbrev Good : Exchange → Type 0
   Good exchange = exchange.xid ≡ xid
 
@@ -38,15 +33,15 @@ module _ (config : Config) (before : Option Lease) (events : List (LifeEvent Pac
   Read Refused = Unit {0}
 
   abbrev Fits : ClientState → Handed → Type 0
-  Fits state message = message ≡ attempt_message xid config state
+  Fits = IsMessageOf config xid
 
   abbrev Held : ClientState → Type 0
   Held state = HasBasis before events xid state
 
-  reads : (state : ClientState) (exchange : Exchange) (packet : Packet) (words : List ℕ) → Good exchange → Comes packet → kept.ReadIf (protocol config) Good Held Read Comes Fits (reading state exchange packet words).value
+  reads : (state : ClientState) (exchange : Exchange) (packet : Packet) (words : List ℕ) → Good exchange → Comes events packet → kept.ReadIf (protocol config) Good Held Read (Comes events) Fits (reading state exchange packet words).value
   reads state exchange packet words good comes = go (reading state exchange packet words).value refl
     where
-      go : (answer : Option Answer) → (reading state exchange packet words).value ≡ answer → kept.ReadIf (protocol config) Good Held Read Comes Fits answer
+      go : (answer : Option Answer) → (reading state exchange packet words).value ≡ answer → kept.ReadIf (protocol config) Good Held Read (Comes events) Fits answer
       go None is = tt
       go (Some Refused) is = tt
       go (Some (Granted lease)) is = record {
@@ -91,7 +86,7 @@ module _ (config : Config) (before : Option Lease) (events : List (LifeEvent Pac
   ended_good (Renewing bound) exchange good = good
   ended_good (Rebinding bound) exchange good = good
 
-  keeps : kept.Keeps (protocol config) Good Held Read Comes Fits
+  keeps : kept.Keeps (protocol config) Good Held Read (Comes events) Fits
   keeps = record {
     waited = λ exchange good. good;
     attempted = λ state exchange start words good. good;
@@ -105,17 +100,6 @@ module _ (config : Config) (before : Option Lease) (events : List (LifeEvent Pac
     ended_good = ended_good;
   }
 
-  -- the packets of the events come in at them
-  comes_in : (input : Input Packet) → Contains (map (λ (event : LifeEvent Packet). event.input) events) input → kept.ComesIn (protocol config) Good Held Read Comes Fits input
-  comes_in (inputs.Arrival packet) h = h
-  comes_in inputs.Nothing h = tt
-  comes_in inputs.Release h = tt
-  comes_in inputs.CleanUp h = tt
-
-  all_come : (later : List (LifeEvent Packet)) → AllByRecursion (Contains (map (λ (event : LifeEvent Packet). event.input) events)) (map (λ (event : LifeEvent Packet). event.input) later) → kept.AllCome (protocol config) Good Held Read Comes Fits later
-  all_come [] h = tt
-  all_come (event ∷ later) h = (comes_in event.input h.0, all_come later h.1)
-
   first_held : Held (first_state before)
   first_held = go before refl
     where
@@ -123,14 +107,9 @@ module _ (config : Config) (before : Option Lease) (events : List (LifeEvent Pac
       go None is = tt
       go (Some lease) is = is
 
-  all_named : (stays : List (Stay ClientState Handed)) → AllByRecursion (kept.HoldsIn (protocol config) Good Held Read Comes Fits keeps) stays → AllByRecursion (NamesItsBasis config before events xid) stays
-  all_named [] h = tt
-  all_named (stay ∷ stays) h = (record { basis = h.0.held; messages = h.0.messages }, all_named stays h.1)
-
-pub names_its_basis : (config : Config) (lease : Option Lease) (words : List ℕ) (events : List Event) → All (NamesItsBasis config lease (numbered 1 events) (next_of words)) (history4 config lease words events)
+pub names_its_basis : (config : Config) (lease : Option Lease) (words : List ℕ) (events : List Event) → All (NamesItsBasis (HasBasis lease (numbered 1 events) (next_of words)) (IsMessageOf config (next_of words))) (history4 config lease words events)
 names_its_basis config lease words events =
-    All-from_recursion (NamesItsBasis config lease (numbered 1 events) (next_of words)) (history4 config lease words events)
-    (all_named config lease (numbered 1 events) (next_of words) (history4 config lease words events)
-    (kept.history_holds_in (protocol config) (Good config lease (numbered 1 events) (next_of words)) (Held config lease (numbered 1 events) (next_of words)) (Read config lease (numbered 1 events) (next_of words)) (Comes config lease (numbered 1 events) (next_of words)) (Fits config lease (numbered 1 events) (next_of words)) (keeps config lease (numbered 1 events) (next_of words))
-    (life_of config lease words events) (first_held config lease (numbered 1 events) (next_of words)) refl
-    (all_come config lease (numbered 1 events) (next_of words) (numbered 1 events) (recursion_from_All (Contains (map (λ (event : LifeEvent Packet). event.input) (numbered 1 events))) (map (λ (event : LifeEvent Packet). event.input) (numbered 1 events)) (All-contains_itself (map (λ (event : LifeEvent Packet). event.input) (numbered 1 events)))))))
+    let xid : ℕ = next_of words in
+    let all : List (LifeEvent Packet) = numbered 1 events in
+    stays_named (protocol config) (Good config lease all xid) (Held config lease all xid) (Read config lease all xid) (Fits config lease all xid) all (keeps config lease all xid)
+    (life_of config lease words events) refl (first_held config lease all xid) refl

@@ -1,0 +1,65 @@
+-- The life of an IPv4 client that begins.
+use Rattle.std.proofs.Common.{◌≡◌, ℕ, List, Option, refl, sym, ap, subst, ◌∙◌}
+use Rattle.std.specs.Prelude.{IfSome, drop, map}
+use Rattle.dhcp_clock.specs.declared.link.Handed.{Handed}
+use Rattle.dhcp_clock.specs.declared.link.Packet.{Packet}
+use Rattle.dhcp_clock.specs.Words.{GivesNext, drawn_word, next_of}
+use Rattle.dhcp_history.specs.Client.{unpolled}
+use Rattle.dhcp_history.specs.Script.{Script}
+use Rattle.dhcp_history.specs.declared.script.Event.{Event as LifeEvent}
+use Rattle.dhcp_history.specs.declared.script.Output.{Output as LifeOutput}
+use Rattle.dhcp4_lease.specs.Config.{Config}
+use Rattle.dhcp4_lease.specs.Lease.{Lease}
+use Rattle.dhcp4_client.specs.Client.{Begins, ClientParts, first_exchange, first_state}
+use Rattle.dhcp4_client.specs.Rules.{protocol}
+use Rattle.dhcp4_client.specs.State.{PlainState}
+use Rattle.dhcp4_client.specs.declared.client_state.ClientState.{ClientState}
+use Rattle.dhcp4_client.specs.declared.client_state.Exchange.{Exchange}
+use Rattle.dhcp_script.specs.Output.{PlainOutput, changed_v4}
+use Rattle.dhcp_script.specs.declared.event.Event.{Event}
+use Rattle.dhcp_replay.specs.Life.{numbered, output_of}
+use Rattle.dhcp_replay.specs.Promises4.{KeepsPromises}
+use Rattle.dhcp_replay.specs.Replayed4.{IsClientAfter, life_of, outputs4}
+use Rattle.dhcp_replay.proofs.LifeLemmas as lives
+use Rattle.dhcp_replay.proofs.LifeLemmas.{begun_view, if_exposed, next_drawn}
+
+module _ (config : Config) (lease : Option Lease) (events : List Event) where
+  abbrev own : List ℕ → Config
+  own words = config
+
+  abbrev life : List ℕ → Script Packet ClientState Exchange
+  life words = life_of config lease words events
+
+  module _ (client : ClientParts) (before after : Option (List ℕ)) (drawn : GivesNext before client.client.standing.exchange.xid after) (begins : Begins config lease client) where
+    abbrev xid : ℕ
+    xid = client.client.standing.exchange.xid
+
+    -- a client that begins is the one with which its life begins
+    begun : lives.Begun protocol drawn_word own life xid client.config client.client
+    begun words is = record {
+      view = begun_view client.client (first_state lease) (first_exchange (next_of words)) config.timeout_sec (drop 1 words) begins.state (begins.standing ∙ ap (λ (id : ℕ). unpolled (first_exchange id)) is) begins.timeout;
+      config = begins.config;
+    }
+
+    -- what is promised of it
+    pub promises4 : ((held : Option Lease) (words : List ℕ) (all : List Event) → KeepsPromises client.config held words all) → IfSome before (λ words. KeepsPromises config lease words events)
+    promises4 keeps =
+        lives.life_promises protocol drawn_word own life before after xid client.config client.client (next_drawn before after xid drawn) begun
+        (λ words. KeepsPromises config lease words events) (λ words is. subst (λ (c : Config). KeepsPromises c lease words events) is (keeps lease words events))
+
+    module _ (made : List (LifeEvent Packet)) (items : List (LifeOutput PlainState Handed)) (made_is : made ≡ numbered 1 events) where
+      -- what is reported
+      pub reported4 : (outs : List PlainOutput) → IfSome after (lives.Reports protocol drawn_word own life before after xid client.config client.client (next_drawn before after xid drawn) begun made items (λ words. made_is)) →
+          outs ≡ map (output_of changed_v4) items → IfSome before (λ words. outs ≡ outputs4 config lease words events)
+      unfolding outputs4
+      reported4 outs reports outs_is =
+          if_exposed _ (λ words. outs ≡ outputs4 config lease words events) before (λ words is. outs_is ∙ ap (map (output_of changed_v4)) is)
+          (lives.life_outputs protocol drawn_word own life before after xid client.config client.client (next_drawn before after xid drawn) begun made items (λ words. made_is) reports)
+
+      -- how it stands at the end
+      pub client4 : (new : ClientParts) (left : Option (List ℕ)) →
+          IfSome after (lives.Leaves protocol drawn_word own life before after xid client.config client.client (next_drawn before after xid drawn) begun made items (λ words. made_is) new.client left) →
+          new.config ≡ client.config → IfSome before (λ words. IsClientAfter config lease words events new)
+      client4 new left leaves kept =
+          if_exposed _ (λ words. IsClientAfter config lease words events new) before (λ words is. record { config_kept = kept ∙ begins.config; view = is })
+          (lives.life_client protocol drawn_word own life before after xid client.config client.client (next_drawn before after xid drawn) begun made items (λ words. made_is) new.client left leaves)

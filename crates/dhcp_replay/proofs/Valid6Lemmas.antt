@@ -1,0 +1,140 @@
+-- The client of a valid IPv6 script can begin.
+use Rattle.std.proofs.Common.{◌≡◌, ℕ, ◌≤◌, Bool, true, false, eqb, List, [], ◌∷◌, length, Option, Some, None, refl, subst, sym, ap, ◌∙◌, arith}
+use Rattle.std.specs.Prelude.{◌&&◌, ◌||◌, ◌==◌, nat_le, not, option_map, IfErr, Result}
+use Rattle.std.specs.Option.{option_map_or}
+use Rattle.std.proofs.lemmas.Bool.{and_from, and_parts, eqb-true, le-leb, leb-true}
+use Rattle.std.proofs.lemmas.List.{length-map}
+use Rattle.dhcp_wire.specs.Error.{ErrorParts}
+use Rattle.dhcp6_opt.specs.declared.duid.DhcpV6Duid.{DhcpV6Duid}
+use Rattle.dhcp6_opt.specs.Duid.{written_duid}
+use Rattle.dhcp6_opt.specs.OptionCode.{code_of}
+use Rattle.dhcp6_msg.specs.Config as configs
+use Rattle.dhcp6_msg.specs.Config.{rising, rising_codes}
+use Rattle.dhcp6_msg.specs.Lease as leases
+use Rattle.dhcp6_msg.specs.Lease.{is_no_duid, is_unspecified}
+use Rattle.dhcp_script.specs.Codes.{are_few, requested}
+use Rattle.dhcp_script.specs.Duid.{duid_of, is_duid, is_duid_or_none, most_duid_bytes}
+use Rattle.dhcp_script.specs.Event.{are_valid}
+use Rattle.dhcp_script.specs.Lease6.{are_times_in_order, is_within_limits, lease_with}
+use Rattle.dhcp_script.specs.Script6.{config_of, is_lease_valid, is_valid, most_codes}
+use Rattle.dhcp_script.specs.declared.event.Event.{Event}
+use Rattle.dhcp_script.specs.declared.lease6.Lease6.{Lease6}
+use Rattle.dhcp_script.specs.declared.script6.Script6.{Script6}
+use Rattle.dhcp_replay.specs.Life.{IsRefusal}
+use Rattle.dhcp_replay.specs.Replayed6.{can_replay}
+use Rattle.dhcp_replay.proofs.DuidLemmas.{length-duid, no_duid}
+use Rattle.dhcp_replay.proofs.RisingLemmas.{rising_from}
+
+-- codes in rising order are no more than were listed
+rising_few : (numbers : List ℕ) → length (rising_codes numbers) ≤ length numbers
+unfolding rising_codes
+rising_few numbers = rw (length-map (rising numbers) code_of) (omega (arith, rising_from numbers []))
+
+requested_few : (codes : Option (List ℕ)) (mode : _) → are_few most_codes codes ≡ true → nat_le (length (requested rising_codes codes (configs.config_of [] mode).request_opts)) 32767 ≡ true
+unfolding configs.config_of
+requested_few None mode few = refl
+requested_few (Some listed) mode few = le-leb (length (rising_codes listed)) 32767 (omega (arith, rising_few listed, leb-true (length listed) most_codes few))
+
+-- an identifier of a script can be sent
+duid_sent : (bytes : List ℕ) → is_duid bytes ≡ true → leases.is_duid (duid_of bytes) ≡ true
+duid_sent bytes is =
+    let parts = and_parts (nat_le 2 (length bytes)) (nat_le (length bytes) most_duid_bytes) is in
+    let written : ℕ = length (written_duid (duid_of bytes)) in
+    let same : written ≡ length bytes = length-duid bytes in
+    and_from (nat_le 2 written) (nat_le written 65535)
+    (le-leb 2 written (omega (arith, same, leb-true 2 (length bytes) parts.0)))
+    (le-leb written 65535 (omega (arith, same, leb-true (length bytes) most_duid_bytes parts.1)))
+
+or_right : (a b : Bool) → b ≡ true → (a || b) ≡ true
+or_right true b is = refl
+or_right false b is = is
+
+-- an identifier of a script is absent or can be sent
+record Named (bytes : List ℕ) : Type 0 where
+  named : (is_no_duid (duid_of bytes) || leases.is_duid (duid_of bytes)) ≡ true
+  short : nat_le (length (written_duid (duid_of bytes))) 65535 ≡ true
+
+duid_named : (bytes : List ℕ) → is_duid_or_none bytes ≡ true → Named bytes
+duid_named bytes is = go bytes (length bytes == 0) refl is
+  where
+    go : (bytes : List ℕ) (none : Bool) → (length bytes == 0) ≡ none → (none || is_duid bytes) ≡ true → Named bytes
+    go [] none e is = record {
+      named = subst (λ (duid : DhcpV6Duid). (is_no_duid duid || leases.is_duid duid) ≡ true) (sym no_duid) refl;
+      short = le-leb (length (written_duid (duid_of []))) 65535 (omega (arith, length-duid []));
+    }
+    go (byte ∷ bytes) true e is = absurd (omega (arith, eqb-true (length (byte ∷ bytes)) 0 e))
+    go (byte ∷ bytes) false e is =
+        let sent : leases.is_duid (duid_of (byte ∷ bytes)) ≡ true = duid_sent (byte ∷ bytes) is in
+        let written : ℕ = length (written_duid (duid_of (byte ∷ bytes))) in
+        record {
+          named = or_right (is_no_duid (duid_of (byte ∷ bytes))) (leases.is_duid (duid_of (byte ∷ bytes))) sent;
+          short = (and_parts (nat_le 2 written) (nat_le written 65535) sent).1;
+        }
+
+-- the lease that is held is within the limits of one that a client may hold
+lease_within : (lease : Option Lease6) → is_lease_valid lease ≡ true → option_map_or leases.is_within_limits (option_map lease_with lease) true ≡ true
+unfolding lease_with leases.is_within_limits
+lease_within None valid = refl
+lease_within (Some lease) valid =
+    let first : Bool = are_times_in_order lease && not (is_unspecified lease.address) in
+    let parts = and_parts first (is_duid lease.srv_duid) valid in
+    and_from (first && true) (leases.is_duid (duid_of lease.srv_duid)) (and_from first true parts.0 refl) (duid_sent lease.srv_duid parts.1)
+
+-- the parts of the test of a script
+record ValidParts (script : Script6) : Type 0 where
+  index : not (script.iface_index == 0) ≡ true
+  address : not (is_unspecified script.src_ip) ≡ true
+  duid : is_duid_or_none script.duid ≡ true
+  codes : are_few most_codes script.codes ≡ true
+  lease : is_lease_valid script.lease ≡ true
+  events : are_valid script.start script.events ≡ true
+
+parts : (script : Script6) → is_valid script ≡ true → ValidParts script
+unfolding is_valid
+parts script valid =
+    let lease = and_parts (not (script.iface_index == 0) && not (is_unspecified script.src_ip) && is_duid_or_none script.duid && are_few most_codes script.codes && is_lease_valid script.lease) (are_valid script.start script.events) valid in
+    let codes = and_parts (not (script.iface_index == 0) && not (is_unspecified script.src_ip) && is_duid_or_none script.duid && are_few most_codes script.codes) (is_lease_valid script.lease) lease.0 in
+    let duid = and_parts (not (script.iface_index == 0) && not (is_unspecified script.src_ip) && is_duid_or_none script.duid) (are_few most_codes script.codes) codes.0 in
+    let address = and_parts (not (script.iface_index == 0) && not (is_unspecified script.src_ip)) (is_duid_or_none script.duid) duid.0 in
+    let index = and_parts (not (script.iface_index == 0)) (not (is_unspecified script.src_ip)) address.0 in
+    record { index = index.0; address = index.1; duid = address.1; codes = duid.1; lease = codes.1; events = lease.1 }
+
+-- the configuration of a valid script is within its limits
+config_within : (script : Script6) → ValidParts script → configs.is_within_limits (config_of script) ≡ true
+unfolding config_of configs.is_within_limits
+config_within script valid =
+    and_from (nat_le (length (written_duid (duid_of script.duid))) 65535) (nat_le (length (requested rising_codes script.codes (configs.config_of [] script.mode).request_opts)) 32767)
+    (duid_named script.duid valid.duid).short (requested_few script.codes script.mode valid.codes)
+
+-- it has an interface, an address and an identifier
+config_named : (script : Script6) → ValidParts script →
+    (not ((config_of script).iface_index == 0) && not (is_unspecified (config_of script).src_ip) && (is_no_duid (config_of script).duid || leases.is_duid (config_of script).duid)) ≡ true
+unfolding config_of
+config_named script valid =
+    and_from (not (script.iface_index == 0) && not (is_unspecified script.src_ip)) (is_no_duid (duid_of script.duid) || leases.is_duid (duid_of script.duid))
+    (and_from (not (script.iface_index == 0)) (not (is_unspecified script.src_ip)) valid.index valid.address)
+    (duid_named script.duid valid.duid).named
+
+-- so a valid script can be played
+pub valid_plays : (script : Script6) → is_valid script ≡ true → can_replay (config_of script) (option_map lease_with script.lease) script.start script.events ≡ true
+valid_plays script valid =
+    let all = parts script valid in
+    let config = config_of script in
+    let named : Bool = not (config.iface_index == 0) && not (is_unspecified config.src_ip) && (is_no_duid config.duid || leases.is_duid config.duid) in
+    let held : Bool = option_map_or leases.is_within_limits (option_map lease_with script.lease) true in
+    and_from (are_valid script.start script.events) (named && configs.is_within_limits config && held) all.events
+    (and_from (named && configs.is_within_limits config) held
+    (and_from named (configs.is_within_limits config) (config_named script all) (config_within script all))
+    (lease_within script.lease all.lease))
+
+-- and its replay is refused as the script is
+pub played_refusal : {X : Type 0} (result : Result X ErrorParts) (script : Script6) (config : configs.Config) (lease : Option leases.Lease) (events : List Event) →
+    config ≡ config_of script → lease ≡ option_map lease_with script.lease → events ≡ script.events → is_valid script ≡ true →
+    IfErr result (IsRefusal (can_replay config lease script.start events)) → IfErr result (IsRefusal (is_valid script))
+played_refusal result script config lease events config_is lease_is events_is valid refused =
+    let same : can_replay config lease script.start events ≡ is_valid script =
+    ap (λ (c : configs.Config). can_replay c lease script.start events) config_is
+    ∙ ap (λ (l : Option leases.Lease). can_replay (config_of script) l script.start events) lease_is
+    ∙ ap (λ (e : List Event). can_replay (config_of script) (option_map lease_with script.lease) script.start e) events_is
+    ∙ valid_plays script valid ∙ sym valid in
+    subst (λ (b : Bool). IfErr result (IsRefusal b)) same refused

@@ -1,0 +1,19 @@
+-- By the laws of the client, event by event and stay by stay.
+use Rattle.std.proofs.Common.{refl}
+use Rattle.dhcp_history.proofs.Messages.{history_sends}
+use Rattle.dhcp_history.specs.Machine.{first_view}
+use Rattle.dhcp6_client.specs.Rules.{protocol}
+use Rattle.dhcp_replay.specs.Life.{numbered}
+use Rattle.dhcp_replay.specs.Replayed6.{life_of}
+use Rattle.dhcp_replay.proofs.Basis6Lemmas.{names_its_basis}
+use Rattle.dhcp_replay.proofs.SettlesLemmas.{settles_at_each}
+use Rattle.dhcp_replay.proofs.laws.promises6_are_kept.Goals as goal
+
+pub returns : goal.returns
+returns c = λ given lease start words events. record {
+  eleven_requests = c.eleven_requests_of_an_offer.ensures (life_of given lease start words events);
+  messages_far_apart = c.messages_are_far_apart.ensures (life_of given lease start words events) refl;
+  two_messages = history_sends (protocol c.args.client.now.config) (c.table_is_lawful.ensures c.args.client.now.config) (life_of given lease start words events);
+  names_its_basis = names_its_basis c.args.client.now.config given lease start words events;
+  settles = settles_at_each (protocol c.args.client.now.config) c.seven_polls_an_event.ensures.polls c.seven_polls_an_event.ensures.changes c.no_state_is_overdue.ensures (first_view (life_of given lease start words events)) (numbered 1 events);
+}

@@ -1,0 +1,35 @@
+-- What is promised of the polls and of the messages of a client of either family.
+use Rattle.std.specs.Prelude.{ℕ, ◌≤◌, List, [], ◌∷◌, All}
+use Rattle.dhcp_clock.specs.declared.link.Handed.{Handed}
+use Rattle.dhcp_clock.specs.declared.link.Packet.{Packet}
+use Rattle.dhcp_history.specs.Bounds.{attempts_of, count_of, is_change, poll_count, IsWithinState}
+use Rattle.dhcp_history.specs.EventLoop.{call_at, event_at}
+use Rattle.dhcp_history.specs.History.{Stay}
+use Rattle.dhcp_history.specs.Machine.{View, polls}
+use Rattle.dhcp_history.specs.Protocol.{Protocol}
+use Rattle.dhcp_history.specs.Script.{after_call}
+use Rattle.dhcp_history.specs.declared.script.Event.{Event as LifeEvent}
+
+module _ {PublicState State Exchange Answer Lease : Type 0}
+    (p : Protocol PublicState Packet Handed State Exchange Answer Lease) where
+  -- At an event, after its call, the client is polled at most seven times, and changes its state at
+  -- most six times. After the polls a client without a kept error is in no state whose end has
+  -- come.
+  pub record SettlesAt (event : LifeEvent Packet) (client : View State Exchange) : Type 0 where
+    pub seven_polls : (fuel : ℕ) → poll_count p fuel event client ≤ 7
+    pub six_changes : (fuel : ℕ) → count_of is_change (polls p fuel event client).outputs ≤ 6
+    pub not_overdue : IsWithinState p event.moment (polls p 7 event client).view
+
+  -- and so at each of these events
+  abbrev pub SettlesAtEach : View State Exchange → List (LifeEvent Packet) → Type 0
+  SettlesAtEach client [] = Unit {0}
+  SettlesAtEach client (event ∷ events) =
+      SettlesAt (after_call event) (call_at p event client).view
+      × SettlesAtEach (event_at p event client).view events
+
+-- the messages of a stay are those of its state, which has a basis
+pub record NamesItsBasis {State : Type 0} (HasBasis : State → Type 0)
+    (IsMessageOf : State → Handed → Type 0) (stay : Stay State Handed) : Type 0 where
+  pub basis : HasBasis stay.setting.state
+  pub messages : All (λ attempt. IsMessageOf stay.setting.state attempt.message)
+      (attempts_of stay.acts)
