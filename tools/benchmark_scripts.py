@@ -4,9 +4,9 @@
 usage, at the top of the repository, after: cd crates/dhcp_main && rt run < stdin -- run
   tools/benchmark_scripts.py [EVENTS..]        2000 and 20000 where none is given
 
-Three kinds of scripts: a client with a lease that is polled before T1; a lease that is renewed again and again; a
-client whose Discover is open, with a frame for another client in each event. Each figure is the best of five runs,
-the start of the process taken off; memory is the most that the process held.
+Three kinds of scripts of each family: a client with a lease that is polled before T1; a lease that is renewed again
+and again; a client whose Discover or Solicit is open, with a packet for another client in each event. Each figure is
+the best of five runs, the start of the process taken off; memory is the most that the process held.
 """
 
 import os
@@ -19,12 +19,12 @@ PROGRAM = f"{TOP}/crates/dhcp_main/out/dhcp_main"
 ROUNDS = 5
 
 
-def parts_of_a_life():
-    """Returns the lines before the events of a worked script, and its Offer and its Ack in hex."""
-    with open(f"{TOP}/tools/scripts/renewal", encoding="ascii") as file:
+def parts_of_a_life(name):
+    """Returns the lines before the events of a worked script, and the two packets that come in, in hex."""
+    with open(f"{TOP}/tools/scripts/{name}", encoding="ascii") as file:
         lines = file.read().splitlines()
     front = [line for line in lines if not line.startswith("at ") and line != "end"]
-    offer, ack = [line.split(" ")[4] for line in lines if " frame " in line]
+    offer, ack = [line.split(" ")[4] for line in lines if " frame " in line or " payload " in line]
     return front, offer, ack
 
 
@@ -55,6 +55,39 @@ def foreign(count, offer, _):
         yield f"at {number // 100} ok frame {other}"
 
 
+def leased6(advertise, reply):
+    """The first events of an IPv6 client that takes a lease: all are at moment 0."""
+    yield "at 0 ok none"
+    yield f"at 0 ok payload {advertise}"
+    yield f"at 0 ok payload {reply}"
+
+
+def idle6(count, advertise, reply):
+    """An IPv6 client with a lease, polled again and again before T1."""
+    yield from leased6(advertise, reply)
+    for number in range(count - 3):
+        yield f"at {1 + number // 100} ok none"
+
+
+def renewed6(count, advertise, reply):
+    """An IPv6 lease that is renewed every 50 seconds: an event at T1, and one with the Reply."""
+    yield from leased6(advertise, reply)
+    for number in range((count - 3) // 2):
+        start = 50_010 * number + 50_000
+        yield f"at {start} ok none"
+        yield f"at {start + 10} ok payload {reply}"
+
+
+def foreign6(count, advertise, _):
+    """An IPv6 client whose Solicit is open, with an Advertise to another transaction id in each event."""
+    other = advertise.replace("02abcdef", "02abcdee", 1)
+    for number in range(count):
+        yield f"at {number // 100} ok payload {other}"
+
+
+FAMILIES = (("renewal", (idle, renewed, foreign)), ("renewal6", (idle6, renewed6, foreign6)))
+
+
 def seconds_of(text):
     """Returns the time of the fastest run over this text, and what it printed."""
     best, printed = None, b""
@@ -75,21 +108,26 @@ def peak_of(text):
     return int(done.stderr)
 
 
+def cells_of(name, count, text, start):
+    """Returns the cells of a line of the table, where a process takes this long to start."""
+    took, printed = seconds_of(text)
+    took = max(took - start, 1e-6)
+    moved = (len(text) + len(printed)) / 1e6
+    cells = [name, f"{count:,}", f"{took:.4f}", f"{count / took:,.0f}", f"{len(text) / 1e6:.2f}"]
+    return cells + [f"{len(printed) / 1e6:.2f}", f"{moved / took:.0f}", f"{peak_of(text) / 1024:.1f}"]
+
+
 def main(words):
     counts = [int(word) for word in words] or [2000, 20000]
-    front, offer, ack = parts_of_a_life()
     start, _ = seconds_of(b"")
     print("| script | events | seconds | events a second | MB read | MB printed | MB a second | MiB of memory |")
     print("|---|---|---|---|---|---|---|---|")
-    for kind in (idle, renewed, foreign):
-        for count in counts:
-            text = "\n".join([*front, *kind(count, offer, ack), "end", ""]).encode()
-            took, printed = seconds_of(text)
-            took = max(took - start, 1e-6)
-            moved = (len(text) + len(printed)) / 1e6
-            cells = (kind.__name__, f"{count:,}", f"{took:.4f}", f"{count / took:,.0f}", f"{len(text) / 1e6:.2f}")
-            cells += (f"{len(printed) / 1e6:.2f}", f"{moved / took:.0f}", f"{peak_of(text) / 1024:.1f}")
-            print(f"| {' | '.join(cells)} |")
+    for script, kinds in FAMILIES:
+        front, offer, ack = parts_of_a_life(script)
+        for kind in kinds:
+            for count in counts:
+                text = "\n".join([*front, *kind(count, offer, ack), "end", ""]).encode()
+                print(f"| {' | '.join(cells_of(kind.__name__, count, text, start))} |")
     return 0
 
 
