@@ -1,5 +1,5 @@
 -- By what the client reports over the events by their numbers.
-use Rattle.std.proofs.Common.{◌≡◌, ◌<◌, ◌^◌, List, sym, subst}
+use Rattle.std.proofs.Common.{◌<◌, ◌^◌, List, sym, subst}
 use Rattle.std.specs.Prelude.{All}
 use Rattle.dhcp_clock.specs.declared.link.Packet.{Packet}
 use Rattle.dhcp_history.specs.declared.script.Event.{Event as LifeEvent}
