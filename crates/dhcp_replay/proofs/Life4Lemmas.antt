@@ -1,10 +1,13 @@
 -- The life of an IPv4 client that begins.
-use Rattle.std.proofs.Common.{◌≡◌, ℕ, List, Option, refl, sym, ap, subst, ◌∙◌}
+use Rattle.std.proofs.Common.{◌≡◌, ℕ, List, [], Option, ap, subst, ◌∙◌}
 use Rattle.std.specs.Prelude.{IfSome, drop, map}
 use Rattle.dhcp_clock.specs.declared.link.Handed.{Handed}
 use Rattle.dhcp_clock.specs.declared.link.Packet.{Packet}
 use Rattle.dhcp_clock.specs.Words.{GivesNext, drawn_word, next_of}
-use Rattle.dhcp_history.specs.Client.{unpolled}
+use Rattle.dhcp_history.specs.Client.{unpolled, view_of}
+use Rattle.dhcp_history.specs.EventLoop.{HasReported, events_at}
+use Rattle.dhcp_history.specs.History.{history, outputs}
+use Rattle.dhcp_history.specs.Machine.{first_view}
 use Rattle.dhcp_history.specs.Script.{Script}
 use Rattle.dhcp_history.specs.declared.script.Event.{Event as LifeEvent}
 use Rattle.dhcp_history.specs.declared.script.Output.{Output as LifeOutput}
@@ -49,17 +52,28 @@ module _ (config : Config) (lease : Option Lease) (events : List Event) where
 
     module _ (made : List (LifeEvent Packet)) (items : List (LifeOutput PlainState Handed)) (made_is : made ≡ numbered 1 events) where
       -- what is reported
-      pub reported4 : (outs : List PlainOutput) → IfSome after (lives.Reports protocol drawn_word own life before after xid client.config client.client (next_drawn before after xid drawn) begun made items (λ words. made_is)) →
+      abbrev HasItems : Config → Script Packet ClientState Exchange → Type 0
+      HasItems c script = items ≡ outputs (protocol c) (history (protocol c) script)
+
+      abbrev HasReports : List ℕ → Type 0
+      HasReports left = (script : Script Packet ClientState Exchange) → view_of client.client left ≡ first_view script → script.events ≡ made → HasItems client.config script
+
+      pub reported4 : (outs : List PlainOutput) → IfSome after HasReports →
           outs ≡ map (output_of changed_v4) items → IfSome before (λ words. outs ≡ outputs4 config lease words events)
       unfolding outputs4
       reported4 outs reports outs_is =
-          if_exposed _ (λ words. outs ≡ outputs4 config lease words events) before (λ words is. outs_is ∙ ap (map (output_of changed_v4)) is)
-          (lives.life_outputs protocol drawn_word own life before after xid client.config client.client (next_drawn before after xid drawn) begun made items (λ words. made_is) reports)
+          if_exposed (λ words. HasItems config (life words)) (λ words. outs ≡ outputs4 config lease words events) before (λ words is. outs_is ∙ ap (map (output_of changed_v4)) is)
+          (lives.life_reports protocol drawn_word own life before after xid client.config client.client (next_drawn before after xid drawn) begun made (λ words. made_is) HasItems reports)
 
       -- how it stands at the end
-      pub client4 : (new : ClientParts) (left : Option (List ℕ)) →
-          IfSome after (lives.Leaves protocol drawn_word own life before after xid client.config client.client (next_drawn before after xid drawn) begun made items (λ words. made_is) new.client left) →
-          new.config ≡ client.config → IfSome before (λ words. IsClientAfter config lease words events new)
+      abbrev HasLeft : ClientParts → Option (List ℕ) → List ℕ → Type 0
+      HasLeft new left words = HasReported (events_at (protocol client.config) (view_of client.client words) made) [] items (view_of new.client) left
+
+      abbrev StandsSo : ClientParts → List ℕ → Type 0
+      StandsSo new = lives.StandsSo protocol drawn_word own life before after xid client.config client.client (next_drawn before after xid drawn) begun made (λ words. made_is) new.client
+
+      pub client4 : (new : ClientParts) (left : Option (List ℕ)) → IfSome after (HasLeft new left) → new.config ≡ client.config → IfSome before (λ words. IsClientAfter config lease words events new)
       client4 new left leaves kept =
-          if_exposed _ (λ words. IsClientAfter config lease words events new) before (λ words is. record { config_kept = kept ∙ begins.config; view = is })
-          (lives.life_client protocol drawn_word own life before after xid client.config client.client (next_drawn before after xid drawn) begun made items (λ words. made_is) new.client left leaves)
+          if_exposed (StandsSo new) (λ words. IsClientAfter config lease words events new) before (λ words is. record { config_kept = kept ∙ begins.config; view = is })
+          (lives.life_client protocol drawn_word own life before after xid client.config client.client (next_drawn before after xid drawn) begun made (λ words. made_is) new.client
+          (if_exposed (HasLeft new left) (lives.Leaves protocol drawn_word own life before after xid client.config client.client (next_drawn before after xid drawn) begun made (λ words. made_is) new.client) after (λ words is. is.client) leaves))

@@ -1,28 +1,24 @@
 -- The life of an IPv6 client that begins.
-use Rattle.std.proofs.Common.{◌≡◌, ℕ, List, [], Option, Some, None, IsTrue, refl, sym, ap, subst, ◌∙◌}
-use Rattle.std.specs.Prelude.{All, IfSome, map}
-use Rattle.dhcp_clock.specs.declared.link.Handed.{Handed}
+use Rattle.std.proofs.Common.{◌≡◌, ℕ, List, Option, Some, None, refl, ap, subst, ◌∙◌}
+use Rattle.std.specs.Prelude.{IfSome, map}
 use Rattle.dhcp_clock.specs.declared.link.Packet.{Packet}
-use Rattle.dhcp_history.specs.Client.{unpolled, view_of}
-use Rattle.dhcp_history.specs.EventLoop.{HasReported, events_at}
+use Rattle.dhcp_history.specs.Client.{unpolled}
+use Rattle.dhcp_history.specs.History.{history, outputs}
 use Rattle.dhcp_history.specs.Rules.{GivesDrawn}
 use Rattle.dhcp_history.specs.Script.{Script}
-use Rattle.dhcp_history.specs.declared.script.Event.{Event as LifeEvent}
-use Rattle.dhcp_history.specs.declared.script.Output.{Output as LifeOutput}
 use Rattle.dhcp6_msg.specs.Config.{Config}
 use Rattle.dhcp6_msg.specs.Lease.{Lease}
 use Rattle.dhcp6_client.specs.Client.{Begins, ClientParts, FirstDraws, drawn_for, first_draws, first_exchange, first_state}
 use Rattle.dhcp6_client.specs.Rules.{protocol}
-use Rattle.dhcp6_client.specs.State.{PlainState}
 use Rattle.dhcp6_client.specs.declared.client_state.ClientState.{ClientState}
 use Rattle.dhcp6_client.specs.declared.client_state.Exchange.{Exchange}
 use Rattle.dhcp_script.specs.Output.{PlainOutput, changed_v6}
 use Rattle.dhcp_script.specs.declared.event.Event.{Event}
 use Rattle.dhcp_replay.specs.Life.{numbered, output_of}
 use Rattle.dhcp_replay.specs.Promises6.{KeepsPromises, KeepsPromisesOver}
-use Rattle.dhcp_replay.specs.Replayed6.{IsClientAfter, config_in, life_of, outputs6}
+use Rattle.dhcp_replay.specs.Replayed6.{IsClientAfter, IsLeftBy, IsReportedOf, config_in, life_of, outputs6}
 use Rattle.dhcp_replay.proofs.LifeLemmas as lives
-use Rattle.dhcp_replay.proofs.LifeLemmas.{begun_view, if_exposed}
+use Rattle.dhcp_replay.proofs.LifeLemmas.{begun_view}
 
 module _ (config : Config) (lease : Option Lease) (start : ℕ) (events : List Event) where
   abbrev life : List ℕ → Script Packet ClientState Exchange
@@ -48,24 +44,22 @@ module _ (config : Config) (lease : Option Lease) (start : ℕ) (events : List E
     pub says6 : (Says : Type 0) → IfSome after (λ words. Says) → IfSome before (λ words. Says)
     says6 Says says = lives.life_says protocol (first_draws config) (config_in config) life before after (drawn_for client) client.config client.client drawn begun Says says
 
-    module _ (made : List (LifeEvent Packet)) (items : List (LifeOutput PlainState Handed)) (made_is : made ≡ numbered 1 events) where
-      -- what is reported
-      pub reported6 : (outs : List PlainOutput) → IfSome after (lives.Reports protocol (first_draws config) (config_in config) life before after (drawn_for client) client.config client.client drawn begun made items (λ words. made_is)) →
-          outs ≡ map (output_of changed_v6) items → IfSome before (λ words. outs ≡ outputs6 config lease start words events)
-      unfolding outputs6
-      reported6 outs reports outs_is =
-          if_exposed _ (λ words. outs ≡ outputs6 config lease start words events) before (λ words is. outs_is ∙ ap (map (output_of changed_v6)) is)
-          (lives.life_outputs protocol (first_draws config) (config_in config) life before after (drawn_for client) client.config client.client drawn begun made items (λ words. made_is) reports)
+    -- what is reported
+    abbrev HasOuts : List PlainOutput → Config → Script Packet ClientState Exchange → Type 0
+    HasOuts outs c script = outs ≡ map (output_of changed_v6) (outputs (protocol c) (history (protocol c) script))
 
-      -- how it stands at the end
-      pub client6 : (new : ClientParts) (left : Option (List ℕ)) →
-          IfSome after (lives.Leaves protocol (first_draws config) (config_in config) life before after (drawn_for client) client.config client.client drawn begun made items (λ words. made_is) new.client left) →
-          new.config ≡ client.config → IfSome before (λ words. IsClientAfter config lease start words events new)
-      client6 new left leaves kept =
-          go before drawn (lives.life_client protocol (first_draws config) (config_in config) life before after (drawn_for client) client.config client.client drawn begun made items (λ words. made_is) new.client left leaves)
-        where
-          go : (exposed : Option (List ℕ)) → GivesDrawn (first_draws config) exposed (drawn_for client) after →
-              IfSome exposed (lives.StandsSo protocol (first_draws config) (config_in config) life before after (drawn_for client) client.config client.client drawn begun made items (λ words. made_is) new.client left) →
-              IfSome exposed (λ words. IsClientAfter config lease start words events new)
-          go None drawn is = tt
-          go (Some words) drawn is = record { config_kept = kept ∙ (begun words drawn.0).config; view = is }
+    pub reported6 : (outs : List PlainOutput) → IfSome after (λ left. IsReportedOf client left events outs) → IfSome before (λ words. outs ≡ outputs6 config lease start words events)
+    unfolding outputs6
+    reported6 outs reports =
+        lives.life_reports protocol (first_draws config) (config_in config) life before after (drawn_for client) client.config client.client drawn begun (numbered 1 events) (λ words. refl) (HasOuts outs) reports
+
+    -- how it stands at the end
+    pub client6 : (new : ClientParts) → IfSome after (λ left. IsLeftBy client left events new) → new.config ≡ client.config → IfSome before (λ words. IsClientAfter config lease start words events new)
+    client6 new leaves kept =
+        go before drawn (lives.life_client protocol (first_draws config) (config_in config) life before after (drawn_for client) client.config client.client drawn begun (numbered 1 events) (λ words. refl) new.client leaves)
+      where
+        go : (exposed : Option (List ℕ)) → GivesDrawn (first_draws config) exposed (drawn_for client) after →
+            IfSome exposed (lives.StandsSo protocol (first_draws config) (config_in config) life before after (drawn_for client) client.config client.client drawn begun (numbered 1 events) (λ words. refl) new.client) →
+            IfSome exposed (λ words. IsClientAfter config lease start words events new)
+        go None drawn is = tt
+        go (Some words) drawn is = record { config_kept = kept ∙ (begun words drawn.0).config; view = is }

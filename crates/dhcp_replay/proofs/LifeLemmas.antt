@@ -1,6 +1,6 @@
 -- The life of a client that begins: what is reported of it, how it stands at the end, and what is promised of it.
-use Rattle.std.proofs.Common.{◌≡◌, ℕ, List, [], Option, Some, None, sym, ap, subst, ◌∙◌}
-use Rattle.std.specs.Prelude.{IfSome, map}
+use Rattle.std.proofs.Common.{◌≡◌, ℕ, List, Option, Some, None, sym, ap, subst, ◌∙◌}
+use Rattle.std.specs.Prelude.{IfSome}
 use Rattle.dhcp_clock.specs.declared.link.Handed.{Handed}
 use Rattle.dhcp_clock.specs.declared.link.Packet.{Packet}
 use Rattle.dhcp_clock.specs.Words.{Drawn, GivesNext, drawn_word}
@@ -8,14 +8,12 @@ use Rattle.dhcp_history.specs.declared.client.Client.{Client}
 use Rattle.dhcp_history.specs.declared.client.Phase.TheVariants.{Unpolled}
 use Rattle.dhcp_history.specs.declared.client.Standing.{Standing}
 use Rattle.dhcp_history.specs.Client.{unpolled, view_of}
-use Rattle.dhcp_history.specs.EventLoop.{HasReported, events_at}
-use Rattle.dhcp_history.specs.History.{history, outputs}
+use Rattle.dhcp_history.specs.EventLoop.{events_at}
 use Rattle.dhcp_history.specs.Machine.{View, first_view}
 use Rattle.dhcp_history.specs.Protocol.{Protocol}
 use Rattle.dhcp_history.specs.Rules.{GivesDrawn}
 use Rattle.dhcp_history.specs.Script.{Script}
 use Rattle.dhcp_history.specs.declared.script.Event.{Event as LifeEvent}
-use Rattle.dhcp_history.specs.declared.script.Output.{Output as LifeOutput}
 
 -- a next word is drawn
 pub next_drawn : (before after : Option (List ℕ)) (word : ℕ) → GivesNext before word after → GivesDrawn drawn_word before word after
@@ -72,28 +70,27 @@ module _ {Config X PublicState State Exchange Answer Lease : Type 0} (protocol :
         go None drawn = tt
         go (Some words) drawn = after_draw (λ words. Says) (draws words).left after drawn.1 says
 
-    module _ (made : List (LifeEvent Packet)) (items : List (LifeOutput PublicState Handed)) (made_is : (words : List ℕ) → made ≡ (life_of words).events) where
-      -- what is reported
-      abbrev pub Reports : List ℕ → Type 0
-      Reports left = (script : Script Packet State Exchange) → view_of client left ≡ first_view script → script.events ≡ made → items ≡ outputs (protocol own) (history (protocol own) script)
+    module _ (made : List (LifeEvent Packet)) (made_is : (words : List ℕ) → made ≡ (life_of words).events) where
+      -- what holds of each life that the client begins
+      abbrev pub Reports : (Config → Script Packet State Exchange → Type 0) → List ℕ → Type 0
+      Reports Is left = (script : Script Packet State Exchange) → view_of client left ≡ first_view script → script.events ≡ made → Is own script
 
-      abbrev pub HasOutputs : List ℕ → Type 0
-      HasOutputs words = items ≡ outputs (protocol (config_in words)) (history (protocol (config_in words)) (life_of words))
-
-      pub life_outputs : IfSome after Reports → IfSome before HasOutputs
-      life_outputs reports = go before drawn
+      pub life_reports : (Is : Config → Script Packet State Exchange → Type 0) → IfSome after (Reports Is) → IfSome before (λ words. Is (config_in words) (life_of words))
+      life_reports Is reports = go before drawn
         where
-          go : (exposed : Option (List ℕ)) → GivesDrawn draws exposed value after → IfSome exposed HasOutputs
+          go : (exposed : Option (List ℕ)) → GivesDrawn draws exposed value after → IfSome exposed (λ words. Is (config_in words) (life_of words))
           go None drawn = tt
           go (Some words) drawn =
               let begins = begun words drawn.0 in
-              let known : Reports (draws words).left = after_draw Reports (draws words).left after drawn.1 reports in
-              known (life_of words) begins.view (sym (made_is words)) ∙ ap (λ (c : Config). outputs (protocol c) (history (protocol c) (life_of words))) begins.config
+              let known : Reports Is (draws words).left = after_draw (Reports Is) (draws words).left after drawn.1 reports in
+              subst (λ (c : Config). Is c (life_of words)) begins.config (known (life_of words) begins.view (sym (made_is words)))
 
       -- how the client stands at the end
-      module _ (new : Client State Exchange) (left : Option (List ℕ)) where
+      module _ (new : Client State Exchange) where
         abbrev pub Leaves : List ℕ → Type 0
-        Leaves words = HasReported (events_at (protocol own) (view_of client words) made) [] items (view_of new) left
+        Leaves left =
+            let final : View State Exchange = (events_at (protocol own) (view_of client left) made).view in
+            view_of new final.words ≡ final
 
         abbrev pub StandsSo : List ℕ → Type 0
         StandsSo words =
@@ -113,7 +110,7 @@ module _ {Config X PublicState State Exchange Answer Lease : Type 0} (protocol :
                 ap (λ (c : Config). (events_at (protocol c) (view_of client (draws words).left) made).view) begins.config
                 ∙ ap (λ (view : View State Exchange). (events_at (protocol (config_in words)) view made).view) begins.view
                 ∙ ap (λ (all : List (LifeEvent Packet)). (events_at (protocol (config_in words)) first all).view) (made_is words) in
-                subst (λ (view : View State Exchange). view_of new view.words ≡ view) same left_so.client
+                subst (λ (view : View State Exchange). view_of new view.words ≡ view) same left_so
 
 -- what follows of some words, follows where they are exposed
 pub if_exposed : (Says Also : List ℕ → Type 0) (exposed : Option (List ℕ)) → ((words : List ℕ) → Says words → Also words) → IfSome exposed Says → IfSome exposed Also

@@ -1,5 +1,5 @@
 -- The events of a script by their numbers.
-use Rattle.std.proofs.Common.{◌≡◌, ℕ, suc, ◌+◌, ◌<◌, ◌≤◌, ◌^◌, Bool, true, false, List, [], ◌∷◌, ◌++◌, length, take, get_or, subst, sym, ap, ◌∙◌, arith}
+use Rattle.std.proofs.Common.{◌≡◌, ℕ, suc, ◌+◌, ◌<◌, ◌≤◌, ◌^◌, Bool, true, false, List, [], ◌∷◌, ◌++◌, length, take, get_or, refl, subst, sym, ap, ◌∙◌, arith}
 use Rattle.std.specs.Prelude.{◌&&◌, nat_le, nat_lt, All}
 use Rattle.std.specs.List.{AllPass, list_all}
 use Rattle.std.proofs.Math.Seq.{take-suc}
@@ -91,3 +91,9 @@ refusal_of_valid false error is memory = absurd cc
 pub refusal_of_invalid : (valid : Bool) (error : ErrorParts) → valid ≡ false → error.kind ≡ InvalidArgument → IsRefusal valid error
 refusal_of_invalid true error is kind = absurd cc
 refusal_of_invalid false error is kind = kind
+
+-- the error of a beginning that is told by whether the client can begin
+pub refusal_of_begin : (valid can : Bool) (error : ErrorParts) → valid ≡ true → (can ≡ false → error.kind ≡ InvalidArgument) → (can ≡ true → error ≡ no_memory) → IsRefusal (valid && can) error
+refusal_of_begin true true error is refused memory = memory refl
+refusal_of_begin true false error is refused memory = refused refl
+refusal_of_begin false can error is refused memory = absurd cc

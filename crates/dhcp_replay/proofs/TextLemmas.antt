@@ -1,5 +1,5 @@
 -- What is reported of a client has a text: of the leases that an IPv6 client reports the type is known.
-use Rattle.std.proofs.Common.{◌≡◌, ◌⊎◌, ℕ, Bool, true, false, cond, List, [], ◌∷◌, Option, Some, None, Result, Ok, Err, IsTrue, refl, sym, ap, subst, ◌∙◌, inl, inr}
+use Rattle.std.proofs.Common.{◌≡◌, ◌⊎◌, ℕ, Bool, true, false, List, [], ◌∷◌, Option, Some, None, Result, Ok, Err, IsTrue, refl, sym, ap, subst, ◌∙◌, inl, inr}
 use Rattle.std.specs.Prelude.{All, IfSome, if◌then◌else◌, map}
 use Rattle.std.specs.List.{AllByRecursion}
 use Rattle.std.proofs.lemmas.Bool.{and_parts}
@@ -9,25 +9,23 @@ use Rattle.dhcp_wire.specs.declared.error.ErrorKind.{ErrorKind}
 use Rattle.dhcp_wire.specs.declared.error.ErrorKind.TheVariants.{Timeout, IoError}
 use Rattle.dhcp_clock.specs.declared.link.Handed.{Handed}
 use Rattle.dhcp_clock.specs.declared.link.Packet.{Packet}
-use Rattle.dhcp_history.specs.Client.{view_of}
 use Rattle.dhcp_history.specs.EventLoop.{HasReported, events_at}
 use Rattle.dhcp_history.specs.Machine.{View}
 use Rattle.dhcp_history.specs.declared.script.Event.{Event as LifeEvent}
-use Rattle.dhcp_history.specs.declared.script.Failure.{Failure}
 use Rattle.dhcp_history.specs.declared.script.Failure.TheVariants as failures
 use Rattle.dhcp_history.specs.declared.script.Output.{Output as LifeOutput}
 use Rattle.dhcp_history.specs.declared.script.Report.{Report}
 use Rattle.dhcp_history.specs.declared.script.Report.TheVariants as reports
 use Rattle.dhcp4_client.specs.State as states4
 use Rattle.dhcp6_msg.specs.Config.{Config}
-use Rattle.dhcp6_msg.specs.Lease.{Lease, are_times_in_order, is_duid, is_typed, is_unspecified, is_within_limits, read_lease}
+use Rattle.dhcp6_msg.specs.Lease.{Lease, is_duid, is_typed, is_within_limits, read_lease}
 use Rattle.dhcp6_msg.specs.Message.{read_message}
 use Rattle.dhcp6_msg.specs.declared.message.DhcpV6Message.{DhcpV6Message}
 use Rattle.dhcp6_msg.specs.declared.message_type.DhcpV6MessageType.{DhcpV6MessageType}
 use Rattle.dhcp6_msg.specs.declared.mode.DhcpV6Mode.{DhcpV6Mode}
 use Rattle.dhcp6_msg.specs.declared.mode.DhcpV6Mode.TheVariants.{NonTemporaryAddresses, TemporaryAddresses, PrefixDelegation}
 use Rattle.dhcp6_msg.proofs.LimitLemmas.{within_limits}
-use Rattle.dhcp6_client.specs.Answer.{answer_of, awaited, concerning, concerns, granted_by, lease_if_read, message_for, payload_in}
+use Rattle.dhcp6_client.specs.Answer.{answer_of, awaited, concerns, lease_if_read, message_for, payload_in}
 use Rattle.dhcp6_client.specs.Rules.{after_answer, after_end, bound_state, protocol, public_state, reading}
 use Rattle.dhcp6_client.specs.State as states6
 use Rattle.dhcp6_client.specs.declared.client_state.ClientState.{ClientState}

@@ -1,5 +1,5 @@
 -- The client of a valid IPv6 script can begin.
-use Rattle.std.proofs.Common.{◌≡◌, ℕ, ◌≤◌, Bool, true, false, eqb, List, [], ◌∷◌, length, Option, Some, None, refl, subst, sym, ap, ◌∙◌, arith}
+use Rattle.std.proofs.Common.{◌≡◌, ℕ, ◌≤◌, Bool, true, false, List, [], ◌∷◌, length, Option, Some, None, refl, subst, sym, ap, ◌∙◌, arith}
 use Rattle.std.specs.Prelude.{◌&&◌, ◌||◌, ◌==◌, nat_le, not, option_map, IfErr, Result}
 use Rattle.std.specs.Option.{option_map_or}
 use Rattle.std.proofs.lemmas.Bool.{and_from, and_parts, eqb-true, le-leb, leb-true}
@@ -15,7 +15,7 @@ use Rattle.dhcp6_msg.specs.Lease.{is_no_duid, is_unspecified}
 use Rattle.dhcp_script.specs.Codes.{are_few, requested}
 use Rattle.dhcp_script.specs.Duid.{duid_of, is_duid, is_duid_or_none, most_duid_bytes}
 use Rattle.dhcp_script.specs.Event.{are_valid}
-use Rattle.dhcp_script.specs.Lease6.{are_times_in_order, is_within_limits, lease_with}
+use Rattle.dhcp_script.specs.Lease6.{are_times_in_order, lease_with}
 use Rattle.dhcp_script.specs.Script6.{config_of, is_lease_valid, is_valid, most_codes}
 use Rattle.dhcp_script.specs.declared.event.Event.{Event}
 use Rattle.dhcp_script.specs.declared.lease6.Lease6.{Lease6}

@@ -1,6 +1,6 @@
 -- The life of an IPv6 client over the events of a script: its history, and what is reported of it.
 pub use Rattle.dhcp_replay.specs.Life.{IsRefusal}
-use Rattle.std.specs.Prelude.{◌≡◌, ℕ, Bool, ◌&&◌, List, map, Option}
+use Rattle.std.specs.Prelude.{◌≡◌, ℕ, ◌≤◌, ◌<◌, ◌^◌, Bool, ◌&&◌, List, length, map, All, Option}
 use Rattle.dhcp_clock.specs.declared.link.Handed.{Handed}
 use Rattle.dhcp_clock.specs.declared.link.Packet.{Packet}
 use Rattle.dhcp_history.specs.Client.{view_of}
@@ -66,3 +66,23 @@ unfoldable pub outputs6 : Config → Option Lease → ℕ → List ℕ → List 
 outputs6 config lease start words events =
     map (output_of changed_v6) (outputs (protocol (config_in config words))
     (history6 config lease start words events))
+
+-- events can be played: they are at most 20,000, and their moments are below 2^60
+pub record CanPlay (events : List Event) : Type 0 where
+  pub few : length events ≤ 20000
+  pub moments : All (λ event. event.moment < 2 ^ 60) (numbered 1 events)
+
+-- these outputs are those of the life that the client begins, with these words left
+abbrev pub IsReportedOf : ClientParts → List ℕ → List Event → List PlainOutput → Type 0
+IsReportedOf client drawn events outs =
+    (life : Script Packet ClientState Exchange) → view_of client.client drawn ≡ first_view life →
+    life.events ≡ numbered 1 events →
+    outs ≡ map (output_of changed_v6)
+    (outputs (protocol client.config) (history (protocol client.config) life))
+
+-- the calls and polls of that life leave the client so
+abbrev pub IsLeftBy : ClientParts → List ℕ → List Event → ClientParts → Type 0
+IsLeftBy client drawn events new =
+    let final = (events_at (protocol client.config) (view_of client.client drawn)
+    (numbered 1 events)).view in
+    view_of new.client final.words ≡ final

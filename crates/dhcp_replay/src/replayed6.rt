@@ -1,6 +1,7 @@
 //! The life of an IPv6 client over the events of a script.
 
 ghost use Rattle.std.specs.Prelude.{◌≡◌, All, IfErr, IfOk, IfSome, OnOk, map, true};
+ghost use Rattle.dhcp_wire.specs.Error.{no_memory};
 ghost use Rattle.dhcp_script.specs.Output.{HasFailureText, plain_output};
 ghost use Rattle.dhcp_replay.specs.Promises6.{KeepsPromises};
 ghost use Rattle.dhcp_replay.specs.Replayed6 as lives;
@@ -53,9 +54,27 @@ pub fn replay6<W: Words>(
     }
     let mut client = DhcpV6Client::init(alloc, config, lease, start, words)?;
     laws::promises6_are_kept(&client);
+    let outputs = played(alloc, &mut client, words, events)?;
+    Ok(Replayed6 { outputs, client })
+}
+
+// What is reported of a client over these events.
+fn played<W: Words>(
+    alloc: Global,
+    client: &mut DhcpV6Client,
+    words: &mut W,
+    events: &[Event],
+) -> Result<Sequence<Output>, DhcpError>
+    requires { lives.CanPlay events.now }
+    ensures outputs { IfOk result (λ outputs. IfSome (W.left words.old) (λ drawn.
+        lives.IsReportedOf client.old drawn events.now (map plain_output outputs))) }
+    ensures client { IfOk result (λ outputs. IfSome (W.left words.old) (λ drawn.
+        lives.IsLeftBy client.old drawn events.now client.new)) }
+    ensures failures { IfOk result (λ outputs. IfSome (W.left words.old) (λ drawn.
+        All HasFailureText outputs)) }
+    ensures config { client.new.config ≡ client.old.config }
+    ensures error { IfErr result (λ error. error ≡ no_memory) }
+{
     let reported = client.replay(words, numbered(alloc, events)?)?;
-    Ok(Replayed6 {
-        outputs: outputs_of(alloc, reported)?,
-        client,
-    })
+    Ok(outputs_of(alloc, reported)?)
 }

@@ -1,38 +1,44 @@
 -- By the life of the client that begins.
-use Rattle.std.proofs.Common.{◌∙◌, sym}
+use Rattle.std.proofs.Common.{◌∙◌, refl, sym}
 use Rattle.std.specs.Prelude.{All, map}
-use Rattle.dhcp_history.specs.Client.{view_of}
+use Rattle.std.proofs.lemmas.Result.{err_from_is_err_and}
+use Rattle.dhcp6_client.specs.Client.{can_begin}
+use Rattle.dhcp_script.specs.Event.{are_valid}
 use Rattle.dhcp_script.specs.Output.{HasFailureText, plain_output}
+use Rattle.dhcp_replay.specs.Life.{numbered}
 use Rattle.dhcp_replay.proofs.Life6Lemmas.{client6, promises6, reported6, says6}
-use Rattle.dhcp_replay.proofs.ReplayLemmas.{few_events, moments_below, start_below}
-use Rattle.dhcp_replay.proofs.TextLemmas.{texts6}
+use Rattle.dhcp_replay.proofs.ReplayLemmas.{few_events, moments_below, refusal_of_begin, start_below}
 use Rattle.dhcp_replay.proofs.replayed6.replay6.Goals as goal
 
 pub init-requires : goal.init-requires
 init-requires g c = start_below c.args.start c.args.events.now (sym c.are_valid.ensures ∙ c.if-not-are_valid.false)
 
-pub numbered-requires : goal.numbered-requires
-numbered-requires g c = few_events c.args.start c.args.events.now (sym c.are_valid.ensures ∙ c.if-not-are_valid.false)
+pub played-requires : goal.played-requires
+played-requires g c = record {
+  few = few_events c.args.start c.args.events.now (sym c.are_valid.ensures ∙ c.if-not-are_valid.false);
+  moments = moments_below c.args.start c.args.events.now (numbered 1 c.args.events.now) refl (sym c.are_valid.ensures ∙ c.if-not-are_valid.false);
+}
 
-pub replay-requires : goal.replay-requires
-replay-requires g c = moments_below c.args.start c.args.events.now c.in_ok-numbered.field-0.items c.in_ok-numbered.ensures (sym c.are_valid.ensures ∙ c.if-not-are_valid.false)
+pub returns-in_err-client-clause-refused : goal.returns-in_err-client-clause-refused
+returns-in_err-client-clause-refused g c =
+    let exit = err_from_is_err_and c.from_residual.result c.from_residual.ensures.1 in
+    rw (exit.1, exit.2)
+    (refusal_of_begin (are_valid c.args.start c.args.events.now) (can_begin c.args.config c.args.lease) _ (sym c.are_valid.ensures ∙ c.if-not-are_valid.false) c.in_err-client.ensures.refused c.in_err-client.ensures.errors)
 
 pub returns-clause-outputs : goal.returns-clause-outputs
 returns-clause-outputs g c =
     reported6 c.args.config c.args.lease c.args.start c.args.events.now c.in_ok-client.client (g.W.Words.left c.args.words.now) (g.W.Words.left c.init.new.words) c.in_ok-client.ensures.drawn c.in_ok-client.ensures.begun
-    c.in_ok-numbered.field-0.items c.in_ok-reported.reported.items c.in_ok-numbered.ensures (map plain_output c.in_ok-outputs_of.field-0) c.in_ok-reported.ensures.history c.in_ok-outputs_of.ensures
+    (map plain_output c.in_ok-outputs.outputs) c.in_ok-outputs.ensures.outputs
 
 pub returns-clause-client : goal.returns-clause-client
 returns-clause-client g c =
     client6 c.args.config c.args.lease c.args.start c.args.events.now c.in_ok-client.client (g.W.Words.left c.args.words.now) (g.W.Words.left c.init.new.words) c.in_ok-client.ensures.drawn c.in_ok-client.ensures.begun
-    c.in_ok-numbered.field-0.items c.in_ok-reported.reported.items c.in_ok-numbered.ensures c.replay.new.self (g.W.Words.left c.replay.new.words) c.in_ok-reported.ensures.reported c.in_ok-reported.ensures.config
+    c.played.new.client c.in_ok-outputs.ensures.client c.in_ok-outputs.ensures.config
 
 pub returns-clause-failures : goal.returns-clause-failures
 returns-clause-failures g c =
     says6 c.args.config c.args.lease c.args.start c.args.events.now c.in_ok-client.client (g.W.Words.left c.args.words.now) (g.W.Words.left c.init.new.words) c.in_ok-client.ensures.drawn c.in_ok-client.ensures.begun
-    (All HasFailureText c.in_ok-outputs_of.field-0)
-    (texts6 c.in_ok-client.client.config (view_of c.in_ok-client.client.client) c.in_ok-numbered.field-0.items c.in_ok-outputs_of.field-0 c.in_ok-reported.reported.items (view_of c.replay.new.self.client) (g.W.Words.left c.replay.new.words) (g.W.Words.left c.init.new.words)
-    c.in_ok-outputs_of.ensures c.in_ok-reported.ensures.reported)
+    (All HasFailureText c.in_ok-outputs.outputs) c.in_ok-outputs.ensures.failures
 
 pub returns-clause-promises : goal.returns-clause-promises
 returns-clause-promises g c =
