@@ -131,7 +131,7 @@ const MESSAGES6: [(&str, &str); 15] = [
 
 // Fields that are no packets: the addresses of the lease; what else its text has where the Ack says
 // nothing of it; the carrier from the client's address to the server's. The same of an IPv6 lease:
-// up to its times, and what else its text has where the Reply was read, and in a lease of version 1.
+// up to its times, and what else its text has where the Reply was read, and in one of version 1.
 const FIELDS: [(&str, &str); 6] = [
     ("LEASE", "192.0.2.10 192.0.2.1 192.0.2.1"),
     ("REST", "0.0.0.0 none none none none none none none none"),
