@@ -1,6 +1,6 @@
 //! Laws of leases and of the messages that a client sends. A call does nothing.
 
-ghost use Rattle.std.specs.Prelude.{◌≡◌, ℕ, List, None, IsTrue, IsSome, length};
+ghost use Rattle.std.specs.Prelude.{◌≡◌, ℕ, List, None, IsTrue, IsSome};
 ghost use Rattle.std.specs.Net.Addr.{IsIpv4Addr};
 ghost use Rattle.dhcp4_msg.specs.Options.{OptionMap, said_by};
 ghost use Rattle.dhcp4_lease.specs.Config.{is_within_limits};
@@ -11,6 +11,7 @@ ghost use Rattle.dhcp4_lease.specs.MessageTable as table;
 
 use crate::message_table::server_of;
 use crate::{DhcpV4Config, DhcpV4Lease};
+use dhcp_wire::laws::has_six_bytes;
 use dhcp4_msg::laws::messages_read_back;
 
 /// A message that says its lease time and neither T1 nor T2 is never refused for its times,
@@ -64,13 +65,6 @@ fn is_typed(config: &DhcpV4Config)
 {
     has_six_bytes(config.src_mac);
     let _host_name = config.host_name.as_str();
-}
-
-// A MAC address has six bytes.
-fn has_six_bytes(mac: [u8; 6])
-    ensures { length mac ≡ 6 }
-{
-    let [_, _, _, _, _, _] = mac;
 }
 
 // What the types of a lease keep of the addresses that messages name.

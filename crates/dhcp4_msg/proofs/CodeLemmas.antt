@@ -1,28 +1,17 @@
 -- Codes of options and their numbers.
-use Rattle.std.proofs.Common.{◌≡◌, ℕ, Bool, true, false, ◌==◌, cond, List, [], ◌∷◌, Some, find, refl, sym, ap, ◌∙◌}
-use Rattle.std.specs.Prelude.{unwrap_or}
-use Rattle.std.proofs.lemmas.Bool.{eqb-true, false≢true}
+use Rattle.std.proofs.Common.{◌≡◌, ℕ, true, refl, sym, ap, ◌∙◌}
+use Rattle.std.proofs.lemmas.Bool.{false≢true}
+use Rattle.dhcp_wire.proofs.CodeLemmas as coded
 use Rattle.dhcp4_msg.specs.declared.option_code.DhcpV4OptionCode.{DhcpV4OptionCode}
 use Rattle.dhcp4_msg.specs.declared.option_code.DhcpV4OptionCode.TheVariants as codes
 use Rattle.dhcp4_msg.specs.declared.option_code.DhcpV4OptionCode.TheVariants.{Other}
 use Rattle.dhcp4_msg.specs.OptionCode.{code_of, number_of, named_codes}
 use Rattle.dhcp4_msg.specs.Value.{is_nameless}
 
--- what a search finds passes its test; and else there is the default
-found_or : {X : Type 0} (test : X → Bool) (P : X → Type 0) (xs : List X) (default : X) → ((x : X) → test x ≡ true → P x) → P default → P (unwrap_or (find test xs) default)
-found_or test P [] default passes other = other
-found_or test P (x ∷ xs) default passes other =
-    elim (test x) as (λ b. test x ≡ b → P (unwrap_or (cond b (Some x) (find test xs)) default)) [
-      | true ↦ λ is. passes x is
-      | false ↦ λ is. found_or test P xs default passes other
-    ] refl
-
 -- the number of the code of a number is that number
 pub number_of-code_of : (number : ℕ) → number_of (code_of number) ≡ number
 unfolding code_of number_of
-number_of-code_of number =
-    found_or (λ code. number_of code == number) (λ code. number_of code ≡ number) named_codes (Other number)
-    (λ code is. eqb-true _ _ is) refl
+number_of-code_of number = coded.number_of-code_of number_of named_codes number (Other number) refl
 
 -- a number without a name has its own code
 pub nameless : (number : ℕ) (code : DhcpV4OptionCode) → code_of number ≡ code → is_nameless code ≡ true → code_of number ≡ codes.Other number

@@ -1,6 +1,6 @@
 //! Laws: what is written reads back. A call does nothing.
 
-ghost use Rattle.std.specs.Prelude.{[], ◌≡◌, ◌<◌, ◌^◌, ◌++◌, ℕ, List, Some, IsTrue, length};
+ghost use Rattle.std.specs.Prelude.{[], ◌≡◌, ◌++◌, ℕ, List, Some, IsTrue};
 ghost use Rattle.std.specs.FinMap as map;
 ghost use Rattle.dhcp_wire.specs.RawOption.{raw_options};
 ghost use Rattle.dhcp_wire.specs.declared.raw_option.OptionFormat.TheVariants.{DhcpV4};
@@ -31,7 +31,7 @@ ghost use Rattle.dhcp4_msg.specs.Route.{route_at, written_route};
 ghost use Rattle.dhcp4_msg.specs.Value.{fits, written_option};
 
 use crate::{DhcpV4ClasslessRoute, DhcpV4Message, DhcpV4Option, DhcpV4Options};
-use dhcp_wire::laws::an_address_reads_back;
+use dhcp_wire::laws::{an_address_reads_back, fits_byte, fits_four_bytes, fits_two_bytes};
 use std::net::Ipv4Addr;
 
 /// The number of the code of a number is that number.
@@ -124,21 +124,6 @@ fn number_widths(message: &DhcpV4Message)
     fits_two_bytes(message.secs);
     fits_two_bytes(message.flags);
 }
-
-// A number of one byte,
-fn fits_byte(number: u8)
-    ensures { number < 2 ^ 8 }
-{}
-
-// of two bytes,
-fn fits_two_bytes(number: u16)
-    ensures { number < 2 ^ 16 }
-{}
-
-// and of four bytes.
-fn fits_four_bytes(number: u32)
-    ensures { number < 2 ^ 32 }
-{}
 
 // The addresses of a message are whole.
 fn address_widths(message: &DhcpV4Message)

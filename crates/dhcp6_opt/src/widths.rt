@@ -1,7 +1,7 @@
 //! What the values of every option have: numbers of their widths, whole addresses, texts of UTF-8.
 //! A call does nothing.
 
-ghost use Rattle.std.specs.Prelude.{◌<◌, ◌^◌, IfSome};
+ghost use Rattle.std.specs.Prelude.{IfSome};
 ghost use Rattle.std.specs.List.{AllByRecursion};
 ghost use Rattle.std.specs.Net.Addr.{IsIpv6Addr};
 ghost use Rattle.std.specs.Str.{IsUtf8};
@@ -13,7 +13,9 @@ use crate::{
     DhcpV6OptionStatus,
 };
 use dhcp_wire::Text;
-use dhcp_wire::laws::an_ipv6_address_reads_back;
+use dhcp_wire::laws::{
+    an_ipv6_address_reads_back, fits_byte, fits_four_bytes, fits_sixteen_bytes, fits_two_bytes,
+};
 use std::net::Ipv6Addr;
 
 // A type whose values have widths.
@@ -43,26 +45,6 @@ fn has_if_some<T: Widths>(item: &Option<T>)
         item.widths();
     }
 }
-
-// A number of one byte,
-fn fits_byte(number: u8)
-    ensures { number < 2 ^ 8 }
-{}
-
-// of two bytes,
-fn fits_two_bytes(number: u16)
-    ensures { number < 2 ^ 16 }
-{}
-
-// of four bytes,
-fn fits_four_bytes(number: u32)
-    ensures { number < 2 ^ 32 }
-{}
-
-// and of sixteen bytes.
-fn fits_sixteen_bytes(number: u128)
-    ensures { number < 2 ^ 128 }
-{}
 
 // Each number of a list of bytes is a byte.
 fn are_bytes(bytes: &[u8])
