@@ -1,8 +1,8 @@
 -- The configuration of a DHCPv4 client.
-use Rattle.std.specs.Prelude.{ℕ, Bool, true, false, List, [], ◌∷◌, ◌++◌, length, map, fold, replicate, Result, Ok, Err, ◌==◌, ◌&&◌, not, nat_le, if◌then◌else◌}
+use Rattle.std.specs.Prelude.{ℕ, Bool, true, false, List, [], ◌∷◌, ◌++◌, length, map, replicate, Result, Ok, Err, ◌==◌, ◌&&◌, not, nat_le, if◌then◌else◌}
 use Rattle.std.specs.List.{list_any}
 use Rattle.std.specs.Ordering.{nat_cmp}
-use Rattle.std.specs.BTreeSet.{insert_key}
+use Rattle.dhcp_wire.specs.OptionCodes as option_codes
 use Rattle.dhcp_wire.specs.declared.error.ErrorKind.{ErrorKind}
 use Rattle.dhcp_wire.specs.declared.error.ErrorKind.TheVariants.{NotSupported}
 use Rattle.dhcp_wire.specs.Mac.{bytes_of_mac}
@@ -69,22 +69,14 @@ with_host_name_as_client_id config = named config.host_name
     named [] = config
     named (byte ∷ bytes) = record config { client_id = 0 ∷ byte ∷ bytes }
 
--- numbers in rising order, each once
-abbrev pub rising : List ℕ → List ℕ
-rising numbers = fold (insert_key nat_cmp) [] numbers
-
 -- the codes of these numbers in rising order, each once
-unfoldable pub rising_codes : List ℕ → List DhcpV4OptionCode
-rising_codes numbers = map code_of (rising numbers)
-
--- the numbers of codes
-abbrev pub numbers_of : List DhcpV4OptionCode → List ℕ
-numbers_of asked = map number_of asked
+abbrev pub rising_codes : List ℕ → List DhcpV4OptionCode
+rising_codes = option_codes.rising_codes nat_cmp code_of
 
 -- a configuration that requests these options too
 abbrev pub with_extra_requests : Config → List ℕ → Config
 with_extra_requests config numbers =
-    record config { request_opts = rising_codes (numbers_of config.request_opts ++ numbers) }
+    record config { request_opts = rising_codes (map number_of config.request_opts ++ numbers) }
 
 -- Whether the values of a configuration fit their options: the host name has at most 254 bytes and
 -- no zero byte, the client identifier at most 255 bytes, and at most 255 options are asked for.

@@ -2,7 +2,7 @@
 
 mod setters;
 
-ghost use Rattle.std.specs.Prelude.{◌≡◌, [], ◌∷◌, ◌++◌, map, IfOk, Ok};
+ghost use Rattle.std.specs.Prelude.{◌≡◌, [], ◌∷◌, IfOk, Ok};
 ghost use Rattle.std.specs.Borrow.{sem};
 ghost use Rattle.dhcp_wire.specs.Outcome.{Answers, Gives, Makes};
 ghost use Rattle.dhcp4_msg.specs.OptionCode.{code_of};
@@ -12,19 +12,18 @@ ghost use Rattle.dhcp4_lease.specs.Config.{
   is_within_limits,
   mac_of_bytes,
   mac_of_text,
-  numbers_of,
   proxy_config,
-  rising,
   rising_codes,
   with_extra_requests,
   with_host_name_as_client_id,
   with_mac,
 };
 
-use dhcp_wire::{Bytes, DhcpError, ErrorKind, FixedText, Sequence, Text, parse_mac, setter_answer};
+use dhcp_wire::{
+    Bytes, DhcpError, ErrorKind, FixedText, Sequence, Text, codes_of, parse_mac, setter_answer,
+};
 use dhcp4_msg::DhcpV4OptionCode;
 use std::alloc::Global;
-use std::collections::BTreeSet;
 use std::marker::Model;
 
 // The option codes of the default parameter request list.
@@ -310,49 +309,4 @@ pub(crate) fn joined(alloc: Global, first: u8, bytes: &[u8]) -> Result<Bytes, Dh
     joined.push(first)?;
     joined.extend_from_slice(bytes)?;
     Ok(Bytes::from(joined))
-}
-
-// The numbers of these codes.
-pub(crate) fn numbers_of(alloc: Global, asked: &[DhcpV4OptionCode]) -> Result<Vec<u8>, DhcpError>
-    ensures { Makes (λ numbers. numbers.items) result (numbers_of asked.now) }
-{
-    let mut numbers = Vec::new(alloc);
-    for code in asked {
-        numbers.push(u8::from(*code))?;
-    }
-    Ok(numbers)
-}
-
-// The codes of these numbers.
-fn codes_of(alloc: Global, numbers: &[u8]) -> Result<Sequence<DhcpV4OptionCode>, DhcpError>
-    ensures { Makes (λ codes. codes) result (map code_of numbers.now) }
-{
-    let mut codes = Vec::with_capacity(alloc, numbers.len())?;
-    for number in numbers {
-        codes.push(DhcpV4OptionCode::from(*number))?;
-    }
-    Ok(Sequence::from(codes))
-}
-
-// The codes of these numbers in rising order, each once.
-#[tactic(auto, unfolding(crate::specs::Config::rising_codes))]
-pub(crate) fn rising_codes(
-    alloc: Global,
-    numbers: &[u8],
-) -> Result<Sequence<DhcpV4OptionCode>, DhcpError>
-    ensures { Makes (λ codes. codes) result (rising_codes numbers.now) }
-{
-    let rising = rising(alloc, numbers)?;
-    codes_of(alloc, rising.as_slice())
-}
-
-// These numbers in rising order, each once.
-fn rising(alloc: Global, numbers: &[u8]) -> Result<Vec<u8>, DhcpError>
-    ensures { Makes (λ rising. rising.items) result (rising numbers.now) }
-{
-    let mut kept = BTreeSet::new(alloc);
-    for number in numbers {
-        kept.insert(*number)?;
-    }
-    Ok(kept.into_iter().collect(alloc)?)
 }

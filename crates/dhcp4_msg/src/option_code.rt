@@ -8,6 +8,7 @@ ghost use Rattle.std.specs.Cmp.Rules.{comparing, hashing};
 ghost use Rattle.std.specs.Hash as fed;
 ghost use Rattle.dhcp4_msg.specs.OptionCode.{code_of, number_of};
 
+use dhcp_wire::OptionCode;
 use std::cmp::Ordering;
 use std::hash::{Hash, Hasher};
 
@@ -118,6 +119,22 @@ impl From<DhcpV4OptionCode> for u8 {
             DhcpV4OptionCode::End => 255,
             DhcpV4OptionCode::Other(number) => number,
         }
+    }
+}
+
+impl OptionCode for DhcpV4OptionCode {
+    type Number = u8;
+
+    ghost code_of = { code_of };
+
+    ghost number_of = { number_of };
+
+    fn from_number(number: u8) -> Self {
+        DhcpV4OptionCode::from(number)
+    }
+
+    fn number(self) -> u8 {
+        u8::from(self)
     }
 }
 

@@ -1,9 +1,9 @@
 -- The configuration of a DHCPv6 client.
-use Rattle.std.specs.Prelude.{◌≡◌, ℕ, ◌&&◌, nat_le, Bool, List, [], ◌∷◌, ◌++◌, length, map, fold, Option, Some, None, Result, Ok, Err}
+use Rattle.std.specs.Prelude.{◌≡◌, ℕ, ◌&&◌, nat_le, Bool, List, [], ◌∷◌, ◌++◌, length, map, Option, Some, None, Result, Ok, Err}
 use Rattle.std.specs.Ordering.{nat_cmp}
-use Rattle.std.specs.BTreeSet.{insert_key}
 use Rattle.std.specs.declared.net.Ipv6Addr.{Ipv6Addr}
 use Rattle.dhcp_wire.specs.Error.{ErrorParts, no_memory}
+use Rattle.dhcp_wire.specs.OptionCodes as option_codes
 use Rattle.dhcp_clock.specs.Words.{Drawn, undrawn}
 use Rattle.dhcp6_opt.specs.declared.duid.DhcpV6Duid.{DhcpV6Duid}
 use Rattle.dhcp6_opt.specs.declared.duid.DhcpV6Duid.TheVariants.{LinkLayerAddress, Raw}
@@ -66,22 +66,14 @@ abbrev pub SetsDuid : {X : Type 0} → Result X ErrorParts → Config → Config
 SetsDuid (Ok _) old new duid = new ≡ record old { duid = duid }
 SetsDuid (Err e) old new duid = (e ≡ no_memory) × (new ≡ old)
 
--- numbers in rising order, each once
-abbrev pub rising : List ℕ → List ℕ
-rising numbers = fold (insert_key nat_cmp) [] numbers
-
 -- the codes of these numbers in rising order, each once
-unfoldable pub rising_codes : List ℕ → List DhcpV6OptionCode
-rising_codes numbers = map code_of (rising numbers)
-
--- the numbers of codes
-abbrev pub numbers_of : List DhcpV6OptionCode → List ℕ
-numbers_of asked = map number_of asked
+abbrev pub rising_codes : List ℕ → List DhcpV6OptionCode
+rising_codes = option_codes.rising_codes nat_cmp code_of
 
 -- a configuration that requests these options too
 abbrev pub with_extra_requests : Config → List ℕ → Config
 with_extra_requests config numbers =
-    record config { request_opts = rising_codes (numbers_of config.request_opts ++ numbers) }
+    record config { request_opts = rising_codes (map number_of config.request_opts ++ numbers) }
 
 -- Whether the values of a configuration fit their options: the identifier has at most 65,535 bytes,
 -- and at most 32,767 options are asked for.

@@ -2,7 +2,7 @@
 
 mod setters;
 
-ghost use Rattle.std.specs.Prelude.{◌≡◌, ◌||◌, [], ◌++◌, length, map, IfOk, IsTrue, Some};
+ghost use Rattle.std.specs.Prelude.{◌≡◌, ◌||◌, [], IfOk, IsTrue, Some};
 ghost use Rattle.std.specs.Borrow.{sem};
 ghost use Rattle.dhcp_wire.specs.Outcome.{Makes};
 ghost use Rattle.dhcp_clock.specs.Words.{Draws};
@@ -18,18 +18,16 @@ ghost use Rattle.dhcp6_msg.specs.Config.{
   config_of,
   ethernet_duid,
   is_within_limits,
-  numbers_of,
-  rising,
   rising_codes,
   with_extra_requests,
 };
 
 use crate::DhcpV6Mode;
 use dhcp_clock::Words;
-use dhcp_wire::{Bytes, DhcpError, Sequence, Text, TryClone, setter_answer};
+use dhcp_wire::laws::has_six_bytes;
+use dhcp_wire::{Bytes, DhcpError, Sequence, Text, TryClone, codes_of, setter_answer};
 use dhcp6_opt::{DhcpV6Duid, DhcpV6DuidLinkLayerAddr, DhcpV6OptionCode};
 use std::alloc::Global;
-use std::collections::BTreeSet;
 use std::marker::Model;
 use std::net::Ipv6Addr;
 
@@ -317,56 +315,4 @@ fn made_duid<W: Words>(
         }
         None => DhcpV6Duid::random(alloc, words),
     }
-}
-
-// What the type of a MAC address keeps.
-fn has_six_bytes(mac: [u8; 6])
-    ensures { length mac ≡ 6 }
-{
-    let [_, _, _, _, _, _] = mac;
-}
-
-// The numbers of these codes.
-pub(crate) fn numbers_of(alloc: Global, asked: &[DhcpV6OptionCode]) -> Result<Vec<u16>, DhcpError>
-    ensures { Makes (λ numbers. numbers.items) result (numbers_of asked.now) }
-{
-    let mut numbers = Vec::new(alloc);
-    for code in asked {
-        numbers.push(u16::from(*code))?;
-    }
-    Ok(numbers)
-}
-
-// The codes of these numbers.
-fn codes_of(alloc: Global, numbers: &[u16]) -> Result<Sequence<DhcpV6OptionCode>, DhcpError>
-    ensures { Makes (λ codes. codes) result (map code_of numbers.now) }
-{
-    let mut codes = Vec::with_capacity(alloc, numbers.len())?;
-    for number in numbers {
-        codes.push(DhcpV6OptionCode::from(*number))?;
-    }
-    Ok(Sequence::from(codes))
-}
-
-// The codes of these numbers in rising order, each once.
-#[tactic(auto, unfolding(crate::specs::Config::rising_codes))]
-pub(crate) fn rising_codes(
-    alloc: Global,
-    numbers: &[u16],
-) -> Result<Sequence<DhcpV6OptionCode>, DhcpError>
-    ensures { Makes (λ codes. codes) result (rising_codes numbers.now) }
-{
-    let rising = rising(alloc, numbers)?;
-    codes_of(alloc, rising.as_slice())
-}
-
-// These numbers in rising order, each once.
-fn rising(alloc: Global, numbers: &[u16]) -> Result<Vec<u16>, DhcpError>
-    ensures { Makes (λ rising. rising.items) result (rising numbers.now) }
-{
-    let mut kept = BTreeSet::new(alloc);
-    for number in numbers {
-        kept.insert(*number)?;
-    }
-    Ok(kept.into_iter().collect(alloc)?)
 }

@@ -8,6 +8,7 @@ ghost use Rattle.std.specs.Cmp.Rules.{comparing, hashing};
 ghost use Rattle.std.specs.Hash as fed;
 ghost use Rattle.dhcp6_opt.specs.OptionCode.{code_of, code_name, number_of};
 
+use dhcp_wire::OptionCode;
 use std::cmp::Ordering;
 use std::fmt;
 use std::hash::{Hash, Hasher};
@@ -131,6 +132,22 @@ impl fmt::Display for DhcpV6OptionCode {
             DhcpV6OptionCode::NtpServer => "OPTION_NTP_SERVER",
             DhcpV6OptionCode::Other(number) => return write!(f, "Unknown({number})"),
         })
+    }
+}
+
+impl OptionCode for DhcpV6OptionCode {
+    type Number = u16;
+
+    ghost code_of = { code_of };
+
+    ghost number_of = { number_of };
+
+    fn from_number(number: u16) -> Self {
+        DhcpV6OptionCode::from(number)
+    }
+
+    fn number(self) -> u16 {
+        u16::from(self)
     }
 }
 

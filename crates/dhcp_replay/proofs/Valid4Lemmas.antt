@@ -5,12 +5,11 @@ use Rattle.std.specs.List.{list_any}
 use Rattle.std.specs.Option.{option_map_or}
 use Rattle.std.specs.Str.{IsUtf8, is_utf8}
 use Rattle.std.proofs.lemmas.Bool.{and_from, and_parts, le-leb, leb-true}
-use Rattle.std.proofs.lemmas.List.{length-map}
 use Rattle.std.proofs.lemmas.Str.{IsUtf8-from_is_utf8}
 use Rattle.dhcp_wire.specs.Error.{ErrorParts}
 use Rattle.dhcp4_msg.specs.OptionCode.{code_of}
 use Rattle.dhcp4_lease.specs.Config as configs
-use Rattle.dhcp4_lease.specs.Config.{rising, rising_codes}
+use Rattle.dhcp4_lease.specs.Config.{rising_codes}
 use Rattle.dhcp4_lease.specs.Lease as leases
 use Rattle.dhcp_script.specs.Event.{are_valid}
 use Rattle.dhcp_script.specs.Lease4.{lease_with}
@@ -20,18 +19,13 @@ use Rattle.dhcp_script.specs.declared.lease4.Lease4.{Lease4}
 use Rattle.dhcp_script.specs.declared.script4.Script4.{Script4}
 use Rattle.dhcp_replay.specs.Life.{IsRefusal}
 use Rattle.dhcp_replay.specs.Replayed4.{can_replay}
-use Rattle.dhcp_replay.proofs.RisingLemmas.{rising_from}
-
--- codes in rising order are no more than were listed
-rising_few : (numbers : List ℕ) → length (rising_codes numbers) ≤ length numbers
-unfolding rising_codes
-rising_few numbers = rw (length-map (rising numbers) code_of) (omega (arith, rising_from numbers []))
+use Rattle.dhcp_replay.proofs.RisingLemmas.{rising_few}
 
 -- so many options are asked for at most
 requested_few : (codes : Option (List ℕ)) → are_few codes ≡ true → nat_le (length (requested codes (configs.config_of []).request_opts)) 255 ≡ true
 unfolding configs.config_of
 requested_few None few = refl
-requested_few (Some listed) few = le-leb (length (rising_codes listed)) 255 (omega (arith, rising_few listed, leb-true (length listed) 255 few))
+requested_few (Some listed) few = le-leb (length (rising_codes listed)) 255 (omega (arith, rising_few code_of listed, leb-true (length listed) 255 few))
 
 -- the lease that is held has the times of the script
 order_kept : (lease : Option Lease4) → is_in_order lease ≡ true → option_map_or leases.are_times_in_order (option_map lease_with lease) true ≡ true

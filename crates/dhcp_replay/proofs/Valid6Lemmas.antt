@@ -3,13 +3,12 @@ use Rattle.std.proofs.Common.{◌≡◌, ℕ, ◌≤◌, Bool, true, false, List
 use Rattle.std.specs.Prelude.{◌&&◌, ◌||◌, ◌==◌, nat_le, not, option_map, IfErr, Result}
 use Rattle.std.specs.Option.{option_map_or}
 use Rattle.std.proofs.lemmas.Bool.{and_from, and_parts, eqb-true, le-leb, leb-true}
-use Rattle.std.proofs.lemmas.List.{length-map}
 use Rattle.dhcp_wire.specs.Error.{ErrorParts}
 use Rattle.dhcp6_opt.specs.declared.duid.DhcpV6Duid.{DhcpV6Duid}
 use Rattle.dhcp6_opt.specs.Duid.{written_duid}
 use Rattle.dhcp6_opt.specs.OptionCode.{code_of}
 use Rattle.dhcp6_msg.specs.Config as configs
-use Rattle.dhcp6_msg.specs.Config.{rising, rising_codes}
+use Rattle.dhcp6_msg.specs.Config.{rising_codes}
 use Rattle.dhcp6_msg.specs.Lease as leases
 use Rattle.dhcp6_msg.specs.Lease.{is_no_duid, is_unspecified}
 use Rattle.dhcp_script.specs.Codes.{are_few, requested}
@@ -23,17 +22,12 @@ use Rattle.dhcp_script.specs.declared.script6.Script6.{Script6}
 use Rattle.dhcp_replay.specs.Life.{IsRefusal}
 use Rattle.dhcp_replay.specs.Replayed6.{can_replay}
 use Rattle.dhcp_replay.proofs.DuidLemmas.{length-duid, no_duid}
-use Rattle.dhcp_replay.proofs.RisingLemmas.{rising_from}
-
--- codes in rising order are no more than were listed
-rising_few : (numbers : List ℕ) → length (rising_codes numbers) ≤ length numbers
-unfolding rising_codes
-rising_few numbers = rw (length-map (rising numbers) code_of) (omega (arith, rising_from numbers []))
+use Rattle.dhcp_replay.proofs.RisingLemmas.{rising_few}
 
 requested_few : (codes : Option (List ℕ)) (mode : _) → are_few most_codes codes ≡ true → nat_le (length (requested rising_codes codes (configs.config_of [] mode).request_opts)) 32767 ≡ true
 unfolding configs.config_of
 requested_few None mode few = refl
-requested_few (Some listed) mode few = le-leb (length (rising_codes listed)) 32767 (omega (arith, rising_few listed, leb-true (length listed) most_codes few))
+requested_few (Some listed) mode few = le-leb (length (rising_codes listed)) 32767 (omega (arith, rising_few code_of listed, leb-true (length listed) most_codes few))
 
 -- an identifier of a script can be sent
 duid_sent : (bytes : List ℕ) → is_duid bytes ≡ true → leases.is_duid (duid_of bytes) ≡ true

@@ -1,7 +1,7 @@
 //! The steps of the setters that may refuse: each changes the configuration and returns its
 //! reference, or leaves it as it was.
 
-ghost use Rattle.std.specs.Prelude.{◌≡◌, ◌∷◌, ◌++◌, IfOk};
+ghost use Rattle.std.specs.Prelude.{◌≡◌, ◌∷◌, IfOk};
 ghost use Rattle.std.specs.Borrow.{sem};
 ghost use Rattle.dhcp_wire.specs.Outcome.{Answers, Gives, Makes};
 ghost use Rattle.dhcp_wire.specs.Setter.{setter_answer};
@@ -9,15 +9,14 @@ ghost use Rattle.dhcp4_lease.specs.Setter.{UnchangedIfRefused};
 ghost use Rattle.dhcp4_lease.specs.Config.{
   mac_of_bytes,
   mac_of_text,
-  numbers_of,
   rising_codes,
   with_extra_requests,
   with_host_name_as_client_id,
   with_mac,
 };
 
-use crate::config::{DhcpV4Config, joined, mac_of_bytes, mac_of_text, numbers_of, rising_codes};
-use dhcp_wire::{DhcpError, SetterStep, Text};
+use crate::config::{DhcpV4Config, joined, mac_of_bytes, mac_of_text};
+use dhcp_wire::{DhcpError, SetterStep, Text, rising_codes, rising_codes_with};
 use std::alloc::Global;
 
 impl DhcpV4Config {
@@ -129,9 +128,7 @@ impl DhcpV4Config {
             (λ config. config.ghost_name ≡ self.entry.ghost_name) }
         ensures* refused { sem 𝓛 (UnchangedIfRefused self.entry (setter_answer result)) }
     {
-        let mut numbers = numbers_of(alloc, self.request_opts.as_slice())?;
-        numbers.extend_from_slice(opts)?;
-        self.request_opts = rising_codes(alloc, numbers.as_slice())?;
+        self.request_opts = rising_codes_with(alloc, self.request_opts.as_slice(), opts)?;
         Ok(SetterStep { value: self })
     }
 

@@ -8,8 +8,8 @@ ghost use Rattle.dhcp_wire.specs.Setter.{setter_answer};
 ghost use Rattle.dhcp6_msg.specs.Setter.{UnchangedIfRefused};
 ghost use Rattle.dhcp6_msg.specs.Config.{ethernet_duid, rising_codes, with_extra_requests};
 
-use crate::config::{DhcpV6Config, ethernet_duid, numbers_of, rising_codes};
-use dhcp_wire::{DhcpError, SetterStep};
+use crate::config::{DhcpV6Config, ethernet_duid};
+use dhcp_wire::{DhcpError, SetterStep, rising_codes, rising_codes_with};
 use std::alloc::Global;
 
 impl DhcpV6Config {
@@ -41,9 +41,7 @@ impl DhcpV6Config {
             (λ config. config.ghost_name ≡ self.entry.ghost_name) }
         ensures* refused { sem 𝓛 (UnchangedIfRefused self.entry (setter_answer result)) }
     {
-        let mut numbers = numbers_of(alloc, self.request_opts.as_slice())?;
-        numbers.extend_from_slice(opts)?;
-        self.request_opts = rising_codes(alloc, numbers.as_slice())?;
+        self.request_opts = rising_codes_with(alloc, self.request_opts.as_slice(), opts)?;
         Ok(SetterStep { value: self })
     }
 
