@@ -77,9 +77,18 @@ const LEASED_AT_ONCE: &str = "at 0 ok frame OFFER\nat 0 ok frame ACK_OF_600\n";
 const TO_LEASE_AT_ONCE: &str = "1 handed frame DISCOVER\n1 state selecting\n\
     1 handed frame REQUEST\n2 state done LEASE 300 525 600 REST\n";
 
-// Each life: what it shows, the line that is changed, events that come first, further events, what
-// is printed of the first, what is printed of the others.
-const LIVES: [(&str, (&str, &str), &str, &str, &str, &str); 27] = [
+/// One life: what it shows, the line that is changed, events that come first, further events, what
+/// is printed of the first, what is printed of the others.
+pub(super) type Life = (
+    &'static str,
+    (&'static str, &'static str),
+    &'static str,
+    &'static str,
+    &'static str,
+    &'static str,
+);
+
+const LIVES: [Life; 35] = [
     ("a lease in three events", SAME, LEASED, "", TO_LEASE, ""),
     (
         "an Offer in the event of the Discover",
@@ -302,6 +311,72 @@ const LIVES: [(&str, (&str, &str), &str, &str, &str, &str); 27] = [
         "1 handed frame DISCOVER\n2 state selecting\n2 refused frame REQUEST\n",
         "4 handed frame REQUEST\n4 state done LEASE 48 85 100 REST\n",
     ),
+    (
+        "a refused Discover, until its wait is over",
+        SAME,
+        "at 0 refuse frame OFFER\nat 2999 ok frame OFFER\nat 3000 ok none\n",
+        "",
+        "1 refused frame DISCOVER\n3 handed frame DISCOVER\n",
+        "",
+    ),
+    (
+        "a refused request of a lease that was held before",
+        HELD,
+        "at 0 refuse frame ACK\nat 2999 ok frame ACK\nat 3000 ok none\n",
+        "",
+        "1 refused frame REBOOT\n3 handed frame REBOOT\n",
+        "",
+    ),
+    (
+        "a refused Rebind",
+        SAME,
+        LEASED_AT_ONCE,
+        "at 525000 refuse frame ACK_OF_600\nat 584999 ok frame ACK_OF_600\nat 585000 ok none\n",
+        TO_LEASE_AT_ONCE,
+        "3 state renewing\n3 state rebinding\n3 refused frame REBIND\n5 handed frame REBIND\n",
+    ),
+    (
+        "an Ack of a rebinding request",
+        SAME,
+        LEASED_AT_ONCE,
+        "at 525000 ok none\nat 526000 ok frame ACK_OF_600\n",
+        TO_LEASE_AT_ONCE,
+        "3 state renewing\n3 state rebinding\n3 handed frame REBIND\n\
+        4 state done LEASE 300 525 600 REST\n",
+    ),
+    (
+        "a Nack of a rebinding request, which comes in a frame",
+        SAME,
+        LEASED_AT_ONCE,
+        "at 525000 ok none\nat 525010 ok payload NACK_PAYLOAD\nat 525020 ok frame NACK\n",
+        TO_LEASE_AT_ONCE,
+        "3 state renewing\n3 state rebinding\n3 handed frame REBIND\n5 state init_reboot\n\
+        5 handed frame DISCOVER\n",
+    ),
+    (
+        "a Nack of a lease that was held before",
+        HELD,
+        "at 0 ok none\nat 10 ok frame NACK\n",
+        "",
+        "1 handed frame REBOOT\n2 state init_reboot\n2 handed frame DISCOVER\n",
+        "",
+    ),
+    (
+        "a Nack where an Offer is awaited",
+        SAME,
+        "at 0 ok none\nat 1 ok frame NACK\n",
+        "",
+        "1 handed frame DISCOVER\n",
+        "",
+    ),
+    (
+        "a release of a lease that was held before",
+        HELD,
+        "at 0 ok none\nat 10 ok release\n",
+        "",
+        "1 handed frame REBOOT\n2 handed UNICAST RELEASE\n2 handed frame DISCOVER\n",
+        "",
+    ),
 ];
 
 // What is printed for a script with this line changed and these events.
@@ -321,16 +396,6 @@ fn is_printed(
     let (status, taken) = run(alloc, &["run"], text.as_bytes(), [0, 0])?;
     Ok(status == 0 && taken.as_slice() == wanted.as_bytes())
 }
-
-/// One life: what it shows, and the other fields of `LIVES`.
-pub(super) type Life = (
-    &'static str,
-    (&'static str, &'static str),
-    &'static str,
-    &'static str,
-    &'static str,
-    &'static str,
-);
 
 /// Fails with the name of the first life that is not printed so.
 pub(super) fn are_printed(alloc: Global, family: Family, lives: &[Life]) -> Result<(), Fail> {

@@ -22,6 +22,8 @@ const HELD: (&str, &str) = ("lease", "LEASE6 50 80 100 200 REST6");
 
 const PREFIX: (&str, &str) = ("iface", "1 fe800000000000000000000000000001 - pd 60 0");
 
+const TEMPORARY: (&str, &str) = ("iface", "1 fe800000000000000000000000000001 - ta 0");
+
 const LIMIT_OF_1: (&str, &str) = ("iface", "1 fe800000000000000000000000000001 - na 1");
 
 // Words of which the Renew draws the transaction id 7, and the Rebind 8.
@@ -40,8 +42,8 @@ const TO_REQUEST: &str = "1 handed udp6 SOLICIT6.0000\n2 state request\n\
 const TO_LEASE: &str = "1 handed udp6 SOLICIT6.0000\n2 state request\n\
     2 handed udp6 REQUEST6.0000\n3 state done LEASE6 50 80 100 200 REST6\n";
 
-// Each life, as in the table of IPv4.
-const LIVES: [Life; 12] = [
+// Each life, as those of an IPv4 client.
+const LIVES: [Life; 17] = [
     ("a lease in three events", SAME, LEASED, "", TO_LEASE, ""),
     (
         "eleven requests of an offer, and a new Solicit",
@@ -147,6 +149,50 @@ const LIVES: [Life; 12] = [
         "at 1500 ok none\nat 2000 ok cleanup\n",
         "1 handed udp6 SOLICIT6.0000\n2 failed timeout\n",
         "3 failed timeout\n4 handed udp6 SOLICIT6.0000\n",
+    ),
+    (
+        "a refused Solicit, until its wait is over",
+        SAME,
+        "at 0 refuse payload ADVERTISE6\nat 899 ok payload ADVERTISE6\nat 900 ok none\n",
+        "",
+        "1 refused udp6 SOLICIT6.0000\n3 handed udp6 SOLICIT6.005a\n",
+        "",
+    ),
+    (
+        "a Reply where an Advertise is awaited",
+        SAME,
+        "at 0 ok none\nat 1 ok payload REPLY6_TO_SOLICIT\n",
+        "",
+        "1 handed udp6 SOLICIT6.0000\n",
+        "",
+    ),
+    (
+        "Replies that grant nothing, and one without the identifier of the client",
+        SAME,
+        "at 0 ok none\nat 100 ok payload ADVERTISE6\n",
+        "at 110 ok payload REPLY6_TO_7\nat 120 ok payload REPLY6_OF_NO_ADDRESS\n\
+        at 130 ok payload REPLY6_WITHOUT_SERVER\nat 140 ok payload REPLY6_WITHOUT_CLIENT\n",
+        TO_REQUEST,
+        "6 state done LEASE6 50 80 100 200 NO_REST6\n",
+    ),
+    (
+        "a Reply to the Renew",
+        SAME,
+        LEASED,
+        "at 50200 ok none\nat 59200 ok payload REPLY6\n",
+        TO_LEASE,
+        "4 state renew\n4 handed udp6 RENEW6.0000\n5 handed udp6 RENEW6.0384\n\
+        5 state done LEASE6 50 80 100 200 REST6\n",
+    ),
+    (
+        "temporary addresses are not renewed",
+        TEMPORARY,
+        "at 0 ok none\nat 100 ok payload ADVERTISE6_OF_TEMPORARY\n",
+        "at 200 ok payload REPLY6_OF_TEMPORARY\nat 604800199 ok none\nat 604800200 ok none\n",
+        "1 handed udp6 SOLICIT6_OF_TEMPORARY.0000\n2 state request\n\
+        2 handed udp6 REQUEST6_OF_TEMPORARY.0000\n",
+        "3 state done LEASE6_OF_TEMPORARY 0 0 86400 604800 REST6\n5 state solicit\n\
+        5 handed udp6 SOLICIT6_OF_TEMPORARY_AGAIN.0000\n",
     ),
 ];
 

@@ -87,8 +87,9 @@ const PACKETS: [(&str, &str, &str, &str, &str); 19] = [
 ];
 
 // Options of DHCPv6: the identifiers of the client and of the server; what a Solicit asks for; the
-// association with its address, with times and without; the codes that are asked for.
-const OPTIONS6: [(&str, &str); 7] = [
+// association with its address, with times and without; that of a temporary address, as it is
+// granted and as it is requested; the codes that are asked for; the status NoAddrsAvail.
+const OPTIONS6: [(&str, &str); 11] = [
     ("CLIENT_ID", "0001000a00030001020000000001"),
     ("SERVER_ID", "0002000a00030001020000000002"),
     ("NO_ADDRESS", "0003000c *12"),
@@ -101,20 +102,46 @@ const OPTIONS6: [(&str, &str); 7] = [
         "ADDRESS_OF_NO_TIME",
         "00030028 *12 00050018 20010db8000000000000000000000010 *8",
     ),
+    ("NO_TEMPORARY", "00040004 *4"),
+    (
+        "GRANTED_TEMPORARY",
+        "00040020 *4 00050018 20010db8000000000000000000000010 00000064 000000c8",
+    ),
+    (
+        "REQUESTED_TEMPORARY",
+        "00040020 *4 00050018 20010db8000000000000000000000010 00015180 00093a80",
+    ),
     ("CODES", "000600020017"),
+    ("NO_ADDRS_AVAIL", "000d00020002"),
 ];
 
 // Messages of DHCPv6, each without its elapsed time: the type, the transaction id and the options.
-const MESSAGES6: [(&str, &str); 15] = [
+const MESSAGES6: [(&str, &str); 24] = [
     ("SOLICIT6", "01abcdef CLIENT_ID NO_ADDRESS CODES"),
     (
         "SOLICIT6_OF_PREFIX",
         "01abcdef CLIENT_ID CODES 000800020000 NO_PREFIX",
     ),
     ("SOLICIT6_AGAIN", "01000000 CLIENT_ID NO_ADDRESS CODES"),
+    (
+        "SOLICIT6_OF_TEMPORARY",
+        "01abcdef CLIENT_ID NO_TEMPORARY CODES",
+    ),
+    (
+        "SOLICIT6_OF_TEMPORARY_AGAIN",
+        "01000000 CLIENT_ID NO_TEMPORARY CODES",
+    ),
     ("ADVERTISE6", "02abcdef CLIENT_ID SERVER_ID ADDRESS"),
+    (
+        "ADVERTISE6_OF_TEMPORARY",
+        "02abcdef CLIENT_ID SERVER_ID GRANTED_TEMPORARY",
+    ),
     ("ADVERTISE6_TO_0", "02000000 CLIENT_ID SERVER_ID ADDRESS"),
     ("REQUEST6", "03000000 CLIENT_ID SERVER_ID ADDRESS CODES"),
+    (
+        "REQUEST6_OF_TEMPORARY",
+        "03000000 CLIENT_ID SERVER_ID REQUESTED_TEMPORARY CODES",
+    ),
     ("RENEW6", "05000000 CLIENT_ID SERVER_ID ADDRESS CODES"),
     ("RENEW6_OF_7", "05000007 CLIENT_ID SERVER_ID ADDRESS CODES"),
     ("REBIND6", "06000000 CLIENT_ID ADDRESS CODES"),
@@ -124,6 +151,17 @@ const MESSAGES6: [(&str, &str); 15] = [
         "REPLY6_OF_NO_TIME",
         "07000000 CLIENT_ID SERVER_ID ADDRESS_OF_NO_TIME",
     ),
+    (
+        "REPLY6_OF_NO_ADDRESS",
+        "07000000 CLIENT_ID SERVER_ID ADDRESS NO_ADDRS_AVAIL",
+    ),
+    (
+        "REPLY6_OF_TEMPORARY",
+        "07000000 CLIENT_ID SERVER_ID GRANTED_TEMPORARY",
+    ),
+    ("REPLY6_WITHOUT_SERVER", "07000000 CLIENT_ID ADDRESS"),
+    ("REPLY6_WITHOUT_CLIENT", "07000000 SERVER_ID ADDRESS"),
+    ("REPLY6_TO_SOLICIT", "07abcdef CLIENT_ID SERVER_ID ADDRESS"),
     ("REPLY6_TO_7", "07000007 CLIENT_ID SERVER_ID ADDRESS"),
     ("REPLY6_TO_8", "07000008 CLIENT_ID SERVER_ID ADDRESS"),
     ("RELEASE6", "08000000 CLIENT_ID SERVER_ID ADDRESS"),
@@ -132,13 +170,17 @@ const MESSAGES6: [(&str, &str); 15] = [
 // Fields that are no packets: the addresses of the lease; what else its text has where the Ack says
 // nothing of it; the carrier from the client's address to the server's. The same of an IPv6 lease:
 // up to its times, and what else its text has where the Reply was read, and in one of version 1.
-const FIELDS: [(&str, &str); 6] = [
+const FIELDS: [(&str, &str); 7] = [
     ("LEASE", "192.0.2.10 192.0.2.1 192.0.2.1"),
     ("REST", "0.0.0.0 none none none none none none none none"),
     ("UNICAST", "udp4 192.0.2.10 192.0.2.1"),
     (
         "LEASE6",
         "na 0 20010db8000000000000000000000010 128 00030001020000000002",
+    ),
+    (
+        "LEASE6_OF_TEMPORARY",
+        "ta 0 20010db8000000000000000000000010 128 00030001020000000002",
     ),
     (
         "REST6",
