@@ -2,6 +2,8 @@
 
 mod release;
 mod replay;
+#[cfg(test)]
+mod tests;
 
 ghost use Rattle.std.specs.Prelude.{◌≡◌, ◌<◌, ◌^◌, ◌⊎◌, IfErr, IfOk, OnErr, OnOk, is_ok};
 ghost use Rattle.dhcp_wire.specs.Error.{no_memory};

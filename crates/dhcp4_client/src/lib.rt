@@ -10,8 +10,6 @@ pub mod laws;
 mod message;
 mod rules;
 mod state;
-#[cfg(test)]
-mod tests;
 
 pub use client::DhcpV4Client;
 pub use dhcp4_lease::{

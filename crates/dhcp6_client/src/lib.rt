@@ -12,8 +12,6 @@ pub mod laws;
 mod message;
 mod rules;
 mod state;
-#[cfg(test)]
-mod tests;
 
 pub use client::DhcpV6Client;
 pub use dhcp6_msg::{
