@@ -270,9 +270,23 @@ fn routes_read_and_are_written_as_the_same_bytes(rt: HostRuntime) -> Result<(), 
 fn routes_are_ordered_by_destination_then_by_prefix_length(rt: HostRuntime) -> Result<(), Fail> {
     assert!(rt; route([10, 0, 0, 0], 24) < route([10, 0, 0, 1], 8));
     assert!(rt; route([10, 0, 0, 0], 8) < route([10, 0, 0, 0], 24));
-    let mut later = route([10, 0, 0, 0], 8);
-    later.router = Ipv4Addr::new(192, 0, 2, 2);
-    assert!(rt; route([10, 0, 0, 0], 8) < later);
+    Ok(())
+}
+
+// A route by 10.0.0.x.
+fn route_by(router: u8, destination: [u8; 4], prefix_length: u8) -> DhcpV4ClasslessRoute {
+    DhcpV4ClasslessRoute {
+        destination: Ipv4Addr::from(destination),
+        prefix_length,
+        router: Ipv4Addr::new(10, 0, 0, router),
+    }
+}
+
+#[test]
+fn routes_are_ordered_by_router_last(rt: HostRuntime) -> Result<(), Fail> {
+    assert!(rt; route_by(2, [10, 0, 0, 0], 8) < route_by(1, [10, 0, 0, 0], 24));
+    assert!(rt; route_by(2, [10, 0, 0, 0], 8) < route_by(1, [10, 0, 0, 1], 8));
+    assert!(rt; route_by(1, [10, 0, 0, 0], 8) < route_by(2, [10, 0, 0, 0], 8));
     Ok(())
 }
 
