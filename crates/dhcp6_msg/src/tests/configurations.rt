@@ -122,6 +122,28 @@ fn an_identifier_is_made_at_random_without_one(rt: HostRuntime) -> Result<(), Fa
     Ok(())
 }
 
+// Whether two configurations are equal once an identifier is made for one and set in the other, of
+// the same words.
+fn are_made_equal(
+    alloc: Global,
+    made: &mut DhcpV6Config,
+    set: &mut DhcpV6Config,
+) -> Result<bool, Fail> {
+    made.get_duid_or_init(alloc, &mut words(alloc)?)?;
+    set.init_duid(alloc, &mut words(alloc)?)?;
+    Ok(*made == *set)
+}
+
+#[test]
+fn nothing_but_the_identifier_is_made(rt: HostRuntime) -> Result<(), Fail> {
+    for mac in [None, Some(MAC)] {
+        let mut made = of_mac(rt.alloc(), mac)?;
+        let mut set = of_mac(rt.alloc(), mac)?;
+        assert!(rt; are_made_equal(rt.alloc(), &mut made, &mut set)?);
+    }
+    Ok(())
+}
+
 // A configuration whose identifier is set to that of the MAC address.
 fn identified(alloc: Global) -> Result<DhcpV6Config, DhcpError> {
     let mut config = DhcpV6Config::empty(alloc)?;

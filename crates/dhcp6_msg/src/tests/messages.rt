@@ -5,13 +5,13 @@ ghost use Rattle.dhcp6_opt.specs.Duid.{written_duid};
 ghost use Rattle.dhcp6_msg.specs.Config.{is_within_limits};
 
 use super::{
-    ASSOCIATION, CLIENT, ELAPSED, MAC, REQUESTS, SERVER, joined, plain_config, plain_lease,
+    ASSOCIATION, CLIENT, ELAPSED, MAC, REPLY, REQUESTS, SERVER, joined, plain_config, plain_lease,
     refusal, reply, reply_message, solicit_of,
 };
 use crate::config::ethernet_duid;
 use crate::{
-    DhcpV6Config, DhcpV6Lease, DhcpV6Message, DhcpV6MessageType, DhcpV6Mode, DhcpV6View,
-    new_rebind_msg, new_release_msg, new_renew_msg, new_request_msg, new_solicit_msg,
+    DhcpV6Config, DhcpV6IaType, DhcpV6Lease, DhcpV6Message, DhcpV6MessageType, DhcpV6Mode,
+    DhcpV6View, new_rebind_msg, new_release_msg, new_renew_msg, new_request_msg, new_solicit_msg,
 };
 use dhcp_wire::{Bytes, DhcpError, ErrorKind};
 use dhcp6_opt::DhcpV6OptionCode;
@@ -229,18 +229,17 @@ fn a_view_shows_type_and_id_and_copies_three_options(rt: HostRuntime) -> Result<
     Ok(())
 }
 
-// A Reply whose first option says that it is longer than the message.
+// The Reply that grants an address, but its first option says that it is longer than the message.
 fn truncated(alloc: Global) -> Result<DhcpV6Message, DhcpError> {
-    let head = [7, 1, 2, 3, 0, 1, 1, 0, 0, 3];
-    let payload = joined(alloc, &[&head, &SERVER, &ASSOCIATION])?;
+    let identifier = [0, 1, 1, 0, 0, 3, 0, 1, 2, 0, 0, 0, 0, 1];
+    let payload = joined(alloc, &[&REPLY, &identifier, &SERVER, &ASSOCIATION])?;
     DhcpV6Message::parse(alloc, payload.as_slice())
 }
 
 #[test]
 fn a_truncated_option_ends_the_reading(rt: HostRuntime) -> Result<(), Fail> {
-    let message = truncated(rt.alloc())?;
-    assert!(rt; message.xid() == 0x010203);
-    assert!(rt; !has(&message, 1) && !has(&message, 2) && !has(&message, 3));
+    let written = truncated(rt.alloc())?.emit(rt.alloc())?;
+    assert_eq!(rt; written.as_slice(), REPLY.as_slice());
     Ok(())
 }
 
@@ -300,4 +299,11 @@ fn types_and_modes_are_printed_by_name(rt: HostRuntime) -> Result<(), Fail> {
     assert_eq!(rt; mode.as_str(), "Prefix Delegation(IA_PD)-56");
     assert!(rt; u8::from(DhcpV6MessageType::RelayReply) == 13);
     Ok(())
+}
+
+#[test]
+fn the_defaults_are_a_solicit_and_non_temporary_addresses(rt: HostRuntime) {
+    assert!(rt; DhcpV6MessageType::default() == DhcpV6MessageType::Solicit);
+    assert!(rt; DhcpV6IaType::default() == DhcpV6IaType::NonTemporaryAddresses);
+    assert!(rt; DhcpV6Mode::default() == DhcpV6Mode::NonTemporaryAddresses);
 }
