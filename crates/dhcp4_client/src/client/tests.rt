@@ -5,7 +5,7 @@ ghost use Rattle.std.specs.Prelude.{◌<◌, ◌^◌};
 use super::DhcpV4Client;
 use crate::DhcpV4State;
 use dhcp_clock::{Handed, MemLink, Sent, WordList};
-use dhcp_wire::DhcpError;
+use dhcp_wire::{DhcpError, ErrorKind};
 use dhcp4_lease::{DhcpV4Config, DhcpV4Lease};
 use std::alloc::Global;
 use std::net::Ipv4Addr;
@@ -60,6 +60,8 @@ enum Shows {
     KeepsAnErrorFrom(u64),
     ReleasesFromTheHeldAddress,
     ReleasesInAFrame,
+    ReleasesTheHeldLease,
+    ReleasesOnlyAHeldLease,
 }
 
 // Whether a client without a lease, with this time limit in seconds, shows this.
@@ -82,11 +84,16 @@ fn shown_by(alloc: Global, client: &mut DhcpV4Client, shows: Shows) -> Result<bo
         Shows::ReleasesInAFrame => {
             Ok(matches!(released(alloc, client)?, Some(Handed::Frame(_))))
         }
+        Shows::ReleasesTheHeldLease => releases_the_held_lease(alloc, client),
+        Shows::ReleasesOnlyAHeldLease => releases_only_a_held_lease(alloc, client),
     }
 }
 
 fn refuses_a_lease_out_of_order(alloc: Global, client: &mut DhcpV4Client) -> bool {
-    let is_refused = client.done(lease(alloc, 10, [5, 4, 10]), 7).is_err();
+    let is_refused = match client.done(lease(alloc, 10, [5, 4, 10]), 7) {
+        Ok(()) => false,
+        Err(error) => error.kind() == ErrorKind::InvalidArgument,
+    };
     is_refused && client.lease().is_none() && client.next_poll() == Some(0)
 }
 
@@ -142,6 +149,32 @@ fn releases_from_the_held_address(
     Ok(is_taken && is_from_it && client.lease().is_none())
 }
 
+// What the release of the lease that is held hands to the link, which takes it, if it returns true.
+fn released_held(alloc: Global, client: &mut DhcpV4Client) -> Result<Option<Handed>, DhcpError> {
+    let mut link = MemLink::new(alloc);
+    let is_released = client.release_held(4_000, &mut link)?;
+    match link.take_handed() {
+        Some((message, Sent::Taken)) if is_released => Ok(Some(message)),
+        _ => Ok(None),
+    }
+}
+
+// Whether the release of the lease that is held is that of the same lease by hand.
+fn releases_the_held_lease(alloc: Global, client: &mut DhcpV4Client) -> Result<bool, DhcpError> {
+    let is_taken = client.done(lease(alloc, 11, [10, 20, 30]), 7).is_ok();
+    let by_hand = released(alloc, client)?;
+    let is_taken_again = client.done(lease(alloc, 11, [10, 20, 30]), 7).is_ok();
+    let held = released_held(alloc, client)?;
+    Ok(is_taken && is_taken_again && held.is_some() && held == by_hand && client.lease().is_none())
+}
+
+// Whether the release of a lease that isn't held returns false and hands nothing to the link.
+fn releases_only_a_held_lease(alloc: Global, client: &mut DhcpV4Client) -> Result<bool, DhcpError> {
+    let mut link = MemLink::new(alloc);
+    let is_released = client.release_held(4_000, &mut link)?;
+    Ok(!is_released && link.take_handed().is_none())
+}
+
 #[test]
 fn a_lease_out_of_order_is_refused_and_changes_nothing(rt: HostRuntime) -> Result<(), Fail> {
     assert!(rt; is_shown(rt.alloc(), 0, Shows::RefusesALeaseOutOfOrder)?);
@@ -183,5 +216,17 @@ fn a_lease_is_released_from_the_address_of_the_one_that_is_held(
 #[test]
 fn a_client_that_holds_no_lease_releases_one_in_a_frame(rt: HostRuntime) -> Result<(), Fail> {
     assert!(rt; is_shown(rt.alloc(), 0, Shows::ReleasesInAFrame)?);
+    Ok(())
+}
+
+#[test]
+fn the_lease_that_is_held_is_released_as_by_hand(rt: HostRuntime) -> Result<(), Fail> {
+    assert!(rt; is_shown(rt.alloc(), 0, Shows::ReleasesTheHeldLease)?);
+    Ok(())
+}
+
+#[test]
+fn a_lease_that_is_not_held_is_not_released(rt: HostRuntime) -> Result<(), Fail> {
+    assert!(rt; is_shown(rt.alloc(), 0, Shows::ReleasesOnlyAHeldLease)?);
     Ok(())
 }
