@@ -39,7 +39,7 @@ config_of name = record {
   request_opts = map code_of default_requests;
 }
 
--- an MAC address: six bytes
+-- a MAC address: six bytes
 abbrev pub mac_of_bytes : List ℕ → Result (List ℕ) ErrorKind
 mac_of_bytes bytes = if length bytes == 6 then Ok bytes else Err NotSupported
 

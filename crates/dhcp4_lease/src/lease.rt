@@ -197,8 +197,9 @@ impl DhcpV4Lease {
         }
     }
 
-    /// The option of this code as its message had it: its code, the length of its value, and the
-    /// value, written again. Out of memory is the only error.
+    /// The option of this code, written again: its code, the length of its value, and the value; a
+    /// text gains its zero byte, and a value of fixed size is cut to it. Out of memory is the only
+    /// error.
     pub fn get_option_raw(&self, alloc: Global, code: u8) -> Result<Option<Vec<u8>>, DhcpError>
         ensures { Makes (option_map vec_items) result
             (option_map written_option (map.get self.now.options code)) }

@@ -49,7 +49,8 @@ pub fn routes_read_back()
         → bytes ≡ written_route route ++ rest }
 {}
 
-/// An option that fits reads back, whatever follows it.
+/// An option that fits reads back, whatever follows it, if its texts have at most 254 bytes and no
+/// zero byte, and its routes no octets beyond their lengths.
 pub fn options_read_back()
     ensures { (option : DhcpV4Option) (rest : List ℕ) → IsTrue (fits option) → ReadsBack option
         → option_at (written_option option ++ rest) ≡ (Some (with_names option), rest) }

@@ -16,13 +16,13 @@ ghost use Rattle.dhcp6_client.specs.State.{plain_state};
 use crate::DhcpV6State;
 use crate::client_state::{ClientState, Exchange};
 use crate::draws::{new_id, restarted};
-use crate::granted_lease::{GrantedLease, is_duid};
+use crate::granted_lease::GrantedLease;
 use crate::rules::{ClientRules, bound_state};
 use crate::state::ReportedState;
 use dhcp_clock::{DhcpLink, Words};
 use dhcp_history::{BoundLease, Client, RunError, Standing, clean_up, next_poll, run};
 use dhcp_wire::{DhcpError, ErrorKind, FixedText};
-use dhcp6_msg::{DhcpV6Config, DhcpV6Lease, DhcpV6Mode};
+use dhcp6_msg::{DhcpV6Config, DhcpV6Lease, DhcpV6Mode, is_duid};
 use std::alloc::Global;
 use std::marker::Model;
 

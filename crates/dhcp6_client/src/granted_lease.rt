@@ -1,11 +1,9 @@
 //! A lease that a server offered or granted, or that a client held before.
 
 ghost use Rattle.std.specs.Prelude.{◌≡◌, ◌≤◌, length};
-ghost use Rattle.dhcp6_msg.specs.Lease as leases;
 ghost use Rattle.dhcp6_opt.specs.Duid.{written_duid};
 
 use dhcp6_msg::DhcpV6Lease;
-use dhcp6_opt::DhcpV6Duid;
 use std::marker::Model;
 
 /// A lease whose messages can be built: its server's identifier fits its option, with at most
@@ -47,12 +45,4 @@ impl GrantedLease {
     {
         &self.lease
     }
-}
-
-/// Whether an identifier can be sent: it has 2 to 65,535 bytes (RFC 8415, section 11.1).
-pub fn is_duid(duid: &DhcpV6Duid) -> bool
-    ensures { result ≡ leases.is_duid duid.now }
-{
-    let length = duid.written_len();
-    2 <= length && length <= 65535
 }

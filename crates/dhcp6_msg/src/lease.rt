@@ -206,9 +206,9 @@ impl DhcpV6Lease {
             && is_duid(&self.srv_duid)
     }
 
-    /// The options of this code as the message had them: of each its code, the length of its value,
-    /// and the value, written again; none if and only if there is no such option. Out of memory is
-    /// the only error.
+    /// The options of this code, written again: of each its code, the length of its value, and the
+    /// value, one of fixed size cut to it; none if and only if there is no such option. Out of
+    /// memory is the only error.
     pub fn get_option_raw(
         &self,
         alloc: Global,
@@ -249,8 +249,8 @@ impl TryClone for DhcpV6Lease {
     }
 }
 
-// Whether an identifier can be sent: it has 2 to 65,535 bytes.
-fn is_duid(duid: &DhcpV6Duid) -> bool
+/// Whether an identifier can be sent: it has 2 to 65,535 bytes (RFC 8415, section 11.1).
+pub fn is_duid(duid: &DhcpV6Duid) -> bool
     ensures { result ≡ Lease.is_duid duid.now }
 {
     let len = duid.written_len();

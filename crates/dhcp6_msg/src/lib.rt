@@ -17,7 +17,7 @@ pub use config::DhcpV6Config;
 pub use laws::{
     built_message_reads_back, ids_read_back, leases_are_within_limits, messages_read_back,
 };
-pub use lease::DhcpV6Lease;
+pub use lease::{DhcpV6Lease, is_duid};
 pub use message::DhcpV6Message;
 pub use message_table::{
     new_rebind_msg, new_release_msg, new_renew_msg, new_request_msg, new_solicit_msg,

@@ -1,12 +1,11 @@
 //! The release of a lease, RFC 8415 section 18.2.7.
 
 use super::DhcpV6Client;
-use crate::granted_lease::is_duid;
 use crate::message::release_message;
 use dhcp_clock::DhcpLink;
 use dhcp_history::{release_at, release_held_at};
 use dhcp_wire::{DhcpError, ErrorKind, FixedText};
-use dhcp6_msg::DhcpV6Lease;
+use dhcp6_msg::{DhcpV6Lease, is_duid};
 
 impl DhcpV6Client {
     ghost use Rattle.dhcp_history.specs.Calls.{IsHeldRelease};
