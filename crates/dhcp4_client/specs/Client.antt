@@ -2,7 +2,7 @@
 use Rattle.std.specs.Prelude.{◌≡◌, ◌==◌, ◌&&◌, ℕ, Bool, true, not, Option, Some, None}
 use Rattle.std.specs.Option.{option_map_or}
 use Rattle.dhcp_history.specs.Calls as calls
-use Rattle.dhcp_history.specs.Client.{standing_anew, unpolled}
+use Rattle.dhcp_history.specs.Client.{BeginsIn, Enters}
 use Rattle.dhcp4_lease.specs.Config.{Config, is_within_limits}
 use Rattle.dhcp4_lease.specs.Lease.{Lease, are_times_in_order}
 use Rattle.dhcp4_client.specs.declared.client_state.ClientState.{ClientState}
@@ -33,17 +33,13 @@ first_exchange xid = record { xid = xid; retry_count = 0 }
 -- a client that begins with this configuration and this lease
 pub record Begins (given : Config) (lease : Option Lease) (parts : ClientParts) : Type 0 where
   pub config : parts.config ≡ given
-  pub state : parts.client.state ≡ first_state lease
-  pub standing : parts.client.standing ≡
-      unpolled (first_exchange parts.client.standing.exchange.xid)
-  pub timeout : parts.client.timeout_sec ≡ given.timeout_sec
-  pub moment : parts.client.last_moment ≡ 0
+  pub begins : BeginsIn (first_state lease)
+      (first_exchange parts.client.standing.exchange.xid) given.timeout_sec 0 parts.client
+  pub open begins use *
 
 -- a client that was given a lease at a moment
 pub record IsDone (lease : Lease) (now : ℕ) (old new : ClientParts) : Type 0 where
   pub config : new.config ≡ old.config
-  pub state : new.client.state ≡ Done (record { lease = lease; since = now })
-  pub standing : new.client.standing ≡
-      standing_anew old.client.standing.phase (restarted old.client.standing.exchange)
-  pub timeout : new.client.timeout_sec ≡ old.client.timeout_sec
-  pub moment : new.client.last_moment ≡ now
+  pub enters : Enters (Done (record { lease = lease; since = now }))
+      (restarted old.client.standing.exchange) now old.client new.client
+  pub open enters use *

@@ -28,7 +28,7 @@ public_state (Done bound) = done bound.lease
 public_state (Renewing bound) = renewing
 public_state (Rebinding bound) = rebinds
 
--- whether it sends
+-- whether it sends; there its time limit counts
 abbrev pub has_attempts : ClientState → Bool
 has_attempts InitReboot = true
 has_attempts (Selecting offer) = true
@@ -36,15 +36,6 @@ has_attempts (Rebooting held) = true
 has_attempts (Done bound) = false
 has_attempts (Renewing bound) = true
 has_attempts (Rebinding bound) = true
-
--- whether its time limit counts
-abbrev pub has_time_limit : ClientState → Bool
-has_time_limit InitReboot = true
-has_time_limit (Selecting offer) = true
-has_time_limit (Rebooting held) = true
-has_time_limit (Done bound) = false
-has_time_limit (Renewing bound) = true
-has_time_limit (Rebinding bound) = true
 
 -- the moment at which a state ends: T1, T2 or the end of its lease
 abbrev pub ending_moment : ClientState → Option ℕ
@@ -197,5 +188,4 @@ protocol config = record {
   after_clean_up = after_clean_up;
   held_lease = held_lease;
   release_message = λ lease exchange. held_release exchange.xid config lease;
-  has_time_limit = has_time_limit;
 }

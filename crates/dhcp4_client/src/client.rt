@@ -17,7 +17,7 @@ use crate::client_state::{ClientState, Exchange};
 use crate::rules::{ClientRules, restarted};
 use crate::state::ReportedState;
 use dhcp_clock::{DhcpLink, Words};
-use dhcp_history::{BoundLease, Client, RunError, Standing, clean_up, next_poll, run};
+use dhcp_history::{BoundLease, Client, RunError, clean_up, next_poll, run};
 use dhcp_wire::{DhcpError, ErrorKind, FixedText};
 use dhcp4_lease::{DhcpV4Config, DhcpV4Lease};
 use std::alloc::Global;
@@ -74,19 +74,13 @@ impl DhcpV4Client {
         if !can_begin(&config, &lease) {
             return Err(DhcpError::new_fixed(ErrorKind::InvalidArgument, FixedText::Config));
         }
-        let timeout_sec = config.timeout_sec;
         let exchange = Exchange {
             xid: words.next_word(),
             retry_count: 0,
         };
         Ok(DhcpV4Client {
+            client: Client::new(first_state(lease), exchange, config.timeout_sec, 0),
             rules: ClientRules { alloc, config },
-            client: Client {
-                state: first_state(lease),
-                timeout_sec,
-                standing: Standing::unpolled(exchange),
-                last_moment: 0,
-            },
         })
     }
 
@@ -140,10 +134,9 @@ impl DhcpV4Client {
         if !lease.are_times_in_order() {
             return Err(DhcpError::new_fixed(ErrorKind::InvalidArgument, FixedText::Times));
         }
-        self.client.state = ClientState::Done(BoundLease::new(lease, now));
         let exchange = restarted(self.client.standing.exchange);
-        self.client.standing = self.client.standing.anew(exchange);
-        self.client.last_moment = now;
+        let state = ClientState::Done(BoundLease::new(lease, now));
+        self.client.enter(state, exchange, now);
         Ok(())
     }
 

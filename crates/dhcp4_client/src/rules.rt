@@ -58,17 +58,6 @@ impl Rules for ClientRules {
         }
     }
 
-    fn has_time_limit(&self, state: &ClientState) -> bool {
-        match state {
-            ClientState::InitReboot => true,
-            ClientState::Selecting(_) => true,
-            ClientState::Rebooting(_) => true,
-            ClientState::Done(_) => false,
-            ClientState::Renewing(_) => true,
-            ClientState::Rebinding(_) => true,
-        }
-    }
-
     fn has_attempts(&self, state: &ClientState) -> bool {
         match state {
             ClientState::InitReboot => true,

@@ -4,7 +4,7 @@ use Rattle.std.specs.Option.{option_map_or}
 use Rattle.dhcp_clock.specs.Words.{Drawn, undrawn, drawn_word, drawn_then}
 use Rattle.dhcp_history.specs.BoundLease.{Bound}
 use Rattle.dhcp_history.specs.Calls as calls
-use Rattle.dhcp_history.specs.Client.{standing_anew, unpolled}
+use Rattle.dhcp_history.specs.Client.{BeginsIn, Enters}
 use Rattle.dhcp6_msg.specs.declared.mode.DhcpV6Mode.{DhcpV6Mode}
 use Rattle.dhcp6_msg.specs.declared.mode.DhcpV6Mode.TheVariants.{NonTemporaryAddresses, TemporaryAddresses, PrefixDelegation}
 use Rattle.dhcp6_msg.specs.Config.{Config, client_duid, is_within_limits}
@@ -29,7 +29,7 @@ can_begin config lease =
     && option_map_or leases.is_within_limits lease true
 
 -- the state in which it begins: it renews a lease that it held before, whose times count from the
--- start, unless that is of temporary addresses, which are not renewed (RFC 8415, section 6.5)
+-- start, unless that is of temporary addresses, which this client does not renew
 abbrev pub first_state_of : DhcpV6Mode → Bound Lease → ClientState
 first_state_of NonTemporaryAddresses bound = Renew bound
 first_state_of TemporaryAddresses bound = Solicit
@@ -65,21 +65,16 @@ pub record Begins (given : Config) (lease : Option Lease) (now : ℕ) (parts : C
     : Type 0 where
   pub config : parts.config ≡ record given { duid = parts.config.duid }
   pub duid : is_duid parts.config.duid ≡ true
-  pub state : parts.client.state ≡ first_state given.mode lease now
-  pub standing : parts.client.standing ≡
-      unpolled (first_exchange parts.client.standing.exchange.xid)
-  pub timeout : parts.client.timeout_sec ≡ given.timeout_sec
-  pub moment : parts.client.last_moment ≡ now
+  pub begins : BeginsIn (first_state given.mode lease now)
+      (first_exchange parts.client.standing.exchange.xid) given.timeout_sec now parts.client
+  pub open begins use *
 
 -- a client that was given a lease at a moment
 pub record IsDone (lease : Lease) (now : ℕ) (old new : ClientParts) : Type 0 where
   pub config : new.config ≡ old.config
-  pub state : new.client.state ≡
-      bound_state old.config.mode (record { lease = lease; since = now })
-  pub standing : new.client.standing ≡
-      standing_anew old.client.standing.phase (restarted old.client.standing.exchange)
-  pub timeout : new.client.timeout_sec ≡ old.client.timeout_sec
-  pub moment : new.client.last_moment ≡ now
+  pub enters : Enters (bound_state old.config.mode (record { lease = lease; since = now }))
+      (restarted old.client.standing.exchange) now old.client new.client
+  pub open enters use *
 
 -- A client whose count and previous wait begin anew within its stay, from a moment from which its
 -- elapsed time counts too; its attempt stays open.

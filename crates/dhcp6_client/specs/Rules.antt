@@ -29,7 +29,7 @@ public_state (Temporary bound) = done bound.lease
 public_state (Renew bound) = renew
 public_state (Rebind bound) = rebind
 
--- whether it sends
+-- whether it sends; there its time limit counts
 abbrev pub has_attempts : ClientState → Bool
 has_attempts Solicit = true
 has_attempts (Request offer) = true
@@ -37,15 +37,6 @@ has_attempts (Done bound) = false
 has_attempts (Temporary bound) = false
 has_attempts (Renew bound) = true
 has_attempts (Rebind bound) = true
-
--- whether its time limit counts
-abbrev pub has_time_limit : ClientState → Bool
-has_time_limit Solicit = true
-has_time_limit (Request offer) = true
-has_time_limit (Done bound) = false
-has_time_limit (Temporary bound) = false
-has_time_limit (Renew bound) = true
-has_time_limit (Rebind bound) = true
 
 -- the moment at which a state ends: T1, T2 or the end of its lease; temporary addresses are not
 -- renewed
@@ -232,5 +223,4 @@ protocol config = record {
   after_clean_up = after_clean_up;
   held_lease = held_lease;
   release_message = λ lease exchange. release_message exchange.xid config lease;
-  has_time_limit = has_time_limit;
 }

@@ -20,7 +20,7 @@ use crate::granted_lease::GrantedLease;
 use crate::rules::{ClientRules, bound_state};
 use crate::state::ReportedState;
 use dhcp_clock::{DhcpLink, Words};
-use dhcp_history::{BoundLease, Client, RunError, Standing, clean_up, next_poll, run};
+use dhcp_history::{BoundLease, Client, RunError, clean_up, next_poll, run};
 use dhcp_wire::{DhcpError, ErrorKind, FixedText};
 use dhcp6_msg::{DhcpV6Config, DhcpV6Lease, DhcpV6Mode, is_duid};
 use std::alloc::Global;
@@ -95,16 +95,10 @@ impl DhcpV6Client {
         let mut config = config;
         config.init_duid(alloc, words)?;
         let exchange = first_exchange(new_id(words.next_word()));
-        let timeout_sec = config.timeout_sec;
         let state = first_state(config.mode, lease, now);
         Ok(DhcpV6Client {
+            client: Client::new(state, exchange, config.timeout_sec, now),
             rules: ClientRules { alloc, config },
-            client: Client {
-                state,
-                timeout_sec,
-                standing: Standing::unpolled(exchange),
-                last_moment: now,
-            },
         })
     }
 
@@ -173,10 +167,9 @@ impl DhcpV6Client {
         if !lease.is_within_limits() {
             return Err(DhcpError::new_fixed(ErrorKind::InvalidArgument, FixedText::Unreadable));
         }
-        self.client.state = bound_state(self.rules.config.mode, bound(lease, now));
         let exchange = restarted(self.client.standing.exchange);
-        self.client.standing = self.client.standing.anew(exchange);
-        self.client.last_moment = now;
+        let state = bound_state(self.rules.config.mode, bound(lease, now));
+        self.client.enter(state, exchange, now);
         Ok(())
     }
 

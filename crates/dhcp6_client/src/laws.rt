@@ -4,7 +4,7 @@
 ghost use Rattle.std.specs.Prelude.{◌≡◌, ◌≤◌, ℕ, All};
 ghost use Rattle.dhcp_clock.specs.declared.link.Packet.{Packet};
 ghost use Rattle.dhcp_history.specs.History.{history};
-ghost use Rattle.dhcp_history.specs.Laws.{HasSevenPolls, HasTwoMessages, IsNeverOverdue, PollsGiveTheHistory};
+ghost use Rattle.dhcp_history.specs.Laws.{KeepsLaws};
 ghost use Rattle.dhcp_history.specs.Protocol.{Lawful};
 ghost use Rattle.dhcp_history.specs.Script.{Script};
 ghost use Rattle.dhcp6_msg.specs.Config.{Config};
@@ -23,39 +23,15 @@ pub fn table_is_lawful()
     ensures { (config : Config) → Lawful (protocol config) }
 {}
 
-/// What the calls and polls of a client report over a script, event by event, is what the history
-/// of the script reports.
-pub fn polls_give_the_history(client: &DhcpV6Client)
-    ensures { PollsGiveTheHistory (protocol client.now.config) }
+/// The laws of dhcp_history on polls hold of the client. What its calls and polls report over a
+/// script is what the history of the script reports. At an event it is polled at most seven times,
+/// changes its state at most six times, and hands at most two messages to the link; after the polls
+/// of an event a client without a kept error is in no state whose end has come.
+pub fn polls_keep_laws(client: &DhcpV6Client)
+    ensures { KeepsLaws (protocol client.now.config) }
 {
     table_is_lawful();
-    laws::polls_give_the_history(&client.rules);
-}
-
-/// At an event the client is polled at most seven times, and changes its state at most six times.
-pub fn seven_polls_an_event(client: &DhcpV6Client)
-    ensures { HasSevenPolls (protocol client.now.config) }
-{
-    table_is_lawful();
-    laws::seven_polls_an_event(&client.rules);
-}
-
-/// At an event the polls of the client hand at most two messages to the link.
-pub fn two_messages_an_event(client: &DhcpV6Client)
-    ensures { HasTwoMessages (protocol client.now.config) }
-{
-    table_is_lawful();
-    laws::two_messages_an_event(&client.rules);
-}
-
-/// After the polls of an event a client without a kept error does not hold a lease at or past its
-/// T1, or its end if it is of temporary addresses, is not in Renew at or past T2, and not in Rebind
-/// at or past the end of its lease.
-pub fn no_state_is_overdue(client: &DhcpV6Client)
-    ensures { IsNeverOverdue (protocol client.now.config) }
-{
-    table_is_lawful();
-    laws::no_state_is_overdue(&client.rules);
+    laws::polls_keep_laws(&client.rules);
 }
 
 /// In a history an offer is requested at most eleven times in a stay.

@@ -60,17 +60,6 @@ impl Rules for ClientRules {
         }
     }
 
-    fn has_time_limit(&self, state: &ClientState) -> bool {
-        match state {
-            ClientState::Solicit => true,
-            ClientState::Request(_) => true,
-            ClientState::Done(_) => false,
-            ClientState::Temporary(_) => false,
-            ClientState::Renew(_) => true,
-            ClientState::Rebind(_) => true,
-        }
-    }
-
     fn has_attempts(&self, state: &ClientState) -> bool {
         match state {
             ClientState::Solicit => true,

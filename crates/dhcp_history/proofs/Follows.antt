@@ -57,8 +57,8 @@ module _ {PublicState Packet Message State Exchange Answer Lease : Type 0} (p : 
       same e = ap (λ (words : List ℕ). end_state p now input (record fresh { words = words })) (sym (lawful.ended_draws_none view.state view.exchange view.words now e))
 
       by_end : (b : Bool) → has_come now (p.ending_moment view.state) ≡ b → poll p now refuse input fresh ≡ poll_on now refuse input (begin_stay p now fresh)
-      by_end true e = rw (not_over (p.has_time_limit view.state) view.timeout_sec, e) (same e)
-      by_end false e = rw (not_over (p.has_time_limit view.state) view.timeout_sec, e)
+      by_end true e = rw (not_over (p.has_attempts view.state) view.timeout_sec, e) (same e)
+      by_end false e = rw (not_over (p.has_attempts view.state) view.timeout_sec, e)
 
       by_phase : (phase : Phase) → poll p now refuse input (record view { phase = phase }) ≡ poll_on now refuse input (begin_stay p now (record view { phase = phase }))
       by_phase Unpolled = by_end (has_come now (p.ending_moment view.state)) refl

@@ -378,15 +378,9 @@ module _ {PublicState State Exchange Answer Lease : Type 0} (p : Protocol Public
 
   -- what the loop reports is what the history of a script reports, where the client begins as the script says
   pub loop_history : (first now : Option (List ℕ)) (first_view' view : List ℕ → View State Exchange) (events : List (Event Packet)) (reported : List (Output PublicState Handed)) →
-      IfSome first (λ drawn. HasReported (events_at p (first_view' drawn) events) [] reported view now) → (Lawful p → (script : Script Packet State Exchange) → replay p script ≡ outputs p (history p script)) →
-      IfSome first (λ drawn. Lawful p → (script : Script Packet State Exchange) → first_view' drawn ≡ first_view script → script.events ≡ events → reported ≡ outputs p (history p script))
-  loop_history None now first_view' view events reported h law = tt
-  loop_history (Some drawn) now first_view' view events reported h law = λ lawful script begins same.
+      IfSome first (λ drawn. HasReported (events_at p (first_view' drawn) events) [] reported view now) → Lawful p →
+      IfSome first (λ drawn. (script : Script Packet State Exchange) → first_view' drawn ≡ first_view script → script.events ≡ events → reported ≡ outputs p (history p script))
+  loop_history None now first_view' view events reported h lawful = tt
+  loop_history (Some drawn) now first_view' view events reported h lawful = λ script begins same.
       h.outputs ∙ (events_replay (first_view' drawn) events ∙
-      (ap (λ (v : View State Exchange). replay_from p v events) begins ∙ (ap (λ (vs : List (Event Packet)). replay_from p (first_view script) vs) (sym same) ∙ law lawful script)))
-
-  pub replay_history_of : {E : Type 0} (result : Result (Vec (Output PublicState Handed) Global) E) (first now : Option (List ℕ)) (first_view' view : List ℕ → View State Exchange) (events : List (Event Packet)) →
-      IfOk result (λ reported. IfSome first (λ drawn. HasReported (events_at p (first_view' drawn) events) [] reported.items view now)) →
-      IfOk result (λ reported. IfSome first (λ drawn. Lawful p → (script : Script Packet State Exchange) → first_view' drawn ≡ first_view script → script.events ≡ events → reported.items ≡ outputs p (history p script)))
-  replay_history_of (Err error) first now first_view' view events h = tt
-  replay_history_of (Ok reported) first now first_view' view events h = loop_history first now first_view' view events reported.items h (replay_history p)
+      (ap (λ (v : View State Exchange). replay_from p v events) begins ∙ (ap (λ (vs : List (Event Packet)). replay_from p (first_view script) vs) (sym same) ∙ replay_history p lawful script)))

@@ -98,12 +98,6 @@ held (Requesting lease) = None
 held (Bound lease since) = Some lease
 held (Renewing lease since) = Some lease
 
-abbrev pub is_limited : State → Bool
-is_limited Selecting = true
-is_limited (Requesting lease) = true
-is_limited (Bound lease since) = false
-is_limited (Renewing lease since) = true
-
 -- the exchange counts the messages of a state that the link took
 abbrev pub client : Protocol State Packet Message State ℕ (Option Lease) Lease
 client = record {
@@ -120,7 +114,6 @@ client = record {
   after_clean_up = λ count. record { state = Selecting; exchange = 0 };
   held_lease = held;
   release_message = λ lease count. Return lease;
-  has_time_limit = is_limited;
 }
 
 -- how many changes an event can bring at most, where its packet is left or not

@@ -9,13 +9,13 @@ use Rattle.dhcp_clock.specs.declared.link.Sent.TheVariants as sent
 use Rattle.dhcp_clock.specs.Link.{Shown, HandsOver}
 use Rattle.dhcp_history.specs.declared.client.Client.{Client}
 use Rattle.dhcp_history.specs.declared.machine.RunError.{RunError}
-use Rattle.dhcp_history.specs.Protocol.{Protocol, has_come}
+use Rattle.dhcp_history.specs.Protocol.{Lawful, Protocol, has_come}
 use Rattle.dhcp_history.specs.Script.{Event, Output, Script, Nothing}
 use Rattle.dhcp_history.specs.Machine.{begin_stay, clean_up, first_view, is_listening, is_stopped, is_unpolled, limit_is_over, poll}
 use Rattle.dhcp_history.specs.History.{history, outputs}
 use Rattle.dhcp_history.specs.Client.{view_of}
 use Rattle.dhcp_history.specs.Errors.{release_answer, run_answer, send_refused, sent_of, timed_out}
-use Rattle.dhcp_history.specs.EventLoop.{HasReported, events_at}
+use Rattle.dhcp_history.specs.EventLoop.{HasReported, events_at, last_moment}
 use Rattle.dhcp_history.specs.Release as release
 use Rattle.dhcp_history.specs.Release.{HasReleased, UnlessUnreleased}
 use Rattle.dhcp_history.specs.Run.{input_of, quiet_poll, HasPolled, HasPolledQuietly, IsSent, IsStill, IsUnsent, NeedsMemory, OnNoMemory, OnTimeout, UnlessNoMemory, UsesLink, WhereKnown}
@@ -122,6 +122,36 @@ module _ {PublicState State Exchange Answer Lease : Type 0}
         (if released then clean_up p (view_of old drawn) else view_of old drawn))
     pub errors : IfErr result (λ error. (error ≡ send_refused) ⊎ (error ≡ no_memory))
 
+  -- The events of a script, played. What is returned has these outputs as its items.
+  pub record Plays {Returned : Type 0} (result : Result Returned ErrorParts)
+      (items : Returned → List (Output PublicState Handed)) (events : List (Event Packet))
+      (old new : Client State Exchange) (drawn left : Option (List ℕ)) : Type 0 where
+    -- where the words are known, the outputs are those of the events, one by one
+    pub reported : IfOk result (λ reported. IfSome drawn (λ words.
+        HasReported (events_at p (view_of old words) events)
+        [] (items reported) (view_of new) left))
+    -- the client keeps the moment of the last event
+    pub moment : OnOk result (new.last_moment ≡ last_moment old.last_moment events)
+    pub armed : HasNextAttempt p.has_attempts old → HasNextAttempt p.has_attempts new
+    pub error : IfErr result (λ error. error ≡ no_memory)
+
+  -- what is reported is that of the history of the script, where the client begins as that says
+  abbrev pub HasHistory : {Returned : Type 0} → Result Returned ErrorParts →
+      (Returned → List (Output PublicState Handed)) → List (Event Packet) →
+      Client State Exchange → Option (List ℕ) → Type 0
+  HasHistory result items events old drawn =
+      IfOk result (λ reported. IfSome drawn (λ words. (script : Script Packet State Exchange) →
+      view_of old words ≡ first_view script → script.events ≡ events →
+      items reported ≡ outputs p (history p script)))
+
+  -- the same, and by a lawful protocol what the history reports
+  pub record Replays {Returned : Type 0} (result : Result Returned ErrorParts)
+      (items : Returned → List (Output PublicState Handed)) (events : List (Event Packet))
+      (old new : Client State Exchange) (drawn left : Option (List ℕ)) : Type 0 where
+    pub plays : Plays result items events old new drawn left
+    pub open plays use *
+    pub history : Lawful p → HasHistory result items events old drawn
+
   -- The moment at which a poll next does something without a packet.
   pub record HasNextPoll (result : Option ℕ) (client : Client State Exchange) : Type 0 where
     pub moment : result ≡ next_poll p client
@@ -186,18 +216,11 @@ module _ {Config PublicState State Exchange Answer Lease : Type 0}
     pub open next use *
     pub stopped : is_some result ≡ not (is_stopped parts.client.standing.phase)
 
-  -- The events of a script, played. What is returned has these outputs as its items.
+  -- The events of a script, played, by a client whose protocol is lawful.
   pub record IsReplay {Returned : Type 0} (result : Result Returned ErrorParts)
       (items : Returned → List (Output PublicState Handed)) (events : List (Event Packet))
       (old new : ClientParts Config State Exchange) (drawn left : Option (List ℕ)) : Type 0 where
-    -- where the words are known, the outputs are those of the events, one by one
-    pub reported : IfOk result (λ reported. IfSome drawn (λ words.
-        HasReported (events_at (protocol old.config) (view_of old.client words) events)
-        [] (items reported) (view_of new.client) left))
-    -- and of the history of the script, if the client begins as that says
-    pub history : IfOk result (λ reported. IfSome drawn (λ words.
-        (script : Script Packet State Exchange) →
-        view_of old.client words ≡ first_view script → script.events ≡ events →
-        items reported ≡ outputs (protocol old.config) (history (protocol old.config) script)))
+    pub plays : Plays (protocol old.config) result items events old.client new.client drawn left
+    pub open plays use *
+    pub history : HasHistory (protocol old.config) result items events old.client drawn
     pub config : new.config ≡ old.config
-    pub error : IfErr result (λ error. error ≡ no_memory)

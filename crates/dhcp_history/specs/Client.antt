@@ -1,5 +1,5 @@
 -- A client, as the protocol sees it.
-use Rattle.std.specs.Prelude.{ℕ, List, None}
+use Rattle.std.specs.Prelude.{◌≡◌, ℕ, List, None}
 use Rattle.dhcp_history.specs.declared.client.Client.{Client}
 use Rattle.dhcp_history.specs.declared.client.Phase.{Phase}
 use Rattle.dhcp_history.specs.declared.client.Standing.{Standing}
@@ -44,3 +44,18 @@ phase_anew Stopped = Stopped
 abbrev pub standing_anew : {Exchange : Type 0} → Phase → Exchange → Standing Exchange
 standing_anew phase exchange =
     record { exchange = exchange; entered = 0; phase = phase_anew phase; deadline = None }
+
+module _ {State Exchange : Type 0} (given : State) (exchange : Exchange) where
+  -- a client that begins in the given state, with this time limit and this last moment
+  pub record BeginsIn (timeout_sec now : ℕ) (client : Client State Exchange) : Type 0 where
+    pub state : client.state ≡ given
+    pub standing : client.standing ≡ unpolled exchange
+    pub timeout : client.timeout_sec ≡ timeout_sec
+    pub moment : client.last_moment ≡ now
+
+  -- a client that was brought into the given state at a moment
+  pub record Enters (now : ℕ) (old new : Client State Exchange) : Type 0 where
+    pub state : new.state ≡ given
+    pub standing : new.standing ≡ standing_anew old.standing.phase exchange
+    pub timeout : new.timeout_sec ≡ old.timeout_sec
+    pub moment : new.last_moment ≡ now

@@ -100,6 +100,11 @@ module _ {PublicState State Exchange Answer Lease : Type 0}
       let more = events_at once.view events in
       record { outputs = once.outputs ++ more.outputs; view = more.view }
 
+-- the moment of the last of these events, or this one where there is none
+abbrev pub last_moment : ℕ → List (Event Packet) → ℕ
+last_moment moment [] = moment
+last_moment moment (event ∷ events) = last_moment event.moment events
+
 -- these outputs were added, and client and words are left so
 pub record HasReported {PublicState State Exchange : Type 0}
     (once : EventEffect PublicState Handed State Exchange)

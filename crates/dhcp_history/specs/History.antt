@@ -202,7 +202,7 @@ module _ {PublicState Packet Message State Exchange Answer Lease : Type 0}
 
   -- the moment at which the time limit is over
   abbrev pub limit_moment : ℕ → ℕ → State → Option ℕ
-  limit_moment timeout_sec entered state = limit_after (p.has_time_limit state) timeout_sec entered
+  limit_moment timeout_sec entered state = limit_after (p.has_attempts state) timeout_sec entered
 
   -- whether the time limit is over at the event
   abbrev pub overruns : Setting State → Event Packet → Bool

@@ -35,3 +35,10 @@ module _ {PublicState State Exchange Answer Lease : Type 0}
   abbrev pub IsNeverOverdue : Type 0
   IsNeverOverdue = (event : Event Packet) (client : View State Exchange) →
       IsWithinState p event.moment (machine.polls p 7 event client).view
+
+  -- what holds of the polls of a lawful protocol: all of these
+  pub record KeepsLaws : Type 0 where
+    pub polls_give_the_history : PollsGiveTheHistory
+    pub seven_polls_an_event : HasSevenPolls
+    pub two_messages_an_event : HasTwoMessages
+    pub no_state_is_overdue : IsNeverOverdue

@@ -16,7 +16,7 @@ pub record NextState (State Exchange : Type 0) : Type 0 where
 pub record Protocol (PublicState Packet Message State Exchange Answer Lease : Type 0) : Type 0 where
   -- what the client reports of a state
   pub public_state : State → PublicState
-  -- whether the client sends in a state
+  -- whether the client sends in a state; there its time limit counts
   pub has_attempts : State → Bool
   -- how long it waits before it sends for the first time, where it does
   pub pause : State → Exchange → List ℕ → Drawn ℕ
@@ -37,8 +37,6 @@ pub record Protocol (PublicState Packet Message State Exchange Answer Lease : Ty
   -- the lease that is held in a state, and the message that releases it
   pub held_lease : State → Option Lease
   pub release_message : Lease → Exchange → Message
-  -- whether the client's time limit counts in a state
-  pub has_time_limit : State → Bool
 
 -- whether there is such a moment, and it has come
 abbrev pub has_come : ℕ → Option ℕ → Bool

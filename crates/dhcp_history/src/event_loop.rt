@@ -3,10 +3,9 @@
 
 ghost use Rattle.std.specs.Prelude.{◌≡◌, ◌<◌, ◌^◌, ℕ, All, List, None, [], ◌∷◌, ◌++◌, Err, true, OnOk, IfOk, IfSome, slice_get, option_map};
 ghost use Rattle.dhcp_clock.specs.MemLink.{without_oldest};
-ghost use Rattle.dhcp_history.specs.Protocol.{Lawful};
-ghost use Rattle.dhcp_history.specs.Script.{Script, Release, input_after_call};
-ghost use Rattle.dhcp_history.specs.History.{history, outputs};
-ghost use Rattle.dhcp_history.specs.Machine.{poll, handed_output, first_view};
+ghost use Rattle.dhcp_history.specs.Calls.{Replays};
+ghost use Rattle.dhcp_history.specs.Script.{Release, input_after_call};
+ghost use Rattle.dhcp_history.specs.Machine.{poll, handed_output};
 ghost use Rattle.dhcp_history.specs.Client.{view_of};
 ghost use Rattle.dhcp_history.specs.Schedule.{HasNextAttempt};
 ghost use Rattle.dhcp_history.specs.Run.{input_of};
@@ -23,6 +22,7 @@ ghost use Rattle.dhcp_history.specs.EventLoop.{
   events_at,
   HasReported,
   HasCalled,
+  last_moment,
 };
 
 use crate::{
@@ -30,6 +30,7 @@ use crate::{
     release_held, run,
 };
 use dhcp_clock::{Handed, MemLink, Packet, Words};
+use dhcp_wire::DhcpError;
 use std::alloc::{AllocError, Global};
 
 // An event without its input.
@@ -163,6 +164,7 @@ fn poll_once<R: Rules, W: Words>(
         link.new.shown.waiting)) }
     ensures refuses { link.new.shown.refuses ≡ link.old.shown.refuses }
     ensures empty { link.new.shown.handed ≡ [] }
+    ensures moment { OnOk result (client.new.last_moment ≡ at.moment) }
     ensures armed { HasNextAttempt (R.protocol rules.now).has_attempts client.old →
         HasNextAttempt (R.protocol rules.now).has_attempts client.new }
 {
@@ -187,6 +189,7 @@ fn poll_event<R: Rules, W: Words>(
         HasReported (polls_at (R.protocol rules.now) 7
         (event_of at (input_of link.old.shown.waiting)) (view_of client.old drawn))
         outputs.old.items outputs.new.items (view_of client.new) (W.left words.new))) }
+    ensures moment { OnOk result (client.new.last_moment ≡ at.moment) }
     ensures armed { HasNextAttempt (R.protocol rules.now).has_attempts client.old →
         HasNextAttempt (R.protocol rules.now).has_attempts client.new }
 {
@@ -269,6 +272,7 @@ pub fn run_event<R: Rules, W: Words>(
     ensures reported { OnOk result (IfSome (W.left words.old) (λ drawn.
         HasReported (event_at (R.protocol rules.now) event (view_of client.old drawn))
         outputs.old.items outputs.new.items (view_of client.new) (W.left words.new))) }
+    ensures moment { OnOk result (client.new.last_moment ≡ event.moment) }
     ensures armed { HasNextAttempt (R.protocol rules.now).has_attempts client.old →
         HasNextAttempt (R.protocol rules.now).has_attempts client.new }
 {
@@ -295,6 +299,8 @@ fn run_events<R: Rules, W: Words>(
     ensures reported { IfOk result (λ reported. IfSome (W.left words.old) (λ drawn.
         HasReported (events_at (R.protocol rules.now) (view_of client.old drawn) events.items)
         [] reported.items (view_of client.new) (W.left words.new))) }
+    ensures moment { OnOk result
+        (client.new.last_moment ≡ last_moment client.old.last_moment events.items) }
     ensures armed { HasNextAttempt (R.protocol rules.now).has_attempts client.old →
         HasNextAttempt (R.protocol rules.now).has_attempts client.new }
 {
@@ -306,24 +312,17 @@ fn run_events<R: Rules, W: Words>(
 }
 
 /// What the events report: the outputs of the history of their script, where the client begins as
-/// the script says.
+/// the script says. Out of memory is the only error.
 pub fn replay<R: Rules, W: Words>(
     alloc: Global,
     rules: &R,
     client: &mut Client<R::State, R::Exchange>,
     words: &mut W,
     events: Vec<Event<Packet>>,
-) -> Result<Vec<Output<R::PublicState, Handed>>, AllocError>
+) -> Result<Vec<Output<R::PublicState, Handed>>, DhcpError>
     requires { All (λ event. event.moment < 2 ^ 60) events.items }
-    ensures reported { IfOk result (λ reported. IfSome (W.left words.old) (λ drawn.
-        HasReported (events_at (R.protocol rules.now) (view_of client.old drawn) events.items)
-        [] reported.items (view_of client.new) (W.left words.new))) }
-    ensures history { IfOk result (λ reported. IfSome (W.left words.old) (λ drawn.
-        Lawful (R.protocol rules.now) → (script : Script Packet R.State R.Exchange) →
-        view_of client.old drawn ≡ first_view script → script.events ≡ events.items →
-        reported.items ≡ outputs (R.protocol rules.now) (history (R.protocol rules.now) script))) }
-    ensures armed { HasNextAttempt (R.protocol rules.now).has_attempts client.old →
-        HasNextAttempt (R.protocol rules.now).has_attempts client.new }
+    ensures { Replays (R.protocol rules.now) result (λ reported. reported.items) events.items
+        client.old client.new (W.left words.old) (W.left words.new) }
 {
-    run_events(alloc, rules, client, words, events)
+    Ok(run_events(alloc, rules, client, words, events)?)
 }

@@ -11,6 +11,7 @@ ghost use Rattle.dhcp_history.specs.Laws.{
   HasSevenPolls,
   HasTwoMessages,
   IsNeverOverdue,
+  KeepsLaws,
 };
 ghost use Rattle.dhcp_history.specs.Bounds.{
   count_of,
@@ -80,6 +81,17 @@ pub fn no_state_is_overdue<R: Rules>(rules: &R)
     ensures { Lawful (R.protocol rules.now) → IsNeverOverdue (R.protocol rules.now) }
 {
     let _rules = rules;
+}
+
+/// The four laws of polls in one: what polls report, how many polls, changes and messages an event
+/// has, and that no state is overdue after them.
+pub fn polls_keep_laws<R: Rules>(rules: &R)
+    ensures { Lawful (R.protocol rules.now) → KeepsLaws (R.protocol rules.now) }
+{
+    polls_give_the_history(rules);
+    seven_polls_an_event(rules);
+    two_messages_an_event(rules);
+    no_state_is_overdue(rules);
 }
 
 /// The last stay of a history lasts, and all others close.

@@ -59,7 +59,7 @@ fn limit_has_come<R: Rules>(rules: &R, client: &Client<R::State, R::Exchange>, n
         client.now.timeout_sec client.now.standing.entered client.now.state) }
 {
     let limit = 1000 * client.timeout_sec as u64;
-    rules.has_time_limit(&client.state)
+    rules.has_attempts(&client.state)
         && limit > 0
         && client.standing.entered <= now
         && now - client.standing.entered >= limit

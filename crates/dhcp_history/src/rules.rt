@@ -58,11 +58,7 @@ pub trait Rules {
     fn ending_moment(&self, state: &Self::State) -> Option<u64>
         ensures { result ≡ (protocol self.now).ending_moment state.now };
 
-    /// Whether the time limit counts in a state.
-    fn has_time_limit(&self, state: &Self::State) -> bool
-        ensures { result ≡ (protocol self.now).has_time_limit state.now };
-
-    /// Whether the client sends in a state.
+    /// Whether the client sends in a state. There its time limit counts.
     fn has_attempts(&self, state: &Self::State) -> bool
         ensures { result ≡ (protocol self.now).has_attempts state.now };
 

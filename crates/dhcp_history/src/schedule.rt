@@ -23,7 +23,7 @@ fn limit_moment<R: Rules>(rules: &R, client: &Client<R::State, R::Exchange>) -> 
     ensures { result ≡ limit_moment (R.protocol rules.now)
         client.now.timeout_sec client.now.standing.entered client.now.state }
 {
-    if client.timeout_sec == 0 || !rules.has_time_limit(&client.state) {
+    if client.timeout_sec == 0 || !rules.has_attempts(&client.state) {
         return None;
     }
     Some(client.standing.entered + 1000 * client.timeout_sec as u64)

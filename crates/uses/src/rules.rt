@@ -70,17 +70,12 @@ impl Rules for Repeater {
       after_clean_up = λ count. record { state = None; exchange = count };
       held_lease = λ state. state;
       release_message = λ lease count. Frame (2 ∷ []);
-      has_time_limit = λ state. is_none state;
     } };
 
     ghost needs_memory = { λ rules state count packet. is_none state };
 
     fn ending_moment(&self, state: &Option<u64>) -> Option<u64> {
         *state
-    }
-
-    fn has_time_limit(&self, state: &Option<u64>) -> bool {
-        state.is_none()
     }
 
     fn has_attempts(&self, state: &Option<u64>) -> bool {

@@ -25,16 +25,7 @@ impl DhcpV4Client {
             self.old self.new (W.left words.old) (W.left words.new) }
     {
         crate::laws::table_is_lawful();
-        let outputs = match replay(
-            self.rules.alloc,
-            &self.rules,
-            &mut self.client,
-            words,
-            events,
-        ) {
-            Ok(outputs) => outputs,
-            Err(_) => return Err(DhcpError::out_of_memory()),
-        };
-        Ok(outputs)
+        let alloc = self.rules.alloc;
+        replay(alloc, &self.rules, &mut self.client, words, events)
     }
 }

@@ -1,4 +1,4 @@
-use Rattle.std.proofs.Common.{◌≡◌, ◌+◌, ◌-◌, arith, ◌∙◌, refl}
+use Rattle.std.proofs.Common.{◌≡◌, ◌+◌, ◌-◌, arith, ◌∙◌, refl, inr}
 use Rattle.dhcp_history.specs.Client.{view_of}
 use Rattle.dhcp_history.specs.Run.{input_of}
 use Rattle.dhcp_history.specs.EventLoop.{event_of}
@@ -23,6 +23,7 @@ loop-preserved g c =
           c.args.outputs.now.items c.loop.outputs.items c.poll_once.new.outputs.items c.in_ok-poll_once.field-0 (omega arith) c.loop.invariant.refuses c.loop.invariant.so_far c.in_ok-poll_once.ensures.polled c.if-not-branch.false);
       empty = c.poll_once.ensures.empty;
       refuses = c.poll_once.ensures.refuses ∙ c.loop.invariant.refuses;
+      polled = inr c.in_ok-poll_once.ensures.moment;
       armed = λ first. c.poll_once.ensures.armed (c.loop.invariant.armed first);
     }
 

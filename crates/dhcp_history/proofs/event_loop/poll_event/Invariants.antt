@@ -1,4 +1,4 @@
-use Rattle.std.proofs.Common.{◌≡◌, ◌-◌, []}
+use Rattle.std.proofs.Common.{◌≡◌, ◌-◌, ◌⊎◌, []}
 use Rattle.std.specs.Prelude.{IfSome, IsSomeAnd}
 use Rattle.dhcp_history.specs.Client.{view_of}
 use Rattle.dhcp_history.specs.Schedule.{HasNextAttempt}
@@ -17,5 +17,6 @@ invariant-loop g l =
           (polls_at p 7 (event_of l.at (input_of l.fn.link.shown.waiting)) (view_of l.fn.client first)) l.outputs.items l.fn.outputs.items));
       empty : l.link.shown.handed ≡ [];
       refuses : l.link.shown.refuses ≡ l.at.refuse;
+      polled : (l.counter ≡ 0) ⊎ (l.client.last_moment ≡ l.at.moment);
       armed : HasNextAttempt p.has_attempts l.fn.client → HasNextAttempt p.has_attempts l.client;
     }
