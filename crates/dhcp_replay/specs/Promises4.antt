@@ -1,6 +1,5 @@
 -- What is promised of the IPv4 client of every script: how its polls go, and how much it sends.
-use Rattle.std.specs.Prelude.{◌≡◌, ℕ, ◌≤◌, List, map, All, Option, Some, option_map}
-use Rattle.std.specs.List.{Contains}
+use Rattle.std.specs.Prelude.{◌≡◌, ℕ, ◌≤◌, List, All, Option, Some, option_map}
 use Rattle.dhcp_clock.specs.declared.link.Handed.{Handed}
 use Rattle.dhcp_clock.specs.declared.link.Packet.{Packet}
 use Rattle.dhcp_clock.specs.Words.{next_of}
@@ -8,7 +7,8 @@ use Rattle.dhcp_history.specs.Bounds.{allowed, count_of, is_send_at}
 use Rattle.dhcp_history.specs.History.{outputs}
 use Rattle.dhcp_history.specs.Machine.{first_view}
 use Rattle.dhcp_history.specs.declared.script.Event.{Event as LifeEvent}
-use Rattle.dhcp_history.specs.declared.script.Input.TheVariants as inputs
+use Rattle.dhcp4_msg.specs.declared.message_type.DhcpV4MessageType.{DhcpV4MessageType}
+use Rattle.dhcp4_msg.specs.declared.message_type.DhcpV4MessageType.TheVariants.{Offer, Ack}
 use Rattle.dhcp4_lease.specs.Config.{Config}
 use Rattle.dhcp4_lease.specs.Lease.{Lease}
 use Rattle.dhcp4_client.specs.Answer.{awaited, message_for, reading_of}
@@ -24,27 +24,30 @@ use Rattle.dhcp_script.specs.declared.event.Event.{Event}
 use Rattle.dhcp_script.specs.declared.script4.Script4.{Script4}
 use Rattle.dhcp_replay.specs.Life.{numbered}
 use Rattle.dhcp_replay.specs.Replayed4.{history4, life_of}
-use Rattle.dhcp_replay.specs.Settles.{NamesItsBasis, SettlesAtEach}
+use Rattle.dhcp_replay.specs.Settles.{ComesInBy, NamesItsBasis, SettlesAtEach}
 
--- The lease is read from a packet that comes in at one of these events, as the answer that is
--- awaited to a transaction id.
-pub record IsReadFrom (events : List (LifeEvent Packet)) (xid : ℕ) (lease : Lease) : Type 0 where
+-- The lease is read from a packet that comes in by the event with this number, as the answer to a
+-- transaction id, in a state that awaits a message of this type.
+pub record IsReadFrom (events : List (LifeEvent Packet)) (xid last : ℕ) (kind : DhcpV4MessageType)
+    (lease : Lease) : Type 0 where
   pub packet : Packet
-  pub comes_in : Contains (map (λ event. event.input) events) (inputs.Arrival packet)
+  pub comes_in : ComesInBy events last packet
   pub state : ClientState
+  pub awaits : option_map (λ found. found.grant) (awaited state) ≡ Some kind
   pub drawn : List ℕ
   pub reads : (reading_of (awaited state) (message_for (awaited state) xid packet) drawn).value
       ≡ Some (Granted lease)
 
--- where the offer or the lease of a state comes from: it was read from a packet, or it is the lease
--- that the client held before
-abbrev pub HasBasis : Option Lease → List (LifeEvent Packet) → ℕ → ClientState → Type 0
-HasBasis before events xid InitReboot = Unit {0}
-HasBasis before events xid (Selecting offer) = IsReadFrom events xid offer
-HasBasis before events xid (Rebooting lease) = before ≡ Some lease
-HasBasis before events xid (Done bound) = IsReadFrom events xid bound.lease
-HasBasis before events xid (Renewing bound) = IsReadFrom events xid bound.lease
-HasBasis before events xid (Rebinding bound) = IsReadFrom events xid bound.lease
+-- Where the offer or the lease of a state that is entered at the event with this number comes from:
+-- it was read from a packet that came by then, the offer from an Offer and the lease from an Ack;
+-- or it is the lease that the client held before.
+abbrev pub HasBasis : Option Lease → List (LifeEvent Packet) → ℕ → ℕ → ClientState → Type 0
+HasBasis before events xid entry InitReboot = Unit {0}
+HasBasis before events xid entry (Selecting offer) = IsReadFrom events xid entry Offer offer
+HasBasis before events xid entry (Rebooting lease) = before ≡ Some lease
+HasBasis before events xid entry (Done bound) = IsReadFrom events xid entry Ack bound.lease
+HasBasis before events xid entry (Renewing bound) = IsReadFrom events xid entry Ack bound.lease
+HasBasis before events xid entry (Rebinding bound) = IsReadFrom events xid entry Ack bound.lease
 
 -- the message of a state names its offer or its lease
 abbrev pub IsMessageOf : Config → ℕ → ClientState → Handed → Type 0
@@ -64,7 +67,8 @@ pub record KeepsPromises (config : Config) (lease : Option Lease) (words : List 
   pub two_messages : (number : ℕ) → count_of (is_send_at number)
       (outputs (protocol config) (history4 config lease words events))
       ≤ allowed number (numbered 1 events)
-  -- each message names the offer or the lease of its state
+  -- each message names the offer or the lease of its state, which was read from an earlier packet,
+  -- or is the lease that was held before
   pub names_its_basis :
       All (NamesItsBasis (HasBasis lease (numbered 1 events) (next_of words))
       (IsMessageOf config (next_of words))) (history4 config lease words events)

@@ -1,6 +1,5 @@
 -- What is promised of the IPv6 client of every script: how its polls go, and how much it sends.
-use Rattle.std.specs.Prelude.{◌≡◌, ◌⊎◌, ℕ, ◌≤◌, List, map, All, Option, Some, option_map}
-use Rattle.std.specs.List.{Contains}
+use Rattle.std.specs.Prelude.{◌≡◌, ◌⊎◌, ℕ, ◌≤◌, List, All, Option, Some, option_map}
 use Rattle.dhcp_clock.specs.declared.link.Handed.{Handed}
 use Rattle.dhcp_clock.specs.declared.link.Packet.{Packet}
 use Rattle.dhcp_history.specs.Bounds.{allowed, count_of, is_send_at}
@@ -8,10 +7,11 @@ use Rattle.dhcp_history.specs.History.{history, outputs}
 use Rattle.dhcp_history.specs.Machine.{first_view}
 use Rattle.dhcp_history.specs.Script.{Script}
 use Rattle.dhcp_history.specs.declared.script.Event.{Event as LifeEvent}
-use Rattle.dhcp_history.specs.declared.script.Input.TheVariants as inputs
+use Rattle.dhcp6_msg.specs.declared.message_type.DhcpV6MessageType.{DhcpV6MessageType}
+use Rattle.dhcp6_msg.specs.declared.message_type.DhcpV6MessageType.TheVariants.{Advertise, Reply}
 use Rattle.dhcp6_msg.specs.Config.{Config}
 use Rattle.dhcp6_msg.specs.Lease.{Lease}
-use Rattle.dhcp6_client.specs.Answer.{answer_of, awaited, message_for}
+use Rattle.dhcp6_client.specs.Answer.{answer_of, message_for}
 use Rattle.dhcp6_client.specs.Bounds.{AreFarApart, HasElevenRequests}
 use Rattle.dhcp6_client.specs.Message.{attempt_message}
 use Rattle.dhcp6_client.specs.Rules.{protocol}
@@ -23,30 +23,32 @@ use Rattle.dhcp_script.specs.Script6.{config_of}
 use Rattle.dhcp_script.specs.declared.event.Event.{Event}
 use Rattle.dhcp_script.specs.declared.script6.Script6.{Script6}
 use Rattle.dhcp_replay.specs.Replayed6.{config_in, life_of}
-use Rattle.dhcp_replay.specs.Settles.{NamesItsBasis, SettlesAtEach}
+use Rattle.dhcp_replay.specs.Settles.{ComesInBy, NamesItsBasis, SettlesAtEach}
 
--- the lease is read from a packet that comes in at one of these events, as the answer that a state
--- awaits to a transaction id
-pub record IsReadFrom (events : List (LifeEvent Packet)) (lease : Lease) : Type 0 where
+-- The lease is read from a packet that comes in by the event with this number, as the answer to a
+-- transaction id where a message of this type is awaited.
+pub record IsReadFrom (events : List (LifeEvent Packet)) (last : ℕ) (kind : DhcpV6MessageType)
+    (lease : Lease) : Type 0 where
   pub packet : Packet
-  pub comes_in : Contains (map (λ event. event.input) events) (inputs.Arrival packet)
-  pub state : ClientState
+  pub comes_in : ComesInBy events last packet
   pub xid : ℕ
-  pub reads : answer_of (message_for (awaited state) xid packet) ≡ Some lease
+  pub reads : answer_of (message_for (Some kind) xid packet) ≡ Some lease
 
--- where a lease comes from: it was read from a packet, or the client held it before
-abbrev pub IsKnown : Option Lease → List (LifeEvent Packet) → Lease → Type 0
-IsKnown before events lease = IsReadFrom events lease ⊎ (before ≡ Some lease)
+-- where a lease comes from: it was read from a Reply that came by the event with this number, or
+-- the client held it before
+abbrev pub IsKnown : Option Lease → List (LifeEvent Packet) → ℕ → Lease → Type 0
+IsKnown before events last lease = IsReadFrom events last Reply lease ⊎ (before ≡ Some lease)
 
--- where the offer or the lease of a state comes from; a client that has a lease has it from a
--- packet, until it renews the one that it held before
-abbrev pub HasBasis : Option Lease → List (LifeEvent Packet) → ClientState → Type 0
-HasBasis before events Solicit = Unit {0}
-HasBasis before events (Request offer) = IsReadFrom events offer
-HasBasis before events (Done bound) = IsReadFrom events bound.lease
-HasBasis before events (Temporary bound) = IsReadFrom events bound.lease
-HasBasis before events (Renew bound) = IsKnown before events bound.lease
-HasBasis before events (Rebind bound) = IsKnown before events bound.lease
+-- Where the offer or the lease of a state that is entered at the event with this number comes from:
+-- it was read from a packet that came by then, the offer from an Advertise and the lease from a
+-- Reply; or, in a client that renews, it may be the lease that the client held before.
+abbrev pub HasBasis : Option Lease → List (LifeEvent Packet) → ℕ → ClientState → Type 0
+HasBasis before events entry Solicit = Unit {0}
+HasBasis before events entry (Request offer) = IsReadFrom events entry Advertise offer
+HasBasis before events entry (Done bound) = IsReadFrom events entry Reply bound.lease
+HasBasis before events entry (Temporary bound) = IsReadFrom events entry Reply bound.lease
+HasBasis before events entry (Renew bound) = IsKnown before events entry bound.lease
+HasBasis before events entry (Rebind bound) = IsKnown before events entry bound.lease
 
 -- the message of a state names its offer or its lease; it has a transaction id, the time since
 -- which the client tries, and in a Solicit the identifier of an association
@@ -67,7 +69,8 @@ pub record KeepsPromisesOver (config : Config) (lease : Option Lease)
   -- an event has at most two messages, and one more where it asks for a release
   pub two_messages : (number : ℕ) → count_of (is_send_at number)
       (outputs (protocol config) (history (protocol config) life)) ≤ allowed number life.events
-  -- each message names the offer or the lease of its state
+  -- each message names the offer or the lease of its state, which was read from an earlier packet,
+  -- or is the lease that was held before
   pub names_its_basis :
       All (NamesItsBasis (HasBasis lease life.events) (IsMessageOf config))
       (history (protocol config) life)

@@ -1,5 +1,6 @@
 -- What is promised of the polls and of the messages of a client of either family.
-use Rattle.std.specs.Prelude.{ℕ, ◌≤◌, List, [], ◌∷◌, All}
+use Rattle.std.specs.Prelude.{◌≡◌, ℕ, ◌≤◌, List, [], ◌∷◌, All}
+use Rattle.std.specs.List.{Contains}
 use Rattle.dhcp_clock.specs.declared.link.Handed.{Handed}
 use Rattle.dhcp_clock.specs.declared.link.Packet.{Packet}
 use Rattle.dhcp_history.specs.Bounds.{attempts_of, count_of, is_change, poll_count, IsWithinState}
@@ -9,6 +10,7 @@ use Rattle.dhcp_history.specs.Machine.{View, polls}
 use Rattle.dhcp_history.specs.Protocol.{Protocol}
 use Rattle.dhcp_history.specs.Script.{after_call}
 use Rattle.dhcp_history.specs.declared.script.Event.{Event as LifeEvent}
+use Rattle.dhcp_history.specs.declared.script.Input.TheVariants.{Arrival}
 
 module _ {PublicState State Exchange Answer Lease : Type 0}
     (p : Protocol PublicState Packet Handed State Exchange Answer Lease) where
@@ -27,9 +29,18 @@ module _ {PublicState State Exchange Answer Lease : Type 0}
       SettlesAt (after_call event) (call_at p event client).view
       × SettlesAtEach (event_at p event client).view events
 
--- the messages of a stay are those of its state, which has a basis
-pub record NamesItsBasis {State : Type 0} (HasBasis : State → Type 0)
+-- the packet comes in at one of these events, at the one with this number or an earlier one
+pub record ComesInBy (events : List (LifeEvent Packet)) (last : ℕ) (packet : Packet) : Type 0 where
+  pub event : LifeEvent Packet
+  pub is_among : Contains events event
+  pub brings : event.input ≡ Arrival packet
+  pub earlier : event.number ≤ last
+
+-- Where a stay is entered at an event, the basis of its state has come by then, and the messages of
+-- its attempts, which come no earlier, are those of its state.
+pub record NamesItsBasis {State : Type 0} (HasBasis : ℕ → State → Type 0)
     (IsMessageOf : State → Handed → Type 0) (stay : Stay State Handed) : Type 0 where
-  pub basis : HasBasis stay.setting.state
+  pub basis : HasBasis stay.entry stay.setting.state
+  pub no_earlier : All (λ attempt. stay.entry ≤ attempt.event) (attempts_of stay.acts)
   pub messages : All (λ attempt. IsMessageOf stay.setting.state attempt.message)
       (attempts_of stay.acts)
