@@ -21,7 +21,7 @@ use Rattle.dhcp_script.specs.Event.{are_valid}
 use Rattle.dhcp_script.specs.Output.{PlainOutput, changed_v6}
 use Rattle.dhcp_script.specs.Script6.{most_codes}
 use Rattle.dhcp_script.specs.declared.event.Event.{Event}
-use Rattle.dhcp_replay.specs.Life.{numbered, output_of}
+use Rattle.dhcp_replay.specs.Life.{EndsAs, numbered, output_of}
 
 -- Whether a configuration and a lease are within the limits of a script: the client's identifier is
 -- absent or has 2 to 130 bytes, at most 1,000 options are asked for, and the identifier of the
@@ -95,9 +95,8 @@ IsReportedOf client drawn events outs =
     outs ≡ map (output_of changed_v6)
     (outputs (protocol client.config) (history (protocol client.config) life))
 
--- the calls and polls of that life leave the client so
-abbrev pub IsLeftBy : ClientParts → List ℕ → List Event → ClientParts → Type 0
-IsLeftBy client drawn events new =
-    let final = (events_at (protocol client.config) (view_of client.client drawn)
-    (numbered 1 events)).view in
-    view_of new.client final.words ≡ final
+-- the calls and polls of that life leave the client and the words so
+abbrev pub IsLeftBy : ClientParts → List ℕ → List Event → ClientParts → Option (List ℕ) → Type 0
+IsLeftBy client drawn events new left =
+    EndsAs (events_at (protocol client.config) (view_of client.client drawn)
+    (numbered 1 events)).view new.client left

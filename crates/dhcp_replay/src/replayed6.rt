@@ -1,6 +1,6 @@
 //! The life of an IPv6 client over the events of a script.
 
-ghost use Rattle.std.specs.Prelude.{◌≡◌, All, IfErr, IfOk, IfSome, OnOk, map, true};
+ghost use Rattle.std.specs.Prelude.{◌≡◌, All, IfErr, IfOk, IfSome, OnOk, Some, map, true};
 ghost use Rattle.dhcp_wire.specs.Error.{no_memory};
 ghost use Rattle.dhcp6_opt.specs.Duid.{written_duid};
 ghost use Rattle.dhcp_script.specs.Duid as duids;
@@ -54,6 +54,8 @@ pub fn replay6<W: Words>(
         ≡ lives.outputs6 config lease start drawn events.now)) }
     ensures client { IfOk result (λ replayed. IfSome (W.left words.old) (λ drawn.
         lives.IsClientAfter config lease start drawn events.now replayed.client)) }
+    ensures words { IfOk result (λ replayed. IfSome (W.left words.old) (λ drawn.
+        W.left words.new ≡ Some (lives.client_after config lease start drawn events.now).words)) }
     ensures failures { IfOk result (λ replayed. IfSome (W.left words.old) (λ drawn.
         All HasFailureText replayed.outputs)) }
     ensures promises { OnOk result (IfSome (W.left words.old) (λ drawn.
@@ -103,7 +105,7 @@ fn played<W: Words>(
     ensures outputs { IfOk result (λ outputs. IfSome (W.left words.old) (λ drawn.
         lives.IsReportedOf client.old drawn events.now (map plain_output outputs))) }
     ensures client { IfOk result (λ outputs. IfSome (W.left words.old) (λ drawn.
-        lives.IsLeftBy client.old drawn events.now client.new)) }
+        lives.IsLeftBy client.old drawn events.now client.new (W.left words.new))) }
     ensures failures { IfOk result (λ outputs. IfSome (W.left words.old) (λ drawn.
         All HasFailureText outputs)) }
     ensures config { client.new.config ≡ client.old.config }

@@ -8,7 +8,7 @@ use Rattle.dhcp_script.specs.Event.{are_valid}
 use Rattle.dhcp_script.specs.Output.{HasFailureText, plain_output}
 use Rattle.dhcp_replay.specs.Life.{numbered}
 use Rattle.dhcp_replay.specs.Replayed6.{fit_a_script}
-use Rattle.dhcp_replay.proofs.Life6Lemmas.{client6, promises6, reported6, says6}
+use Rattle.dhcp_replay.proofs.Life6Lemmas.{client6, promises6, reported6, says6, words6}
 use Rattle.dhcp_replay.proofs.ReplayLemmas.{few_events, moments_below, refusal_of_begin, start_below}
 use Rattle.dhcp_replay.proofs.replayed6.replay6.Goals as goal
 
@@ -37,7 +37,12 @@ returns-clause-outputs g c =
 pub returns-clause-client : goal.returns-clause-client
 returns-clause-client g c =
     client6 c.args.config c.args.lease c.args.start c.args.events.now c.in_ok-client.client (g.W.Words.left c.args.words.now) (g.W.Words.left c.init.new.words) c.in_ok-client.ensures.drawn c.in_ok-client.ensures.begun
-    c.played.new.client c.in_ok-outputs.ensures.client c.in_ok-outputs.ensures.config
+    c.played.new.client (g.W.Words.left c.played.new.words) c.in_ok-outputs.ensures.client c.in_ok-outputs.ensures.config
+
+pub returns-clause-words : goal.returns-clause-words
+returns-clause-words g c =
+    words6 c.args.config c.args.lease c.args.start c.args.events.now c.in_ok-client.client (g.W.Words.left c.args.words.now) (g.W.Words.left c.init.new.words) c.in_ok-client.ensures.drawn c.in_ok-client.ensures.begun
+    c.played.new.client (g.W.Words.left c.played.new.words) c.in_ok-outputs.ensures.client
 
 pub returns-clause-failures : goal.returns-clause-failures
 returns-clause-failures g c =
