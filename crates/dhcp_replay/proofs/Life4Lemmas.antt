@@ -1,5 +1,5 @@
 -- The life of an IPv4 client that begins.
-use Rattle.std.proofs.Common.{◌≡◌, ℕ, List, [], Option, ap, subst, ◌∙◌}
+use Rattle.std.proofs.Common.{◌≡◌, ℕ, List, [], Option, Some, ap, subst, ◌∙◌}
 use Rattle.std.specs.Prelude.{IfSome, drop, map}
 use Rattle.dhcp_clock.specs.declared.link.Handed.{Handed}
 use Rattle.dhcp_clock.specs.declared.link.Packet.{Packet}
@@ -7,7 +7,7 @@ use Rattle.dhcp_clock.specs.Words.{GivesNext, drawn_word, next_of}
 use Rattle.dhcp_history.specs.Client.{unpolled, view_of}
 use Rattle.dhcp_history.specs.EventLoop.{HasReported, events_at}
 use Rattle.dhcp_history.specs.History.{history, outputs}
-use Rattle.dhcp_history.specs.Machine.{first_view}
+use Rattle.dhcp_history.specs.Machine.{View, first_view}
 use Rattle.dhcp_history.specs.Script.{Script}
 use Rattle.dhcp_history.specs.declared.script.Event.{Event as LifeEvent}
 use Rattle.dhcp_history.specs.declared.script.Output.{Output as LifeOutput}
@@ -20,9 +20,9 @@ use Rattle.dhcp4_client.specs.declared.client_state.ClientState.{ClientState}
 use Rattle.dhcp4_client.specs.declared.client_state.Exchange.{Exchange}
 use Rattle.dhcp_script.specs.Output.{PlainOutput, changed_v4}
 use Rattle.dhcp_script.specs.declared.event.Event.{Event}
-use Rattle.dhcp_replay.specs.Life.{numbered, output_of}
+use Rattle.dhcp_replay.specs.Life.{EndsAs, numbered, output_of}
 use Rattle.dhcp_replay.specs.Promises4.{KeepsPromises}
-use Rattle.dhcp_replay.specs.Replayed4.{IsClientAfter, life_of, outputs4}
+use Rattle.dhcp_replay.specs.Replayed4.{IsClientAfter, client_after, life_of, outputs4}
 use Rattle.dhcp_replay.proofs.LifeLemmas as lives
 use Rattle.dhcp_replay.proofs.LifeLemmas.{begun_view, if_exposed, next_drawn}
 
@@ -65,15 +65,25 @@ module _ (config : Config) (lease : Option Lease) (events : List Event) where
           if_exposed (λ words. HasItems config (life words)) (λ words. outs ≡ outputs4 config lease words events) before (λ words is. outs_is ∙ ap (map (output_of changed_v4)) is)
           (lives.life_reports protocol drawn_word own life before after xid client.config client.client (next_drawn before after xid drawn) begun made (λ words. made_is) HasItems reports)
 
-      -- how it stands at the end
+      -- how it ends
       abbrev HasLeft : ClientParts → Option (List ℕ) → List ℕ → Type 0
       HasLeft new left words = HasReported (events_at (protocol client.config) (view_of client.client words) made) [] items (view_of new.client) left
 
-      abbrev StandsSo : ClientParts → List ℕ → Type 0
-      StandsSo new = lives.StandsSo protocol drawn_word own life before after xid client.config client.client (next_drawn before after xid drawn) begun made (λ words. made_is) new.client
+      module _ (new : ClientParts) (left : Option (List ℕ)) (leaves : IfSome after (HasLeft new left)) where
+        abbrev Ends : View ClientState Exchange → Type 0
+        Ends final = EndsAs final new.client left
 
-      pub client4 : (new : ClientParts) (left : Option (List ℕ)) → IfSome after (HasLeft new left) → new.config ≡ client.config → IfSome before (λ words. IsClientAfter config lease words events new)
-      client4 new left leaves kept =
-          if_exposed (StandsSo new) (λ words. IsClientAfter config lease words events new) before (λ words is. record { config_kept = kept ∙ begins.config; view = is })
-          (lives.life_client protocol drawn_word own life before after xid client.config client.client (next_drawn before after xid drawn) begun made (λ words. made_is) new.client
-          (if_exposed (HasLeft new left) (lives.Leaves protocol drawn_word own life before after xid client.config client.client (next_drawn before after xid drawn) begun made (λ words. made_is) new.client) after (λ words is. is.client) leaves))
+        ends4 : IfSome before (λ words. Ends (client_after config lease words events))
+        ends4 =
+            lives.life_ends protocol drawn_word own life before after xid client.config client.client (next_drawn before after xid drawn) begun made (λ words. made_is) Ends
+            (if_exposed (HasLeft new left) (lives.Leaves protocol drawn_word own life before after xid client.config client.client (next_drawn before after xid drawn) begun made (λ words. made_is) Ends) after
+            (λ words is. record { stands = is.client; words = is.words }) leaves)
+
+        pub client4 : new.config ≡ client.config → IfSome before (λ words. IsClientAfter config lease words events new)
+        client4 kept =
+            if_exposed (λ words. Ends (client_after config lease words events)) (λ words. IsClientAfter config lease words events new) before
+            (λ words is. record { config_kept = kept ∙ begins.config; view = is.stands }) ends4
+
+        -- and which words are left
+        pub words4 : IfSome before (λ words. left ≡ Some (client_after config lease words events).words)
+        words4 = if_exposed (λ words. Ends (client_after config lease words events)) (λ words. left ≡ Some (client_after config lease words events).words) before (λ words is. is.words) ends4

@@ -4,6 +4,7 @@ use Rattle.std.specs.Prelude.{IfSome, map}
 use Rattle.dhcp_clock.specs.declared.link.Packet.{Packet}
 use Rattle.dhcp_history.specs.Client.{unpolled}
 use Rattle.dhcp_history.specs.History.{history, outputs}
+use Rattle.dhcp_history.specs.Machine.{View}
 use Rattle.dhcp_history.specs.Rules.{GivesDrawn}
 use Rattle.dhcp_history.specs.Script.{Script}
 use Rattle.dhcp6_msg.specs.Config.{Config}
@@ -14,11 +15,11 @@ use Rattle.dhcp6_client.specs.declared.client_state.ClientState.{ClientState}
 use Rattle.dhcp6_client.specs.declared.client_state.Exchange.{Exchange}
 use Rattle.dhcp_script.specs.Output.{PlainOutput, changed_v6}
 use Rattle.dhcp_script.specs.declared.event.Event.{Event}
-use Rattle.dhcp_replay.specs.Life.{numbered, output_of}
+use Rattle.dhcp_replay.specs.Life.{EndsAs, numbered, output_of}
 use Rattle.dhcp_replay.specs.Promises6.{KeepsPromises, KeepsPromisesOver}
-use Rattle.dhcp_replay.specs.Replayed6.{IsClientAfter, IsLeftBy, IsReportedOf, config_in, life_of, outputs6}
+use Rattle.dhcp_replay.specs.Replayed6.{IsClientAfter, IsLeftBy, IsReportedOf, client_after, config_in, life_of, outputs6}
 use Rattle.dhcp_replay.proofs.LifeLemmas as lives
-use Rattle.dhcp_replay.proofs.LifeLemmas.{begun_view}
+use Rattle.dhcp_replay.proofs.LifeLemmas.{begun_view, if_exposed}
 
 module _ (config : Config) (lease : Option Lease) (start : ℕ) (events : List Event) where
   abbrev life : List ℕ → Script Packet ClientState Exchange
@@ -53,13 +54,24 @@ module _ (config : Config) (lease : Option Lease) (start : ℕ) (events : List E
     reported6 outs reports =
         lives.life_reports protocol (first_draws config) (config_in config) life before after (drawn_for client) client.config client.client drawn begun (numbered 1 events) (λ words. refl) (HasOuts outs) reports
 
-    -- how it stands at the end
-    pub client6 : (new : ClientParts) → IfSome after (λ left. IsLeftBy client left events new) → new.config ≡ client.config → IfSome before (λ words. IsClientAfter config lease start words events new)
-    client6 new leaves kept =
-        go before drawn (lives.life_client protocol (first_draws config) (config_in config) life before after (drawn_for client) client.config client.client drawn begun (numbered 1 events) (λ words. refl) new.client leaves)
-      where
-        go : (exposed : Option (List ℕ)) → GivesDrawn (first_draws config) exposed (drawn_for client) after →
-            IfSome exposed (lives.StandsSo protocol (first_draws config) (config_in config) life before after (drawn_for client) client.config client.client drawn begun (numbered 1 events) (λ words. refl) new.client) →
-            IfSome exposed (λ words. IsClientAfter config lease start words events new)
-        go None drawn is = tt
-        go (Some words) drawn is = record { config_kept = kept ∙ (begun words drawn.0).config; view = is }
+    -- how it ends
+    module _ (new : ClientParts) (left : Option (List ℕ)) (leaves : IfSome after (λ words. IsLeftBy client words events new left)) where
+      abbrev Ends : View ClientState Exchange → Type 0
+      Ends final = EndsAs final new.client left
+
+      ends6 : IfSome before (λ words. Ends (client_after config lease start words events))
+      ends6 = lives.life_ends protocol (first_draws config) (config_in config) life before after (drawn_for client) client.config client.client drawn begun (numbered 1 events) (λ words. refl) Ends leaves
+
+      pub client6 : new.config ≡ client.config → IfSome before (λ words. IsClientAfter config lease start words events new)
+      client6 kept = go before drawn ends6
+        where
+          go : (exposed : Option (List ℕ)) → GivesDrawn (first_draws config) exposed (drawn_for client) after → IfSome exposed (λ words. Ends (client_after config lease start words events)) →
+              IfSome exposed (λ words. IsClientAfter config lease start words events new)
+          go None drawn is = tt
+          go (Some words) drawn is = record { config_kept = kept ∙ (begun words drawn.0).config; view = is.stands }
+
+      -- and which words are left
+      pub words6 : IfSome before (λ words. left ≡ Some (client_after config lease start words events).words)
+      words6 =
+          if_exposed (λ words. Ends (client_after config lease start words events)) (λ words. left ≡ Some (client_after config lease start words events).words) before
+          (λ words is. is.words) ends6

@@ -1,4 +1,4 @@
--- The life of a client that begins: what is reported of it, how it stands at the end, and what is promised of it.
+-- The life of a client that begins: what is reported of it, how it ends, and what is promised of it.
 use Rattle.std.proofs.Common.{◌≡◌, ℕ, List, Option, Some, None, sym, ap, subst, ◌∙◌}
 use Rattle.std.specs.Prelude.{IfSome}
 use Rattle.dhcp_clock.specs.declared.link.Handed.{Handed}
@@ -85,22 +85,18 @@ module _ {Config X PublicState State Exchange Answer Lease : Type 0} (protocol :
               let known : Reports Is (draws words).left = after_draw (Reports Is) (draws words).left after drawn.1 reports in
               subst (λ (c : Config). Is c (life_of words)) begins.config (known (life_of words) begins.view (sym (made_is words)))
 
-      -- how the client stands at the end
-      module _ (new : Client State Exchange) where
+      -- how it ends
+      module _ (Ends : View State Exchange → Type 0) where
         abbrev pub Leaves : List ℕ → Type 0
-        Leaves left =
-            let final : View State Exchange = (events_at (protocol own) (view_of client left) made).view in
-            view_of new final.words ≡ final
+        Leaves left = Ends (events_at (protocol own) (view_of client left) made).view
 
-        abbrev pub StandsSo : List ℕ → Type 0
-        StandsSo words =
-            let final : View State Exchange = (events_at (protocol (config_in words)) (first_view (life_of words)) (life_of words).events).view in
-            view_of new final.words ≡ final
+        abbrev pub EndsSo : List ℕ → Type 0
+        EndsSo words = Ends (events_at (protocol (config_in words)) (first_view (life_of words)) (life_of words).events).view
 
-        pub life_client : IfSome after Leaves → IfSome before StandsSo
-        life_client leaves = go before drawn
+        pub life_ends : IfSome after Leaves → IfSome before EndsSo
+        life_ends leaves = go before drawn
           where
-            go : (exposed : Option (List ℕ)) → GivesDrawn draws exposed value after → IfSome exposed StandsSo
+            go : (exposed : Option (List ℕ)) → GivesDrawn draws exposed value after → IfSome exposed EndsSo
             go None drawn = tt
             go (Some words) drawn =
                 let begins = begun words drawn.0 in
@@ -110,7 +106,7 @@ module _ {Config X PublicState State Exchange Answer Lease : Type 0} (protocol :
                 ap (λ (c : Config). (events_at (protocol c) (view_of client (draws words).left) made).view) begins.config
                 ∙ ap (λ (view : View State Exchange). (events_at (protocol (config_in words)) view made).view) begins.view
                 ∙ ap (λ (all : List (LifeEvent Packet)). (events_at (protocol (config_in words)) first all).view) (made_is words) in
-                subst (λ (view : View State Exchange). view_of new view.words ≡ view) same left_so
+                subst Ends same left_so
 
 -- what follows of some words, follows where they are exposed
 pub if_exposed : (Says Also : List ℕ → Type 0) (exposed : Option (List ℕ)) → ((words : List ℕ) → Says words → Also words) → IfSome exposed Says → IfSome exposed Also

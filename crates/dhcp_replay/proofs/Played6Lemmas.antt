@@ -18,7 +18,7 @@ use Rattle.dhcp6_client.specs.declared.client_state.Exchange.{Exchange}
 use Rattle.dhcp_script.specs.Output.{changed_v6, plain_output}
 use Rattle.dhcp_script.specs.declared.event.Event.{Event}
 use Rattle.dhcp_script.specs.declared.output.Output.{Output}
-use Rattle.dhcp_replay.specs.Life.{numbered, output_of}
+use Rattle.dhcp_replay.specs.Life.{EndsAs, numbered, output_of}
 use Rattle.dhcp_replay.specs.Replayed6.{IsLeftBy, IsReportedOf}
 use Rattle.dhcp_replay.proofs.LifeLemmas.{if_exposed}
 
@@ -38,9 +38,9 @@ pub outputs_made6 : (client : ClientParts) (events : List Event) (made : List (L
 outputs_made6 client events made items outs exposed made_is outs_is =
     if_exposed (Reports client events made items) (λ drawn. IsReportedOf client drawn events (map plain_output outs)) exposed (λ drawn reports. reports_made client events made items outs drawn made_is outs_is reports)
 
--- and they leave the client so
+-- and they leave the client and the words so
 pub left6 : (client new : ClientParts) (events : List Event) (made : List (LifeEvent Packet)) (items : List (LifeOutput PlainState Handed)) (exposed left : Option (List ℕ)) → made ≡ numbered 1 events →
-    IfSome exposed (λ drawn. HasReported (events_at (protocol client.config) (view_of client.client drawn) made) [] items (view_of new.client) left) → IfSome exposed (λ drawn. IsLeftBy client drawn events new)
+    IfSome exposed (λ drawn. HasReported (events_at (protocol client.config) (view_of client.client drawn) made) [] items (view_of new.client) left) → IfSome exposed (λ drawn. IsLeftBy client drawn events new left)
 left6 client new events made items exposed left made_is =
-    if_exposed (λ drawn. HasReported (events_at (protocol client.config) (view_of client.client drawn) made) [] items (view_of new.client) left) (λ drawn. IsLeftBy client drawn events new) exposed
-    (λ drawn reported. subst (λ (all : List (LifeEvent Packet)). (let final = (events_at (protocol client.config) (view_of client.client drawn) all).view in view_of new.client final.words ≡ final)) made_is reported.client)
+    if_exposed (λ drawn. HasReported (events_at (protocol client.config) (view_of client.client drawn) made) [] items (view_of new.client) left) (λ drawn. IsLeftBy client drawn events new left) exposed
+    (λ drawn reported. subst (λ (all : List (LifeEvent Packet)). EndsAs (events_at (protocol client.config) (view_of client.client drawn) all).view new.client left) made_is (record { stands = reported.client; words = reported.words }))

@@ -5,7 +5,7 @@ use Rattle.std.specs.List.{AllByRecursion, Contains}
 use Rattle.std.proofs.lemmas.List.Elements.{All-contains_itself, All-from_recursion, recursion_from_All}
 use Rattle.dhcp_clock.specs.declared.link.Handed.{Handed}
 use Rattle.dhcp_clock.specs.declared.link.Packet.{Packet}
-use Rattle.dhcp_history.specs.Bounds.{count_of, is_change, poll_count, IsWithinState}
+use Rattle.dhcp_history.specs.Bounds.{count_of, is_change, is_send, poll_count, IsWithinState}
 use Rattle.dhcp_history.specs.EventLoop.{call_at, event_at}
 use Rattle.dhcp_history.specs.History.{Stay, history}
 use Rattle.dhcp_history.specs.Machine.{View, polls}
@@ -23,6 +23,7 @@ use Rattle.dhcp_replay.specs.Settles.{ComesInBy, NamesItsBasis, SettlesAtEach}
 module _ {PublicState State Exchange Answer Lease : Type 0} (p : Protocol PublicState Packet Handed State Exchange Answer Lease)
     (seven : (fuel : ℕ) (event : LifeEvent Packet) (client : View State Exchange) → poll_count p fuel event client ≤ 7)
     (six : (fuel : ℕ) (event : LifeEvent Packet) (client : View State Exchange) → count_of is_change (polls p fuel event client).outputs ≤ 6)
+    (two : (fuel : ℕ) (event : LifeEvent Packet) (client : View State Exchange) → count_of is_send (polls p fuel event client).outputs ≤ 2)
     (within : (event : LifeEvent Packet) (client : View State Exchange) → IsWithinState p event.moment (polls p 7 event client).view) where
   pub settles_at_each : (client : View State Exchange) (events : List (LifeEvent Packet)) → SettlesAtEach p client events
   settles_at_each client [] = tt
@@ -30,6 +31,7 @@ module _ {PublicState State Exchange Answer Lease : Type 0} (p : Protocol Public
     record {
       seven_polls = λ fuel. seven fuel (after_call event) (call_at p event client).view;
       six_changes = λ fuel. six fuel (after_call event) (call_at p event client).view;
+      two_messages = λ fuel. two fuel (after_call event) (call_at p event client).view;
       not_overdue = within (after_call event) (call_at p event client).view;
     },
     settles_at_each (event_at p event client).view events,

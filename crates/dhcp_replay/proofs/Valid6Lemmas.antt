@@ -20,14 +20,22 @@ use Rattle.dhcp_script.specs.declared.event.Event.{Event}
 use Rattle.dhcp_script.specs.declared.lease6.Lease6.{Lease6}
 use Rattle.dhcp_script.specs.declared.script6.Script6.{Script6}
 use Rattle.dhcp_replay.specs.Life.{IsRefusal}
-use Rattle.dhcp_replay.specs.Replayed6.{can_replay}
+use Rattle.dhcp_replay.specs.Replayed6.{can_replay, fit_a_script}
 use Rattle.dhcp_replay.proofs.DuidLemmas.{length-duid, no_duid}
 use Rattle.dhcp_replay.proofs.RisingLemmas.{rising_few}
 
-requested_few : (codes : Option (List ℕ)) (mode : _) → are_few most_codes codes ≡ true → nat_le (length (requested rising_codes codes (configs.config_of [] mode).request_opts)) 32767 ≡ true
+-- so many options are asked for at most
+requested_few : (codes : Option (List ℕ)) (mode : _) → are_few most_codes codes ≡ true → length (requested rising_codes codes (configs.config_of [] mode).request_opts) ≤ most_codes
 unfolding configs.config_of
-requested_few None mode few = refl
-requested_few (Some listed) mode few = le-leb (length (rising_codes listed)) 32767 (omega (arith, rising_few code_of listed, leb-true (length listed) most_codes few))
+requested_few None mode few = omega arith
+requested_few (Some listed) mode few = omega (arith, rising_few code_of listed, leb-true (length listed) most_codes few)
+
+-- an identifier of a script has as many bytes as it is read from
+duid_kept : (bytes : List ℕ) → is_duid bytes ≡ true → is_duid (written_duid (duid_of bytes)) ≡ true
+duid_kept bytes is = subst (λ (n : ℕ). (nat_le 2 n && nat_le n most_duid_bytes) ≡ true) (sym (length-duid bytes)) is
+
+duid_or_none_kept : (bytes : List ℕ) → is_duid_or_none bytes ≡ true → is_duid_or_none (written_duid (duid_of bytes)) ≡ true
+duid_or_none_kept bytes is = subst (λ (n : ℕ). ((n == 0) || (nat_le 2 n && nat_le n most_duid_bytes)) ≡ true) (sym (length-duid bytes)) is
 
 -- an identifier of a script can be sent
 duid_sent : (bytes : List ℕ) → is_duid bytes ≡ true → leases.is_duid (duid_of bytes) ≡ true
@@ -74,6 +82,12 @@ lease_within (Some lease) valid =
     let parts = and_parts first (is_duid lease.srv_duid) valid in
     and_from (first && true) (leases.is_duid (duid_of lease.srv_duid)) (and_from first true parts.0 refl) (duid_sent lease.srv_duid parts.1)
 
+-- and within those of one that a script may hold
+lease_fits : (lease : Option Lease6) → is_lease_valid lease ≡ true → option_map_or (λ (held : leases.Lease). is_duid (written_duid held.srv_duid)) (option_map lease_with lease) true ≡ true
+unfolding lease_with
+lease_fits None valid = refl
+lease_fits (Some lease) valid = duid_kept lease.srv_duid (and_parts (are_times_in_order lease && not (is_unspecified lease.address)) (is_duid lease.srv_duid) valid).1
+
 -- the parts of the test of a script
 record ValidParts (script : Script6) : Type 0 where
   index : not (script.iface_index == 0) ≡ true
@@ -98,7 +112,14 @@ config_within : (script : Script6) → ValidParts script → configs.is_within_l
 unfolding config_of configs.is_within_limits
 config_within script valid =
     and_from (nat_le (length (written_duid (duid_of script.duid))) 65535) (nat_le (length (requested rising_codes script.codes (configs.config_of [] script.mode).request_opts)) 32767)
-    (duid_named script.duid valid.duid).short (requested_few script.codes script.mode valid.codes)
+    (duid_named script.duid valid.duid).short (le-leb (length (requested rising_codes script.codes (configs.config_of [] script.mode).request_opts)) 32767 (omega (arith, requested_few script.codes script.mode valid.codes)))
+
+-- and within those of a script
+config_fits : (script : Script6) → ValidParts script → (is_duid_or_none (written_duid (config_of script).duid) && nat_le (length (config_of script).request_opts) most_codes) ≡ true
+unfolding config_of
+config_fits script valid =
+    and_from (is_duid_or_none (written_duid (duid_of script.duid))) (nat_le (length (requested rising_codes script.codes (configs.config_of [] script.mode).request_opts)) most_codes)
+    (duid_or_none_kept script.duid valid.duid) (le-leb (length (requested rising_codes script.codes (configs.config_of [] script.mode).request_opts)) most_codes (requested_few script.codes script.mode valid.codes))
 
 -- it has an interface, an address and an identifier
 config_named : (script : Script6) → ValidParts script →
@@ -116,7 +137,10 @@ valid_plays script valid =
     let config = config_of script in
     let named : Bool = not (config.iface_index == 0) && not (is_unspecified config.src_ip) && (is_no_duid config.duid || leases.is_duid config.duid) in
     let held : Bool = option_map_or leases.is_within_limits (option_map lease_with script.lease) true in
-    and_from (are_valid script.start script.events) (named && configs.is_within_limits config && held) all.events
+    let short : Bool = is_duid_or_none (written_duid config.duid) && nat_le (length config.request_opts) most_codes in
+    let named_server : Bool = option_map_or (λ (held : leases.Lease). is_duid (written_duid held.srv_duid)) (option_map lease_with script.lease) true in
+    and_from (are_valid script.start script.events && fit_a_script config (option_map lease_with script.lease)) (named && configs.is_within_limits config && held)
+    (and_from (are_valid script.start script.events) (short && named_server) all.events (and_from short named_server (config_fits script all) (lease_fits script.lease all.lease)))
     (and_from (named && configs.is_within_limits config) held
     (and_from named (configs.is_within_limits config) (config_named script all) (config_within script all))
     (lease_within script.lease all.lease))

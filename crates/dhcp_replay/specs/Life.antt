@@ -1,11 +1,14 @@
 -- What the lives of the clients of both families share: the events that come to a client, and what
 -- is reported of it.
-use Rattle.std.specs.Prelude.{◌≡◌, ℕ, suc, Bool, true, false, List, [], ◌∷◌}
+use Rattle.std.specs.Prelude.{◌≡◌, ℕ, suc, Bool, true, false, List, [], ◌∷◌, Option, Some}
 use Rattle.dhcp_wire.specs.Error.{ErrorParts, no_memory}
 use Rattle.dhcp_wire.specs.declared.error.ErrorKind.TheVariants.{Timeout, IoError, InvalidArgument}
 use Rattle.dhcp_clock.specs.declared.link.Handed.{Handed}
 use Rattle.dhcp_clock.specs.declared.link.Packet.{Packet}
 use Rattle.dhcp_clock.specs.declared.link.PacketKind.TheVariants as carriers
+use Rattle.dhcp_history.specs.Client.{view_of}
+use Rattle.dhcp_history.specs.Machine.{View}
+use Rattle.dhcp_history.specs.declared.client.Client.{Client}
 use Rattle.dhcp_history.specs.declared.script.Event.{Event as LifeEvent}
 use Rattle.dhcp_history.specs.declared.script.Failure.TheVariants as failures
 use Rattle.dhcp_history.specs.declared.script.Input.{Input}
@@ -61,3 +64,11 @@ abbrev pub output_of : {State : Type 0} → (State → PlainReport) → LifeOutp
     PlainOutput
 output_of changed output =
     record { event = output.event; report = report_of changed output.report }
+
+-- 3. The end.
+
+-- a client and the words that are left are as this view has them
+pub record EndsAs {State Exchange : Type 0} (final : View State Exchange)
+    (client : Client State Exchange) (left : Option (List ℕ)) : Type 0 where
+  pub stands : view_of client final.words ≡ final
+  pub words : left ≡ Some final.words

@@ -1,6 +1,7 @@
 -- The life of an IPv6 client over the events of a script: its history, and what is reported of it.
 pub use Rattle.dhcp_replay.specs.Life.{IsRefusal}
-use Rattle.std.specs.Prelude.{◌≡◌, ℕ, ◌≤◌, ◌<◌, ◌^◌, Bool, ◌&&◌, List, length, map, All, Option}
+use Rattle.std.specs.Prelude.{◌≡◌, ℕ, ◌≤◌, ◌<◌, ◌^◌, Bool, true, ◌&&◌, nat_le, List, length, map, All, Option}
+use Rattle.std.specs.Option.{option_map_or}
 use Rattle.dhcp_clock.specs.declared.link.Handed.{Handed}
 use Rattle.dhcp_clock.specs.declared.link.Packet.{Packet}
 use Rattle.dhcp_history.specs.Client.{view_of}
@@ -8,20 +9,34 @@ use Rattle.dhcp_history.specs.EventLoop.{events_at}
 use Rattle.dhcp_history.specs.History.{Stay, history, outputs}
 use Rattle.dhcp_history.specs.Machine.{View, first_view}
 use Rattle.dhcp_history.specs.Script.{Script}
+use Rattle.dhcp6_opt.specs.Duid.{written_duid}
 use Rattle.dhcp6_msg.specs.Config.{Config}
 use Rattle.dhcp6_msg.specs.Lease.{Lease}
 use Rattle.dhcp6_client.specs.Client.{ClientParts, can_begin, first_draws, first_exchange, first_state}
 use Rattle.dhcp6_client.specs.Rules.{protocol}
 use Rattle.dhcp6_client.specs.declared.client_state.ClientState.{ClientState}
 use Rattle.dhcp6_client.specs.declared.client_state.Exchange.{Exchange}
+use Rattle.dhcp_script.specs.Duid.{is_duid, is_duid_or_none}
 use Rattle.dhcp_script.specs.Event.{are_valid}
 use Rattle.dhcp_script.specs.Output.{PlainOutput, changed_v6}
+use Rattle.dhcp_script.specs.Script6.{most_codes}
 use Rattle.dhcp_script.specs.declared.event.Event.{Event}
-use Rattle.dhcp_replay.specs.Life.{numbered, output_of}
+use Rattle.dhcp_replay.specs.Life.{EndsAs, numbered, output_of}
 
--- whether a client can live so: start and events are within their limits, and it can begin
+-- Whether a configuration and a lease are within the limits of a script: the client's identifier is
+-- absent or has 2 to 130 bytes, at most 1,000 options are asked for, and the identifier of the
+-- lease's server has 2 to 130 bytes.
+abbrev pub fit_a_script : Config → Option Lease → Bool
+fit_a_script config lease =
+    is_duid_or_none (written_duid config.duid)
+    && nat_le (length config.request_opts) most_codes
+    && option_map_or (λ held. is_duid (written_duid held.srv_duid)) lease true
+
+-- whether a client can live so: all that it is given is within the limits of a script, and it can
+-- begin
 abbrev pub can_replay : Config → Option Lease → ℕ → List Event → Bool
-can_replay config lease start events = are_valid start events && can_begin config lease
+can_replay config lease start events =
+    are_valid start events && fit_a_script config lease && can_begin config lease
 
 -- the configuration with which it lives: an identifier that is absent is made
 abbrev pub config_in : Config → List ℕ → Config
@@ -80,9 +95,8 @@ IsReportedOf client drawn events outs =
     outs ≡ map (output_of changed_v6)
     (outputs (protocol client.config) (history (protocol client.config) life))
 
--- the calls and polls of that life leave the client so
-abbrev pub IsLeftBy : ClientParts → List ℕ → List Event → ClientParts → Type 0
-IsLeftBy client drawn events new =
-    let final = (events_at (protocol client.config) (view_of client.client drawn)
-    (numbered 1 events)).view in
-    view_of new.client final.words ≡ final
+-- the calls and polls of that life leave the client and the words so
+abbrev pub IsLeftBy : ClientParts → List ℕ → List Event → ClientParts → Option (List ℕ) → Type 0
+IsLeftBy client drawn events new left =
+    EndsAs (events_at (protocol client.config) (view_of client.client drawn)
+    (numbered 1 events)).view new.client left

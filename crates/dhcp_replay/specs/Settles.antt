@@ -3,7 +3,7 @@ use Rattle.std.specs.Prelude.{◌≡◌, ℕ, ◌≤◌, List, [], ◌∷◌, Al
 use Rattle.std.specs.List.{Contains}
 use Rattle.dhcp_clock.specs.declared.link.Handed.{Handed}
 use Rattle.dhcp_clock.specs.declared.link.Packet.{Packet}
-use Rattle.dhcp_history.specs.Bounds.{attempts_of, count_of, is_change, poll_count, IsWithinState}
+use Rattle.dhcp_history.specs.Bounds.{attempts_of, count_of, is_change, is_send, poll_count, IsWithinState}
 use Rattle.dhcp_history.specs.EventLoop.{call_at, event_at}
 use Rattle.dhcp_history.specs.History.{Stay}
 use Rattle.dhcp_history.specs.Machine.{View, polls}
@@ -14,12 +14,13 @@ use Rattle.dhcp_history.specs.declared.script.Input.TheVariants.{Arrival}
 
 module _ {PublicState State Exchange Answer Lease : Type 0}
     (p : Protocol PublicState Packet Handed State Exchange Answer Lease) where
-  -- At an event, after its call, the client is polled at most seven times, and changes its state at
-  -- most six times. After the polls a client without a kept error is in no state whose end has
-  -- come.
+  -- At an event, after its call, the client is polled at most seven times, changes its state at
+  -- most six times, and hands at most two messages to the link. After the polls a client without a
+  -- kept error is in no state whose end has come.
   pub record SettlesAt (event : LifeEvent Packet) (client : View State Exchange) : Type 0 where
     pub seven_polls : (fuel : ℕ) → poll_count p fuel event client ≤ 7
     pub six_changes : (fuel : ℕ) → count_of is_change (polls p fuel event client).outputs ≤ 6
+    pub two_messages : (fuel : ℕ) → count_of is_send (polls p fuel event client).outputs ≤ 2
     pub not_overdue : IsWithinState p event.moment (polls p 7 event client).view
 
   -- and so at each of these events

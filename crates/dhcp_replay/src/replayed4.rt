@@ -1,6 +1,6 @@
 //! The life of an IPv4 client over the events of a script.
 
-ghost use Rattle.std.specs.Prelude.{◌≡◌, All, IfErr, IfOk, IfSome, OnOk, map, true};
+ghost use Rattle.std.specs.Prelude.{◌≡◌, All, IfErr, IfOk, IfSome, OnOk, Some, map, true};
 ghost use Rattle.dhcp_script.specs.Output.{HasFailureText, plain_output};
 ghost use Rattle.dhcp_replay.specs.Promises4.{KeepsPromises};
 ghost use Rattle.dhcp_replay.specs.Replayed4 as lives;
@@ -42,6 +42,8 @@ pub fn replay4<W: Words>(
         map plain_output replayed.outputs ≡ lives.outputs4 config lease drawn events.now)) }
     ensures client { IfOk result (λ replayed. IfSome (W.left words.old) (λ drawn.
         lives.IsClientAfter config lease drawn events.now replayed.client)) }
+    ensures words { IfOk result (λ replayed. IfSome (W.left words.old) (λ drawn.
+        W.left words.new ≡ Some (lives.client_after config lease drawn events.now).words)) }
     ensures failures { IfOk result (λ replayed. All HasFailureText replayed.outputs) }
     ensures promises { OnOk result (IfSome (W.left words.old) (λ drawn.
         KeepsPromises config lease drawn events.now)) }

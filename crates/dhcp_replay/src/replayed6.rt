@@ -1,7 +1,9 @@
 //! The life of an IPv6 client over the events of a script.
 
-ghost use Rattle.std.specs.Prelude.{◌≡◌, All, IfErr, IfOk, IfSome, OnOk, map, true};
+ghost use Rattle.std.specs.Prelude.{◌≡◌, All, IfErr, IfOk, IfSome, OnOk, Some, map, true};
 ghost use Rattle.dhcp_wire.specs.Error.{no_memory};
+ghost use Rattle.dhcp6_opt.specs.Duid.{written_duid};
+ghost use Rattle.dhcp_script.specs.Duid as duids;
 ghost use Rattle.dhcp_script.specs.Output.{HasFailureText, plain_output};
 ghost use Rattle.dhcp_replay.specs.Promises6.{KeepsPromises};
 ghost use Rattle.dhcp_replay.specs.Replayed6 as lives;
@@ -13,7 +15,13 @@ use dhcp_script::{Event, Output, are_valid};
 use dhcp_wire::{DhcpError, ErrorKind, FixedText, Sequence};
 use dhcp6_client::DhcpV6Client;
 use dhcp6_msg::{DhcpV6Config, DhcpV6Lease};
+use dhcp6_opt::DhcpV6Duid;
 use std::alloc::Global;
+
+// How many bytes an identifier has at most, and how many option codes are asked for, in a script.
+const MAX_DUID_LEN: usize = 130;
+
+const MAX_CODES: usize = 1000;
 
 /// What happened to an IPv6 client, and the client at the end.
 #[derive(Drop)]
@@ -26,8 +34,10 @@ pub struct Replayed6 {
 
 /// Plays the events of a script with a client of this configuration, and with a lease that it held
 /// before, if there is one, whose times count from the start. The start and the moments of the
-/// events are in milliseconds. `InvalidArgument` if and only if the client cannot begin so, or
-/// start and events are not within their limits.
+/// events are in milliseconds. `InvalidArgument` if and only if the client cannot begin so, or what
+/// is given is not within the limits of a script: start and events are not, the client's identifier
+/// is neither empty nor 2 to 130 bytes, there are more than 1,000 option codes, or the server's
+/// identifier of the lease is not 2 to 130 bytes.
 pub fn replay6<W: Words>(
     alloc: Global,
     config: DhcpV6Config,
@@ -44,6 +54,8 @@ pub fn replay6<W: Words>(
         ≡ lives.outputs6 config lease start drawn events.now)) }
     ensures client { IfOk result (λ replayed. IfSome (W.left words.old) (λ drawn.
         lives.IsClientAfter config lease start drawn events.now replayed.client)) }
+    ensures words { IfOk result (λ replayed. IfSome (W.left words.old) (λ drawn.
+        W.left words.new ≡ Some (lives.client_after config lease start drawn events.now).words)) }
     ensures failures { IfOk result (λ replayed. IfSome (W.left words.old) (λ drawn.
         All HasFailureText replayed.outputs)) }
     ensures promises { OnOk result (IfSome (W.left words.old) (λ drawn.
@@ -52,10 +64,34 @@ pub fn replay6<W: Words>(
     if !are_valid(start, events) {
         return Err(DhcpError::new_fixed(ErrorKind::InvalidArgument, FixedText::Script));
     }
+    if !fit_a_script(&config, &lease) {
+        return Err(DhcpError::new_fixed(ErrorKind::InvalidArgument, FixedText::Config));
+    }
     let mut client = DhcpV6Client::init(alloc, config, lease, start, words)?;
     laws::promises6_are_kept(&client);
     let outputs = played(alloc, &mut client, words, events)?;
     Ok(Replayed6 { outputs, client })
+}
+
+// Whether a configuration and a lease are within the limits of a script.
+fn fit_a_script(config: &DhcpV6Config, lease: &Option<DhcpV6Lease>) -> bool
+    ensures { result ≡ lives.fit_a_script config.now lease.now }
+{
+    let names_its_server = match lease {
+        Some(lease) => is_duid(&lease.srv_duid),
+        None => true,
+    };
+    (config.duid.written_len() == 0 || is_duid(&config.duid))
+        && config.request_opts.len() <= MAX_CODES
+        && names_its_server
+}
+
+// Whether an identifier has 2 to 130 bytes.
+fn is_duid(duid: &DhcpV6Duid) -> bool
+    ensures { result ≡ duids.is_duid (written_duid duid.now) }
+{
+    let len = duid.written_len();
+    2 <= len && len <= MAX_DUID_LEN
 }
 
 // What is reported of a client over these events.
@@ -69,7 +105,7 @@ fn played<W: Words>(
     ensures outputs { IfOk result (λ outputs. IfSome (W.left words.old) (λ drawn.
         lives.IsReportedOf client.old drawn events.now (map plain_output outputs))) }
     ensures client { IfOk result (λ outputs. IfSome (W.left words.old) (λ drawn.
-        lives.IsLeftBy client.old drawn events.now client.new)) }
+        lives.IsLeftBy client.old drawn events.now client.new (W.left words.new))) }
     ensures failures { IfOk result (λ outputs. IfSome (W.left words.old) (λ drawn.
         All HasFailureText outputs)) }
     ensures config { client.new.config ≡ client.old.config }

@@ -1,5 +1,6 @@
 //! Whole lives of a client, from the text of a script to the text of what is printed.
 
+mod limits6;
 mod lives;
 mod lives6;
 mod packets;

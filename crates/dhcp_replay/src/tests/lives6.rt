@@ -43,7 +43,7 @@ const TO_LEASE: &str = "1 handed udp6 SOLICIT6.0000\n2 state request\n\
     2 handed udp6 REQUEST6.0000\n3 state done LEASE6 50 80 100 200 REST6\n";
 
 // Each life, as those of an IPv4 client.
-const LIVES: [Life; 17] = [
+const LIVES: [Life; 19] = [
     ("a lease in three events", SAME, LEASED, "", TO_LEASE, ""),
     (
         "eleven requests of an offer, and a new Solicit",
@@ -80,6 +80,22 @@ const LIVES: [Life; 17] = [
         TO_LEASE,
         "4 refused udp6 RELEASE6.0000\n4 failed io_error\n5 handed udp6 RELEASE6.0000\n\
         5 handed udp6 SOLICIT6_AGAIN.0000\n",
+    ),
+    (
+        "the release of a lease",
+        SAME,
+        LEASED,
+        "at 300 ok release\n",
+        TO_LEASE,
+        "4 handed udp6 RELEASE6.0000\n4 handed udp6 SOLICIT6_AGAIN.0000\n",
+    ),
+    (
+        "T1 and T2 that the server leaves to the client",
+        SAME,
+        "at 0 ok none\nat 100 ok payload ADVERTISE6\nat 200 ok payload REPLY6_OF_DEFAULT_TIMES\n",
+        "",
+        TO_REQUEST,
+        "3 state done LEASE6 50 75 100 200 REST6\n",
     ),
     (
         "a lease of no time",

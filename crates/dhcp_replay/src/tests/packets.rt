@@ -87,9 +87,10 @@ const PACKETS: [(&str, &str, &str, &str, &str); 19] = [
 ];
 
 // Options of DHCPv6: the identifiers of the client and of the server; what a Solicit asks for; the
-// association with its address, with times and without; that of a temporary address, as it is
-// granted and as it is requested; the codes that are asked for; the status NoAddrsAvail.
-const OPTIONS6: [(&str, &str); 11] = [
+// association with its address, with all times, with T1 and T2 left to the client, and with no
+// times; that of a temporary address, as it is granted and as it is requested; the codes that are
+// asked for; the status NoAddrsAvail.
+const OPTIONS6: [(&str, &str); 12] = [
     ("CLIENT_ID", "0001000a00030001020000000001"),
     ("SERVER_ID", "0002000a00030001020000000002"),
     ("NO_ADDRESS", "0003000c *12"),
@@ -97,6 +98,10 @@ const OPTIONS6: [(&str, &str); 11] = [
     (
         "ADDRESS",
         "00030028 *4 00000032 00000050 00050018 20010db8000000000000000000000010 00000064 000000c8",
+    ),
+    (
+        "ADDRESS_OF_DEFAULT_TIMES",
+        "00030028 *12 00050018 20010db8000000000000000000000010 00000064 000000c8",
     ),
     (
         "ADDRESS_OF_NO_TIME",
@@ -116,7 +121,7 @@ const OPTIONS6: [(&str, &str); 11] = [
 ];
 
 // Messages of DHCPv6, each without its elapsed time: the type, the transaction id and the options.
-const MESSAGES6: [(&str, &str); 24] = [
+const MESSAGES6: [(&str, &str); 25] = [
     ("SOLICIT6", "01abcdef CLIENT_ID NO_ADDRESS CODES"),
     (
         "SOLICIT6_OF_PREFIX",
@@ -147,6 +152,10 @@ const MESSAGES6: [(&str, &str); 24] = [
     ("REBIND6", "06000000 CLIENT_ID ADDRESS CODES"),
     ("REBIND6_OF_8", "06000008 CLIENT_ID ADDRESS CODES"),
     ("REPLY6", "07000000 CLIENT_ID SERVER_ID ADDRESS"),
+    (
+        "REPLY6_OF_DEFAULT_TIMES",
+        "07000000 CLIENT_ID SERVER_ID ADDRESS_OF_DEFAULT_TIMES",
+    ),
     (
         "REPLY6_OF_NO_TIME",
         "07000000 CLIENT_ID SERVER_ID ADDRESS_OF_NO_TIME",

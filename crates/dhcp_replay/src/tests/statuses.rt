@@ -2,8 +2,10 @@
 
 use super::lives::{IPV4, script};
 use super::lives6::IPV6;
-use crate::{MemSink, MemSource, replay_tool};
+use crate::{MemSink, MemSource, replay_tool, status_without_words};
 use std::alloc::Global;
+use std::env;
+use std::env::{Env, FillError};
 use std::test::Fail;
 
 // Three events that lead to a lease.
@@ -188,15 +190,53 @@ fn each_failing_read_and_write_has_its_status(rt: HostRuntime) -> Result<(), Fai
     let alloc = rt.alloc();
     let text = script(alloc, IPV4, ("", ""), LEASED)?;
     let (_, whole) = run(alloc, &["run"], text.as_bytes(), [0, 0])?;
-    for number in 1..4u32 {
-        let (status, taken) = run(alloc, &["run"], text.as_bytes(), [number, 0])?;
-        assert!(rt;
-            status == 3 && taken.is_empty() || status == 0,
-            "read {number}"
-        );
-        let (status, taken) = run(alloc, &["run"], text.as_bytes(), [0, number])?;
-        let is_front = whole.as_slice().starts_with(taken.as_slice());
-        assert!(rt; status == 4 && is_front || status == 0, "write {number}");
+    // The first read gives all bytes and the second none, and the first write takes all.
+    let cases = [
+        ([1, 0], 3),
+        ([2, 0], 3),
+        ([3, 0], 0),
+        ([0, 1], 4),
+        ([0, 2], 0),
+    ];
+    for (failing, expected) in cases {
+        let (status, taken) = run(alloc, &["run"], text.as_bytes(), failing)?;
+        let wanted = if expected == 0 { whole.len() } else { 0 };
+        assert_eq!(rt; (status, taken.len()), (expected, wanted), "{failing:?}");
     }
+    assert!(rt; whole.len() > 3);
+    Ok(())
+}
+
+// A command line whose one word is the byte ff, which is not UTF-8.
+#[derive(Drop)]
+struct OtherBytes;
+
+impl Env for OtherBytes {
+    fn arg(&self, i: usize, buf: &mut [u8]) -> Result<usize, FillError> {
+        match buf {
+            _ if i > 0 => Err(FillError::NotPresent),
+            [] => Err(FillError::TooLong),
+            [first, ..] => {
+                *first = 0xff;
+                Ok(1)
+            }
+        }
+    }
+
+    fn var(&self, _name: &str, _buf: &mut [u8]) -> Result<usize, FillError> {
+        Err(FillError::NotPresent)
+    }
+
+    fn var_at(&self, _i: usize, _buf: &mut [u8]) -> Result<usize, FillError> {
+        Err(FillError::NotPresent)
+    }
+}
+
+#[test]
+fn a_word_that_is_not_utf_8_is_a_wrong_word(rt: HostRuntime) -> Result<(), Fail> {
+    let Err(error) = env::args(&(OtherBytes, rt.alloc())) else {
+        return Err(Fail::from("the word was read"));
+    };
+    assert_eq!(rt; u8::from(status_without_words(&error)), 1);
     Ok(())
 }
