@@ -6,7 +6,10 @@ ghost use Rattle.dhcp_script.specs.declared.script.Script.TheVariants.{V4, V6};
 ghost use Rattle.dhcp_script.specs.declared.script4.Script4.{Script4};
 ghost use Rattle.dhcp_script.specs.declared.script6.Script6.{Script6};
 ghost use Rattle.dhcp_script.specs.declared.version.Version.{Version};
-ghost use Rattle.dhcp_script.specs.Script.{script_text, script_text_v1, text_in};
+ghost use Rattle.dhcp_script.specs.Script.{IsScript, script_text, script_text_v1, text_in};
+
+use crate::Script;
+use crate::widths::Widths;
 
 /// No text is of both versions, be it of one script or of two.
 pub fn no_text_is_of_both_versions()
@@ -18,3 +21,11 @@ pub fn no_text_is_of_both_families()
     ensures { (version other : Version) (first : Script4) (second : Script6)
         → text_in version (V4 first) ≡ text_in other (V6 second) → ⊥ }
 {}
+
+/// The numbers of a script fit their types, its addresses are whole, and its texts are UTF-8. So
+/// `read_script` reads each script back from what `write_script` made of it.
+pub fn a_script_fits(script: &Script)
+    ensures { IsScript script.now }
+{
+    script.widths();
+}

@@ -20,6 +20,7 @@ mod script6;
 #[cfg(test)]
 mod tests;
 mod version;
+mod widths;
 
 pub use demo::demo_script;
 pub use event::{Event, EventWhat, MAX_EVENTS, MAX_PACKET_LEN, MOMENT_LIMIT, are_valid};

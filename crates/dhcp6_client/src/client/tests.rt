@@ -2,7 +2,7 @@
 //! how a client begins.
 
 use super::DhcpV6Client;
-use dhcp_clock::{Handed, MemLink, WordList};
+use dhcp_clock::{Handed, MemLink, Sent, WordList};
 use dhcp_wire::{Bytes, DhcpError, ErrorKind};
 use dhcp6_msg::{
     DhcpV6Config, DhcpV6IaType, DhcpV6Lease, DhcpV6Message, DhcpV6MessageType, DhcpV6Mode,
@@ -97,6 +97,8 @@ enum Shows {
     HoldsOnlyWithout(Flaw),
     HoldsALeaseOfTheLastMoment,
     ReleasesOnlyToAServer,
+    ReleasesTheHeldLease,
+    ReleasesOnlyAHeldLease,
     Solicits,
     HoldsUntilTheValidEnd,
     BeginsItsCountersAnew,
@@ -116,9 +118,19 @@ fn shown_by(alloc: Global, client: &mut DhcpV6Client, shows: Shows) -> Result<bo
         Shows::HoldsOnlyWithout(flaw) => holds_only_without(alloc, client, flaw),
         Shows::HoldsALeaseOfTheLastMoment => holds_a_lease_of_the_last_moment(alloc, client),
         Shows::ReleasesOnlyToAServer => releases_only_to_a_server(alloc, client),
+        Shows::ReleasesTheHeldLease => releases_the_held_lease(alloc, client),
+        Shows::ReleasesOnlyAHeldLease => releases_only_a_held_lease(alloc, client),
         Shows::Solicits => solicits(alloc, client),
         Shows::HoldsUntilTheValidEnd => holds_until_the_valid_end(alloc, client),
         Shows::BeginsItsCountersAnew => begins_its_counters_anew(alloc, client),
+    }
+}
+
+// Whether an argument was refused.
+fn is_invalid(answer: Result<(), DhcpError>) -> bool {
+    match answer {
+        Ok(()) => false,
+        Err(error) => error.kind() == ErrorKind::InvalidArgument,
     }
 }
 
@@ -129,12 +141,12 @@ fn holds_only_without(
     flaw: Flaw,
 ) -> Result<bool, DhcpError> {
     client.clean_up();
-    let is_taken = client.done(flawed(alloc, flaw)?, 7).is_ok();
+    let answer = client.done(flawed(alloc, flaw)?, 7);
     let is_held = client.lease().is_some();
     let is_due = client.next_poll() == Some(50_007);
     Ok(match flaw {
-        Flaw::None => is_taken && is_held && is_due,
-        _ => !is_taken && !is_held && !is_due,
+        Flaw::None => answer.is_ok() && is_held && is_due,
+        _ => is_invalid(answer) && !is_held && !is_due,
     })
 }
 
@@ -150,13 +162,49 @@ fn holds_a_lease_of_the_last_moment(
 
 fn releases_only_to_a_server(alloc: Global, client: &mut DhcpV6Client) -> Result<bool, DhcpError> {
     let mut link = MemLink::new(alloc);
-    let is_refused = client
-        .release(&flawed(alloc, Flaw::Server)?, 300, &mut link)
-        .is_err();
+    let answer = client.release(&flawed(alloc, Flaw::Server)?, 300, &mut link);
+    let is_refused = is_invalid(answer);
     let is_kept = link.take_handed().is_none() && client.lease().is_some();
     client.release(&lease(alloc)?, 300, &mut link)?;
     let is_released = link.take_handed().is_some() && client.lease().is_none();
     Ok(is_refused && is_kept && is_released)
+}
+
+// What the release of a lease by hand hands to the link.
+fn released(alloc: Global, client: &mut DhcpV6Client) -> Result<Option<Handed>, DhcpError> {
+    let mut link = MemLink::new(alloc);
+    client.release(&lease(alloc)?, 300, &mut link)?;
+    match link.take_handed() {
+        Some((message, Sent::Taken)) => Ok(Some(message)),
+        _ => Ok(None),
+    }
+}
+
+// What the release of the lease that is held hands to the link, if it returns true.
+fn released_held(alloc: Global, client: &mut DhcpV6Client) -> Result<Option<Handed>, DhcpError> {
+    let mut link = MemLink::new(alloc);
+    let is_released = client.release_held(300, &mut link)?;
+    match link.take_handed() {
+        Some((message, Sent::Taken)) if is_released => Ok(Some(message)),
+        _ => Ok(None),
+    }
+}
+
+// Whether the release of the lease that is held is that of the same lease by hand.
+fn releases_the_held_lease(alloc: Global, client: &mut DhcpV6Client) -> Result<bool, DhcpError> {
+    let is_taken = client.done(lease(alloc)?, 7).is_ok();
+    let by_hand = released(alloc, client)?;
+    let is_taken_again = client.done(lease(alloc)?, 7).is_ok();
+    let held = released_held(alloc, client)?;
+    Ok(is_taken && is_taken_again && held.is_some() && held == by_hand && client.lease().is_none())
+}
+
+// Whether the release of a lease that isn't held returns false and hands nothing to the link.
+fn releases_only_a_held_lease(alloc: Global, client: &mut DhcpV6Client) -> Result<bool, DhcpError> {
+    client.clean_up();
+    let mut link = MemLink::new(alloc);
+    let is_released = client.release_held(300, &mut link)?;
+    Ok(!is_released && link.take_handed().is_none())
 }
 
 // The type and the elapsed time, in hundredths of a second, of what a poll at this moment sends.
@@ -234,6 +282,18 @@ fn a_lease_may_begin_at_the_last_lawful_moment(rt: HostRuntime) -> Result<(), Fa
 #[test]
 fn a_lease_without_a_server_is_not_released(rt: HostRuntime) -> Result<(), Fail> {
     assert!(rt; is_shown(rt.alloc(), ADDRESSES, Shows::ReleasesOnlyToAServer)?);
+    Ok(())
+}
+
+#[test]
+fn the_lease_that_is_held_is_released_as_by_hand(rt: HostRuntime) -> Result<(), Fail> {
+    assert!(rt; is_shown(rt.alloc(), ADDRESSES, Shows::ReleasesTheHeldLease)?);
+    Ok(())
+}
+
+#[test]
+fn a_lease_that_is_not_held_is_not_released(rt: HostRuntime) -> Result<(), Fail> {
+    assert!(rt; is_shown(rt.alloc(), ADDRESSES, Shows::ReleasesOnlyAHeldLease)?);
     Ok(())
 }
 

@@ -1,0 +1,7 @@
+-- That each has two bytes is what the type says.
+use Rattle.std.proofs.Common.{◌<◌, ◌^◌, arith}
+use Rattle.std.proofs.lemmas.List.Elements.{All-from_get_or}
+use Rattle.dhcp_script.proofs.widths.are_two_bytes.Goals as goal
+
+pub returns : goal.returns
+returns c = All-from_get_or (λ number. number < 2 ^ 16) c.args.numbers.now 0 (λ i inside. omega (arith, c.type_inv.numbers i))

@@ -1,0 +1,281 @@
+//! What the values of every script have: numbers of their widths, whole addresses, texts of UTF-8.
+//! A call does nothing.
+
+ghost use Rattle.std.specs.Prelude.{◌<◌, ◌^◌, All, IfSome};
+ghost use Rattle.std.specs.Int.{w16};
+ghost use Rattle.std.specs.Net.Addr.{IsIpv4Addr, IsIpv6Addr};
+ghost use Rattle.hex.specs.Hex.{IsBytes};
+ghost use Rattle.dhcp_stream.specs.HexText.{AreOfWidth, AreWords, IsMac, IsText};
+ghost use Rattle.dhcp_script.specs.Event.{packet_of};
+ghost use Rattle.dhcp_script.specs.Lease4.{IsLease4, IsRoute};
+ghost use Rattle.dhcp_script.specs.Lease6.{IsLease6};
+ghost use Rattle.dhcp_script.specs.Life.{IsEvent, IsLife};
+ghost use Rattle.dhcp_script.specs.Script.{IsScript};
+ghost use Rattle.dhcp_script.specs.Script4.{IsScript4};
+ghost use Rattle.dhcp_script.specs.Script6.{IsMode, IsScript6};
+ghost use Rattle.dhcp_script.specs.declared.version.Version.TheVariants.{Two};
+
+use crate::{Event, EventWhat, Lease4, Lease6, Script, Script4, Script6};
+use dhcp_wire::laws::{
+    an_address_reads_back, an_ipv6_address_reads_back, fits_byte, fits_four_bytes, fits_two_bytes,
+    has_six_bytes,
+};
+use dhcp_wire::{Bytes, Sequence, Text};
+use dhcp4_msg::DhcpV4ClasslessRoute;
+use dhcp6_msg::DhcpV6Mode;
+use std::net::{Ipv4Addr, Ipv6Addr};
+
+// A type whose values have widths.
+pub(crate) trait Widths {
+    // What each value has.
+    ghost has: { Self → Type 0 };
+
+    // It has it.
+    fn widths(&self)
+        ensures { has self.now };
+}
+
+// Each of some values has it,
+fn all_have<T: Widths>(items: &[T])
+    ensures { All T.has items.now }
+{
+    for item in items {
+        item.widths();
+    }
+}
+
+// and so has one that is there,
+fn has_if_some<T: Widths>(item: &Option<T>)
+    ensures { IfSome item.now T.has }
+{
+    if let Some(item) = item {
+        item.widths();
+    }
+}
+
+// and each of a list that is there.
+fn all_have_if_some<T: Widths>(items: &Option<Sequence<T>>)
+    ensures { IfSome items.now (All T.has) }
+{
+    if let Some(items) = items {
+        all_have(items.as_slice());
+    }
+}
+
+// Each number of a list of bytes is a byte.
+fn are_bytes(bytes: &[u8])
+    ensures { IsBytes bytes.now }
+{}
+
+// Each number of a list of two bytes has two.
+fn are_two_bytes(numbers: &[u16])
+    ensures { AreOfWidth w16 numbers.now }
+{}
+
+// Each word of a list has four bytes.
+fn are_words(words: &[u32])
+    ensures { AreWords words.now }
+{}
+
+// A number of eight bytes is below 2^64.
+fn fits_eight_bytes(number: u64)
+    ensures { number < 2 ^ 64 }
+{}
+
+// The bytes of a list that is there are bytes.
+fn are_bytes_if_some(bytes: &Option<Bytes>)
+    ensures { IfSome bytes.now IsBytes }
+{
+    if let Some(bytes) = bytes {
+        are_bytes(bytes.as_slice());
+    }
+}
+
+// The numbers of two bytes of a list that is there have two.
+fn are_two_bytes_if_some(numbers: &Option<Sequence<u16>>)
+    ensures { IfSome numbers.now (AreOfWidth w16) }
+{
+    if let Some(numbers) = numbers {
+        are_two_bytes(numbers.as_slice());
+    }
+}
+
+// A MAC address has six bytes.
+fn is_mac(mac: &[u8; 6])
+    ensures { IsMac mac.now }
+{
+    has_six_bytes(*mac);
+    are_bytes(mac);
+}
+
+// So has one that is there.
+fn is_mac_if_some(mac: &Option<[u8; 6]>)
+    ensures { IfSome mac.now IsMac }
+{
+    if let Some(mac) = mac {
+        is_mac(mac);
+    }
+}
+
+// What comes after the configuration has widths.
+fn is_life(words: &Sequence<u32>, start: u64, events: &Sequence<Event>)
+    ensures { IsLife words.now start events.now }
+{
+    are_words(words.as_slice());
+    fits_eight_bytes(start);
+    all_have(events.as_slice());
+}
+
+impl Widths for u16 {
+    ghost has = { λ number. number < 2 ^ 16 };
+
+    fn widths(&self) {
+        fits_two_bytes(*self);
+    }
+}
+
+impl Widths for Ipv4Addr {
+    ghost has = { IsIpv4Addr };
+
+    fn widths(&self) {
+        an_address_reads_back(*self);
+    }
+}
+
+impl Widths for Ipv6Addr {
+    ghost has = { IsIpv6Addr };
+
+    fn widths(&self) {
+        an_ipv6_address_reads_back(*self);
+    }
+}
+
+impl Widths for Text {
+    ghost has = { IsText };
+
+    fn widths(&self) {
+        are_bytes(self.as_str().as_bytes());
+    }
+}
+
+impl Widths for DhcpV4ClasslessRoute {
+    ghost has = { IsRoute };
+
+    fn widths(&self) {
+        self.destination.widths();
+        fits_byte(self.prefix_length);
+        self.router.widths();
+    }
+}
+
+impl Widths for DhcpV6Mode {
+    ghost has = { IsMode };
+
+    fn widths(&self) {
+        if let DhcpV6Mode::PrefixDelegation(len) = self {
+            fits_byte(*len);
+        }
+    }
+}
+
+impl Widths for EventWhat {
+    ghost has = { λ what. IsBytes (packet_of what) };
+
+    fn widths(&self) {
+        match self {
+            EventWhat::Frame(bytes) | EventWhat::Payload(bytes) => are_bytes(bytes.as_slice()),
+            EventWhat::Nothing | EventWhat::Release | EventWhat::CleanUp => are_bytes(&[]),
+        }
+    }
+}
+
+impl Widths for Event {
+    ghost has = { IsEvent };
+
+    fn widths(&self) {
+        fits_eight_bytes(self.moment);
+        self.what.widths();
+    }
+}
+
+impl Widths for Lease4 {
+    ghost has = { IsLease4 };
+
+    fn widths(&self) {
+        self.yiaddr.widths();
+        self.siaddr.widths();
+        self.srv_id.widths();
+        fits_four_bytes(self.t1_sec);
+        fits_four_bytes(self.t2_sec);
+        fits_four_bytes(self.lease_time_sec);
+        self.subnet_mask.widths();
+        has_if_some(&self.broadcast_addr);
+        has_if_some(&self.mtu);
+        all_have_if_some(&self.dns_srvs);
+        all_have_if_some(&self.gateways);
+        all_have_if_some(&self.ntp_srvs);
+        has_if_some(&self.host_name);
+        has_if_some(&self.domain_name);
+        all_have_if_some(&self.classless_routes);
+    }
+}
+
+impl Widths for Lease6 {
+    ghost has = { IsLease6 };
+
+    fn widths(&self) {
+        fits_four_bytes(self.iaid);
+        self.address.widths();
+        fits_byte(self.prefix_len);
+        are_bytes(self.srv_duid.as_slice());
+        fits_four_bytes(self.t1_sec);
+        fits_four_bytes(self.t2_sec);
+        fits_four_bytes(self.preferred_time_sec);
+        fits_four_bytes(self.valid_time_sec);
+        fits_four_bytes(self.xid);
+        are_bytes(self.cli_duid.as_slice());
+        self.srv_ip.widths();
+    }
+}
+
+impl Widths for Script4 {
+    ghost has = { IsScript4 Two };
+
+    fn widths(&self) {
+        fits_four_bytes(self.iface_index);
+        is_mac(&self.mac);
+        fits_four_bytes(self.timeout_sec);
+        are_bytes(self.host.as_slice());
+        are_bytes(self.client.as_slice());
+        are_bytes_if_some(&self.codes);
+        has_if_some(&self.lease);
+        is_life(&self.words, self.start, &self.events);
+    }
+}
+
+impl Widths for Script6 {
+    ghost has = { IsScript6 Two };
+
+    fn widths(&self) {
+        fits_four_bytes(self.iface_index);
+        self.src_ip.widths();
+        is_mac_if_some(&self.mac);
+        self.mode.widths();
+        fits_four_bytes(self.timeout_sec);
+        are_bytes(self.duid.as_slice());
+        are_two_bytes_if_some(&self.codes);
+        has_if_some(&self.lease);
+        is_life(&self.words, self.start, &self.events);
+    }
+}
+
+impl Widths for Script {
+    ghost has = { IsScript };
+
+    fn widths(&self) {
+        match self {
+            Script::V4(script) => script.widths(),
+            Script::V6(script) => script.widths(),
+        }
+    }
+}
