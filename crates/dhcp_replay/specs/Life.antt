@@ -7,6 +7,7 @@ use Rattle.dhcp_clock.specs.declared.link.Handed.{Handed}
 use Rattle.dhcp_clock.specs.declared.link.Packet.{Packet}
 use Rattle.dhcp_clock.specs.declared.link.PacketKind.TheVariants as carriers
 use Rattle.dhcp_history.specs.Client.{view_of}
+use Rattle.dhcp_history.specs.EventLoop.{last_moment}
 use Rattle.dhcp_history.specs.Machine.{View}
 use Rattle.dhcp_history.specs.declared.client.Client.{Client}
 use Rattle.dhcp_history.specs.declared.script.Event.{Event as LifeEvent}
@@ -66,6 +67,10 @@ output_of changed output =
     record { event = output.event; report = report_of changed output.report }
 
 -- 3. The end.
+
+-- the moment of the last of these events, or this one where there is none
+abbrev pub last_moment_of : ℕ → List Event → ℕ
+last_moment_of moment events = last_moment moment (numbered 1 events)
 
 -- a client and the words that are left are as this view has them
 pub record EndsAs {State Exchange : Type 0} (final : View State Exchange)

@@ -5,6 +5,7 @@ ghost use Rattle.dhcp_wire.specs.Error.{no_memory};
 ghost use Rattle.dhcp6_opt.specs.Duid.{written_duid};
 ghost use Rattle.dhcp_script.specs.Duid as duids;
 ghost use Rattle.dhcp_script.specs.Output.{HasFailureText, plain_output};
+ghost use Rattle.dhcp_replay.specs.Life.{last_moment_of};
 ghost use Rattle.dhcp_replay.specs.Promises6.{KeepsPromises};
 ghost use Rattle.dhcp_replay.specs.Replayed6 as lives;
 
@@ -56,6 +57,8 @@ pub fn replay6<W: Words>(
         lives.IsClientAfter config lease start drawn events.now replayed.client)) }
     ensures words { IfOk result (λ replayed. IfSome (W.left words.old) (λ drawn.
         W.left words.new ≡ Some (lives.client_after config lease start drawn events.now).words)) }
+    ensures moment { IfOk result (λ replayed.
+        replayed.client.client.last_moment ≡ last_moment_of start events.now) }
     ensures failures { IfOk result (λ replayed. IfSome (W.left words.old) (λ drawn.
         All HasFailureText replayed.outputs)) }
     ensures promises { OnOk result (IfSome (W.left words.old) (λ drawn.
@@ -106,6 +109,8 @@ fn played<W: Words>(
         lives.IsReportedOf client.old drawn events.now (map plain_output outputs))) }
     ensures client { IfOk result (λ outputs. IfSome (W.left words.old) (λ drawn.
         lives.IsLeftBy client.old drawn events.now client.new (W.left words.new))) }
+    ensures moment { OnOk result (client.new.client.last_moment
+        ≡ last_moment_of client.old.client.last_moment events.now) }
     ensures failures { IfOk result (λ outputs. IfSome (W.left words.old) (λ drawn.
         All HasFailureText outputs)) }
     ensures config { client.new.config ≡ client.old.config }

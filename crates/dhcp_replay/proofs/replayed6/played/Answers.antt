@@ -1,9 +1,10 @@
 -- By what the client reports over the events by their numbers.
-use Rattle.std.proofs.Common.{◌<◌, ◌^◌, List, sym, subst}
+use Rattle.std.proofs.Common.{◌<◌, ◌^◌, List, ap, sym, subst, ◌∙◌}
 use Rattle.std.specs.Prelude.{All}
 use Rattle.dhcp_clock.specs.declared.link.Packet.{Packet}
 use Rattle.dhcp_history.specs.declared.script.Event.{Event as LifeEvent}
 use Rattle.dhcp_history.specs.Client.{view_of}
+use Rattle.dhcp_history.specs.EventLoop.{last_moment}
 use Rattle.dhcp_replay.proofs.Played6Lemmas.{left6, outputs_made6}
 use Rattle.dhcp_replay.proofs.TextLemmas.{texts6}
 use Rattle.dhcp_replay.proofs.replayed6.played.Goals as goal
@@ -23,3 +24,6 @@ pub returns-clause-failures : goal.returns-clause-failures
 returns-clause-failures g c =
     texts6 c.args.client.now.config (view_of c.args.client.now.client) c.in_ok-numbered.field-0.items c.in_ok-outputs_of.field-0 c.in_ok-reported.reported.items (view_of c.replay.new.self.client) (g.W.Words.left c.replay.new.words) (g.W.Words.left c.args.words.now)
     c.in_ok-outputs_of.ensures c.in_ok-reported.ensures.reported
+
+pub returns-clause-moment : goal.returns-clause-moment
+returns-clause-moment g c = c.in_ok-reported.ensures.moment ∙ ap (last_moment c.args.client.now.client.last_moment) c.in_ok-numbered.ensures
