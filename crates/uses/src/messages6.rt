@@ -1,9 +1,10 @@
 //! Messages of a DHCPv6 client: the search for servers, and the lease of an answer.
 
-ghost use Rattle.std.specs.Prelude.{◌≡◌, IfOk, IfSome, IsTrue, Ok};
+ghost use Rattle.std.specs.Prelude.{◌≡◌, ◌⊎◌, Err, IfErr, IfOk, IfSome, IsTrue, Ok};
+ghost use Rattle.dhcp_wire.specs.Error.{no_memory};
 ghost use Rattle.dhcp6_msg.specs.Config.{is_within_limits};
 ghost use Rattle.dhcp6_msg.specs.Lease.{Lease, are_times_in_order, read_lease};
-ghost use Rattle.dhcp6_msg.specs.Message.{parsed_message, written_message};
+ghost use Rattle.dhcp6_msg.specs.Message.{parsed_message, read_message, written_message};
 ghost use Rattle.dhcp6_msg.specs.MessageTable.{request, solicit, table_message};
 ghost use Rattle.dhcp6_msg.specs.declared.message.DhcpV6Message.{DhcpV6Message};
 
@@ -33,15 +34,19 @@ pub fn solicit_payload(
     Ok(Some(message.emit(alloc)?))
 }
 
-/// The lease that a Reply with this transaction id grants. None if the payload is another message;
-/// it is tested before anything is copied.
+/// The lease that a Reply with this transaction id grants, or its refusal. None if the payload is
+/// another message; it is tested before anything is copied.
 pub fn lease_of_reply(
     alloc: Global,
     payload: &[u8],
     xid: u32,
 ) -> Result<Option<DhcpV6Lease>, DhcpError>
-    ensures { IfOk result (λ found. IfSome found (λ lease.
+    ensures granted { IfOk result (λ found. IfSome found (λ lease.
+        IfSome (read_message payload.now) (λ message. read_lease message ≡ Ok lease))) }
+    ensures in_order { IfOk result (λ found. IfSome found (λ lease.
         IsTrue (are_times_in_order lease))) }
+    ensures error { IfErr result (λ e. (e ≡ no_memory)
+        ⊎ IfSome (read_message payload.now) (λ message. read_lease message ≡ Err e.kind)) }
 {
     let Some(view) = DhcpV6View::new(payload) else {
         return Ok(None);
