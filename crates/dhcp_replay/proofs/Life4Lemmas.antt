@@ -5,7 +5,7 @@ use Rattle.dhcp_clock.specs.declared.link.Handed.{Handed}
 use Rattle.dhcp_clock.specs.declared.link.Packet.{Packet}
 use Rattle.dhcp_clock.specs.Words.{GivesNext, drawn_word, next_of}
 use Rattle.dhcp_history.specs.Client.{unpolled, view_of}
-use Rattle.dhcp_history.specs.EventLoop.{HasReported, events_at}
+use Rattle.dhcp_history.specs.EventLoop.{HasReported, events_at, last_moment}
 use Rattle.dhcp_history.specs.History.{history, outputs}
 use Rattle.dhcp_history.specs.Machine.{View, first_view}
 use Rattle.dhcp_history.specs.Script.{Script}
@@ -20,7 +20,7 @@ use Rattle.dhcp4_client.specs.declared.client_state.ClientState.{ClientState}
 use Rattle.dhcp4_client.specs.declared.client_state.Exchange.{Exchange}
 use Rattle.dhcp_script.specs.Output.{PlainOutput, changed_v4}
 use Rattle.dhcp_script.specs.declared.event.Event.{Event}
-use Rattle.dhcp_replay.specs.Life.{EndsAs, numbered, output_of}
+use Rattle.dhcp_replay.specs.Life.{EndsAs, last_moment_of, numbered, output_of}
 use Rattle.dhcp_replay.specs.Promises4.{KeepsPromises}
 use Rattle.dhcp_replay.specs.Replayed4.{IsClientAfter, client_after, life_of, outputs4}
 use Rattle.dhcp_replay.proofs.LifeLemmas as lives
@@ -79,10 +79,11 @@ module _ (config : Config) (lease : Option Lease) (events : List Event) where
             (if_exposed (HasLeft new left) (lives.Leaves protocol drawn_word own life before after xid client.config client.client (next_drawn before after xid drawn) begun made (λ words. made_is) Ends) after
             (λ words is. record { stands = is.client; words = is.words }) leaves)
 
-        pub client4 : new.config ≡ client.config → IfSome before (λ words. IsClientAfter config lease words events new)
-        client4 kept =
+        pub client4 : new.config ≡ client.config → new.client.last_moment ≡ last_moment client.client.last_moment made → IfSome before (λ words. IsClientAfter config lease words events new)
+        client4 kept last =
+            let moment : new.client.last_moment ≡ last_moment_of 0 events = last ∙ (ap (λ (first : ℕ). last_moment first made) begins.moment ∙ ap (last_moment 0) made_is) in
             if_exposed (λ words. Ends (client_after config lease words events)) (λ words. IsClientAfter config lease words events new) before
-            (λ words is. record { config_kept = kept ∙ begins.config; view = is.stands }) ends4
+            (λ words is. record { config_kept = kept ∙ begins.config; view = is.stands; moment = moment }) ends4
 
         -- and which words are left
         pub words4 : IfSome before (λ words. left ≡ Some (client_after config lease words events).words)

@@ -15,7 +15,7 @@ use Rattle.dhcp6_client.specs.declared.client_state.ClientState.{ClientState}
 use Rattle.dhcp6_client.specs.declared.client_state.Exchange.{Exchange}
 use Rattle.dhcp_script.specs.Output.{PlainOutput, changed_v6}
 use Rattle.dhcp_script.specs.declared.event.Event.{Event}
-use Rattle.dhcp_replay.specs.Life.{EndsAs, numbered, output_of}
+use Rattle.dhcp_replay.specs.Life.{EndsAs, last_moment_of, numbered, output_of}
 use Rattle.dhcp_replay.specs.Promises6.{KeepsPromises, KeepsPromisesOver}
 use Rattle.dhcp_replay.specs.Replayed6.{IsClientAfter, IsLeftBy, IsReportedOf, client_after, config_in, life_of, outputs6}
 use Rattle.dhcp_replay.proofs.LifeLemmas as lives
@@ -62,13 +62,16 @@ module _ (config : Config) (lease : Option Lease) (start : ℕ) (events : List E
       ends6 : IfSome before (λ words. Ends (client_after config lease start words events))
       ends6 = lives.life_ends protocol (first_draws config) (config_in config) life before after (drawn_for client) client.config client.client drawn begun (numbered 1 events) (λ words. refl) Ends leaves
 
-      pub client6 : new.config ≡ client.config → IfSome before (λ words. IsClientAfter config lease start words events new)
-      client6 kept = go before drawn ends6
+      pub client6 : new.config ≡ client.config → new.client.last_moment ≡ last_moment_of client.client.last_moment events → IfSome before (λ words. IsClientAfter config lease start words events new)
+      client6 kept last = go before drawn ends6
         where
+          moment : new.client.last_moment ≡ last_moment_of start events
+          moment = last ∙ ap (λ (first : ℕ). last_moment_of first events) begins.moment
+
           go : (exposed : Option (List ℕ)) → GivesDrawn (first_draws config) exposed (drawn_for client) after → IfSome exposed (λ words. Ends (client_after config lease start words events)) →
               IfSome exposed (λ words. IsClientAfter config lease start words events new)
           go None drawn is = tt
-          go (Some words) drawn is = record { config_kept = kept ∙ (begun words drawn.0).config; view = is.stands }
+          go (Some words) drawn is = record { config_kept = kept ∙ (begun words drawn.0).config; view = is.stands; moment = moment }
 
       -- and which words are left
       pub words6 : IfSome before (λ words. left ≡ Some (client_after config lease start words events).words)

@@ -18,7 +18,7 @@ use Rattle.dhcp4_client.specs.declared.client_state.Exchange.{Exchange}
 use Rattle.dhcp_script.specs.Event.{are_valid}
 use Rattle.dhcp_script.specs.Output.{PlainOutput, changed_v4}
 use Rattle.dhcp_script.specs.declared.event.Event.{Event}
-use Rattle.dhcp_replay.specs.Life.{numbered, output_of}
+use Rattle.dhcp_replay.specs.Life.{last_moment_of, numbered, output_of}
 
 -- whether a client can live so: start and events are within their limits, and it can begin
 abbrev pub can_replay : Config → Option Lease → ℕ → List Event → Bool
@@ -46,13 +46,14 @@ client_after config lease words events =
     (events_at (protocol config) (first_view (life_of config lease words events))
     (numbered 1 events)).view
 
--- the client at the end of that life: it has its configuration, and stands as its calls and polls
--- leave it
+-- the client at the end of that life: it has its configuration, stands as its calls and polls leave
+-- it, and keeps the moment of the last event
 pub record IsClientAfter (config : Config) (lease : Option Lease) (words : List ℕ)
     (events : List Event) (client : ClientParts) : Type 0 where
   pub config_kept : client.config ≡ config
   pub view : view_of client.client (client_after config lease words events).words
       ≡ client_after config lease words events
+  pub moment : client.client.last_moment ≡ last_moment_of 0 events
 
 -- what is reported of that life
 unfoldable pub outputs4 : Config → Option Lease → List ℕ → List Event → List PlainOutput

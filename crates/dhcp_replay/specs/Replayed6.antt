@@ -21,7 +21,7 @@ use Rattle.dhcp_script.specs.Event.{are_valid}
 use Rattle.dhcp_script.specs.Output.{PlainOutput, changed_v6}
 use Rattle.dhcp_script.specs.Script6.{most_codes}
 use Rattle.dhcp_script.specs.declared.event.Event.{Event}
-use Rattle.dhcp_replay.specs.Life.{EndsAs, numbered, output_of}
+use Rattle.dhcp_replay.specs.Life.{EndsAs, last_moment_of, numbered, output_of}
 
 -- Whether a configuration and a lease are within the limits of a script: the client's identifier is
 -- absent or has 2 to 130 bytes, at most 1,000 options are asked for, and the identifier of the
@@ -68,13 +68,14 @@ client_after config lease start words events =
     (events_at (protocol (config_in config words))
     (first_view (life_of config lease start words events)) (numbered 1 events)).view
 
--- the client at the end of that life: it has its configuration, and stands as its calls and polls
--- leave it
+-- the client at the end of that life: it has its configuration, stands as its calls and polls leave
+-- it, and keeps the moment of the last event
 pub record IsClientAfter (config : Config) (lease : Option Lease) (start : ℕ) (words : List ℕ)
     (events : List Event) (client : ClientParts) : Type 0 where
   pub config_kept : client.config ≡ config_in config words
   pub view : view_of client.client (client_after config lease start words events).words
       ≡ client_after config lease start words events
+  pub moment : client.client.last_moment ≡ last_moment_of start events
 
 -- what is reported of that life
 unfoldable pub outputs6 : Config → Option Lease → ℕ → List ℕ → List Event → List PlainOutput

@@ -24,9 +24,7 @@ pub fn promises_are_kept(client: &DhcpV4Client)
     laws::requests_get_rarer(client);
     laws::messages_are_far_apart(client);
     laws::four_requests_of_a_lease(client);
-    laws::seven_polls_an_event(client);
-    laws::two_messages_an_event(client);
-    laws::no_state_is_overdue(client);
+    laws::polls_keep_laws(client);
 }
 
 /// Over all words and events, and with whatever configuration and lease it begins, a client of IPv6
@@ -41,7 +39,5 @@ pub fn promises6_are_kept(client: &DhcpV6Client)
     laws6::table_is_lawful();
     laws6::eleven_requests_of_an_offer(client);
     laws6::messages_are_far_apart(client);
-    laws6::seven_polls_an_event(client);
-    laws6::two_messages_an_event(client);
-    laws6::no_state_is_overdue(client);
+    laws6::polls_keep_laws(client);
 }

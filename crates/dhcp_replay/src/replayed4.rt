@@ -2,7 +2,6 @@
 
 ghost use Rattle.std.specs.Prelude.{◌≡◌, All, IfErr, IfOk, IfSome, OnOk, Some, map, true};
 ghost use Rattle.dhcp_script.specs.Output.{HasFailureText, plain_output};
-ghost use Rattle.dhcp_replay.specs.Life.{last_moment_of};
 ghost use Rattle.dhcp_replay.specs.Promises4.{KeepsPromises};
 ghost use Rattle.dhcp_replay.specs.Replayed4 as lives;
 
@@ -45,8 +44,6 @@ pub fn replay4<W: Words>(
         lives.IsClientAfter config lease drawn events.now replayed.client)) }
     ensures words { IfOk result (λ replayed. IfSome (W.left words.old) (λ drawn.
         W.left words.new ≡ Some (lives.client_after config lease drawn events.now).words)) }
-    ensures moment { IfOk result (λ replayed.
-        replayed.client.client.last_moment ≡ last_moment_of 0 events.now) }
     ensures failures { IfOk result (λ replayed. All HasFailureText replayed.outputs) }
     ensures promises { OnOk result (IfSome (W.left words.old) (λ drawn.
         KeepsPromises config lease drawn events.now)) }

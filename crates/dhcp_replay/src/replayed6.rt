@@ -57,8 +57,6 @@ pub fn replay6<W: Words>(
         lives.IsClientAfter config lease start drawn events.now replayed.client)) }
     ensures words { IfOk result (λ replayed. IfSome (W.left words.old) (λ drawn.
         W.left words.new ≡ Some (lives.client_after config lease start drawn events.now).words)) }
-    ensures moment { IfOk result (λ replayed.
-        replayed.client.client.last_moment ≡ last_moment_of start events.now) }
     ensures failures { IfOk result (λ replayed. IfSome (W.left words.old) (λ drawn.
         All HasFailureText replayed.outputs)) }
     ensures promises { OnOk result (IfSome (W.left words.old) (λ drawn.

@@ -1,7 +1,6 @@
 -- By the life of the client that begins.
-use Rattle.std.proofs.Common.{ℕ, ◌∙◌, ap, sym}
+use Rattle.std.proofs.Common.{◌∙◌, sym}
 use Rattle.std.specs.Prelude.{map}
-use Rattle.dhcp_history.specs.EventLoop.{last_moment}
 use Rattle.dhcp_script.specs.Output.{plain_output}
 use Rattle.dhcp_replay.proofs.Life4Lemmas.{client4, promises4, reported4, words4}
 use Rattle.dhcp_replay.proofs.ReplayLemmas.{few_events, moments_below}
@@ -23,6 +22,7 @@ pub returns-clause-client : goal.returns-clause-client
 returns-clause-client g c =
     client4 c.args.config c.args.lease c.args.events.now c.in_ok-client.client (g.W.Words.left c.args.words.now) (g.W.Words.left c.init.new.words) c.in_ok-client.ensures.drawn c.in_ok-client.ensures.begun
     c.in_ok-numbered.field-0.items c.in_ok-reported.reported.items c.in_ok-numbered.ensures c.replay.new.self (g.W.Words.left c.replay.new.words) c.in_ok-reported.ensures.reported c.in_ok-reported.ensures.config
+    c.in_ok-reported.ensures.moment
 
 pub returns-clause-words : goal.returns-clause-words
 returns-clause-words g c =
@@ -35,8 +35,3 @@ returns-clause-failures g c = texts4 c.in_ok-outputs_of.field-0 c.in_ok-reported
 pub returns-clause-promises : goal.returns-clause-promises
 returns-clause-promises g c =
     promises4 c.args.config c.args.lease c.args.events.now c.in_ok-client.client (g.W.Words.left c.args.words.now) (g.W.Words.left c.init.new.words) c.in_ok-client.ensures.drawn c.in_ok-client.ensures.begun c.promises_are_kept.ensures
-
-pub returns-clause-moment : goal.returns-clause-moment
-returns-clause-moment g c =
-    c.in_ok-reported.ensures.moment
-    ∙ (ap (λ (moment : ℕ). last_moment moment c.in_ok-numbered.field-0.items) c.in_ok-client.ensures.begun.moment ∙ ap (last_moment 0) c.in_ok-numbered.ensures)

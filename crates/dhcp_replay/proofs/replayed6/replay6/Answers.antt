@@ -1,9 +1,8 @@
 -- By the life of the client that begins.
-use Rattle.std.proofs.Common.{ℕ, ◌∙◌, ap, refl, sym}
+use Rattle.std.proofs.Common.{◌∙◌, refl, sym}
 use Rattle.std.specs.Prelude.{◌&&◌, All, map}
 use Rattle.std.proofs.lemmas.Bool.{and_from}
 use Rattle.std.proofs.lemmas.Result.{err_from_is_err_and}
-use Rattle.dhcp_history.specs.EventLoop.{last_moment}
 use Rattle.dhcp6_client.specs.Client.{can_begin}
 use Rattle.dhcp_script.specs.Event.{are_valid}
 use Rattle.dhcp_script.specs.Output.{HasFailureText, plain_output}
@@ -38,7 +37,7 @@ returns-clause-outputs g c =
 pub returns-clause-client : goal.returns-clause-client
 returns-clause-client g c =
     client6 c.args.config c.args.lease c.args.start c.args.events.now c.in_ok-client.client (g.W.Words.left c.args.words.now) (g.W.Words.left c.init.new.words) c.in_ok-client.ensures.drawn c.in_ok-client.ensures.begun
-    c.played.new.client (g.W.Words.left c.played.new.words) c.in_ok-outputs.ensures.client c.in_ok-outputs.ensures.config
+    c.played.new.client (g.W.Words.left c.played.new.words) c.in_ok-outputs.ensures.client c.in_ok-outputs.ensures.config c.in_ok-outputs.ensures.moment
 
 pub returns-clause-words : goal.returns-clause-words
 returns-clause-words g c =
@@ -53,7 +52,3 @@ returns-clause-failures g c =
 pub returns-clause-promises : goal.returns-clause-promises
 returns-clause-promises g c =
     promises6 c.args.config c.args.lease c.args.start c.args.events.now c.in_ok-client.client (g.W.Words.left c.args.words.now) (g.W.Words.left c.init.new.words) c.in_ok-client.ensures.drawn c.in_ok-client.ensures.begun c.promises6_are_kept.ensures
-
-pub returns-clause-moment : goal.returns-clause-moment
-returns-clause-moment g c =
-    c.in_ok-outputs.ensures.moment ∙ ap (λ (moment : ℕ). last_moment moment (numbered 1 c.args.events.now)) c.in_ok-client.ensures.begun.moment
