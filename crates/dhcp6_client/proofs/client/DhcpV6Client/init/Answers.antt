@@ -20,10 +20,13 @@ returns-clause-begun g c =
     record {
       config = same;
       duid = c.in_ok-init_duid.ensures.sendable (begins_named c.args.config c.args.lease can);
-      state =
-          c.first_state-state.ensures
-          ∙ ap (λ (mode : DhcpV6Mode). first_state mode c.args.lease c.args.now) (ap (λ (config : Config). config.mode) (c.config-2.view_is ∙ same));
-      standing = stands_unpolled c.unpolled.result c.first_exchange-exchange.result c.new_id.result c.unpolled.ensures c.first_exchange-exchange.ensures;
-      timeout = ap (λ (config : Config). config.timeout_sec) (c.config-2.view_is ∙ same);
-      moment = refl;
+      begins = record {
+        state =
+            c.new.ensures.state
+            ∙ (c.first_state-state.ensures
+            ∙ ap (λ (mode : DhcpV6Mode). first_state mode c.args.lease c.args.now) (ap (λ (config : Config). config.mode) (c.config-2.view_is ∙ same)));
+        standing = stands_unpolled c.new.result.standing c.first_exchange-exchange.result c.new_id.result c.new.ensures.standing c.first_exchange-exchange.ensures;
+        timeout = c.new.ensures.timeout ∙ ap (λ (config : Config). config.timeout_sec) (c.config-2.view_is ∙ same);
+        moment = c.new.ensures.moment;
+      };
     }
