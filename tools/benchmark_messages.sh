@@ -1,21 +1,28 @@
 #!/bin/sh
 # Times the reading and writing of messages of both families, frames and lists of DHCPv6 options.
 #
-#   tools/benchmark_messages.sh      at the repository's top, after `rt run < stdin -- frame 3` in crates/dhcp_bench has built the program
+#   tools/benchmark_messages.sh      at the repository's top, after `rt run < stdin -- frame 3`
+#                                    in crates/dhcp_bench has built the program
 #
-# For each input and task it prints the nanoseconds for each time (the best of five runs, the start of the process taken off), and the
-# bytes read and written in a second. PROGRAM names another build of dhcp_bench, to compare two of them on one machine, and
-# TASKS the tasks of messages that it has.
+# For each input and task it prints the nanoseconds for each time (the best of five runs, the start
+# of the process taken off), and the bytes read and written in a second. PROGRAM names another
+# build of dhcp_bench, to compare two of them on one machine, and TASKS the tasks that are timed on
+# IPv4 messages ("read message lease moved" if it is not set).
 set -eu
 program=${PROGRAM:-crates/dhcp_bench/out/dhcp_bench}
-[ -x "$program" ] || { echo "$program is not built: run 'rt run < stdin -- frame 3' in crates/dhcp_bench"; exit 2; }
+tasks=${TASKS:-read message lease moved}
+if [ ! -x "$program" ]; then
+    echo "$program is not built: run 'rt run < stdin -- frame 3' in crates/dhcp_bench"
+    exit 2
+fi
 input=$(mktemp)
 trap 'rm -f "$input"' EXIT
 
 # A line of hex: a message with these options, or a frame with so many bytes of payload.
 message() { # options in hex, bytes in all
     awk -v options="$1" -v size="$2" 'BEGIN {
-        text = "0201060012345678" "00000000" "00000000" "c000020a" "c0000201" "00000000" "020000000001"
+        text = "0201060012345678" "00000000" "00000000" "c000020a" "c0000201" "00000000"
+        text = text "020000000001"
         for (i = 0; i < 202; i++) text = text "00"
         printf "%s63825363", text
         for (i = 240; i + length(options) / 2 <= size; i += length(options) / 2) {
@@ -38,10 +45,13 @@ frame() { # bytes in all
 # A message with 239 options of four bytes, one of them the message type.
 many_options() {
     awk 'BEGIN {
-        text = "0201060012345678" "00000000" "00000000" "c000020a" "c0000201" "00000000" "020000000001"
+        text = "0201060012345678" "00000000" "00000000" "c000020a" "c0000201" "00000000"
+        text = text "020000000001"
         for (i = 0; i < 202; i++) text = text "00"
         printf "%s63825363350105", text
-        for (code = 1; code <= 240; code++) if (code != 53 && code != 121) printf "%02x0400000e10", code
+        for (code = 1; code <= 240; code++) {
+            if (code != 53 && code != 121) printf "%02x0400000e10", code
+        }
         printf "ff\n"
     }' >"$input"
 }
@@ -58,23 +68,26 @@ least() { # the words of the program
 }
 
 measure() { # a name, the words of the program
-    least "$2" 1
+    least "$2" 0
     empty=$best
     least "$2" "$3"
-    echo "$1 $2 $3 $((best - empty)) ${total% bytes}" |
+    echo "$1 $2 $3 $((best - empty)) $total" |
         awk '{ printf "%s, %s: %.0f ns, %.1f MB/s\n", $1, $2, $4 / $3, $5 / ($4 / 1e9) / 1e6 }'
 }
 
-# A usual Ack: type, server, lease time, T1, T2, mask, broadcast, router, name server, host name, domain name, End.
-ack=3501053604c0000201330400000e103a04000007083b0400000c4e0104ffffff001c04c00002ff0304c00002010604c00002010c03666f6f0f036c616eff
+# A usual Ack: type, server, lease time, T1, T2, mask, broadcast, router, name server, host name,
+# domain name, End.
+ack=3501053604c0000201330400000e103a04000007083b0400000c4e0104ffffff001c04c00002ff0304c0000201
+ack=${ack}0604c00002010c03666f6f0f036c616eff
 message "$ack" 302
-for task in ${TASKS:-read message lease moved}; do measure ack_of_302_bytes "$task" 200000; done
+for task in $tasks; do measure ack_of_302_bytes "$task" 200000; done
 many_options
-for task in ${TASKS:-read message lease moved}; do measure message_with_239_options "$task" 10000; done
+for task in $tasks; do measure message_with_239_options "$task" 10000; done
 # Options of 64 KiB: unknown options of 30 bytes, and lease times.
-message e01c00112233445566778899aabbccddeeff00112233445566778899aabb330400000e10 65776
-for task in ${TASKS:-read message lease moved}; do measure options_of_64_KiB "$task" 500; done
-message e01c00112233445566778899aabbccddeeff00112233445566778899aabb330400000e10 131312
+option=e01c00112233445566778899aabbccddeeff00112233445566778899aabb330400000e10
+message "$option" 65776
+for task in $tasks; do measure options_of_64_KiB "$task" 500; done
+message "$option" 131312
 measure options_of_128_KiB message 250
 message "$ack" 302
 measure discover_built_and_written discover 200000
@@ -95,11 +108,13 @@ measure6() { # a name, how many times
     for task in read6 options6; do measure "$1" "$task" "$2"; done
 }
 
-# The options of a usual Reply of 129 bytes: the identifiers, an address, two name servers, a domain name.
+# The options of a usual Reply of 129 bytes: the identifiers, an address, two name servers, a domain
+# name.
 address6=20010db80000000000000000000000
 reply6=0001000a000300010200000000010002000a00030001020000000002
 reply6=${reply6}00030028000000000000003200000050000500
-reply6=${reply6}18${address6}1000000064000000c800170020${address6}01${address6}020018000d076578616d706c6503636f6d00
+reply6=${reply6}18${address6}1000000064000000c800170020${address6}01${address6}02
+reply6=${reply6}0018000d076578616d706c6503636f6d00
 options6 "$reply6" "" 1 0 1
 measure6 options_of_a_reply_of_129_bytes 200000
 # The Reply itself, and a Solicit.
@@ -112,9 +127,10 @@ measure6 options_of_one_code_of_64_KiB 200
 options6 "" %04x00020000 1001 11922 1
 measure6 options_of_rising_codes_of_64_KiB 200
 options6 "" %04x00020000 11922 1001 -1
-measure6 options_of_falling_codes_of_64_KiB 20
+measure6 options_of_falling_codes_of_64_KiB 200
 # A domain list of 5,041 names, and an identity association with 2,000 addresses.
 options6 0018fffd 076578616d706c6503636f6d00 1 5041 1
 measure6 domain_list_of_64_KiB 200
-options6 0003dacc000000000000003200000050 "00050018${address6}1000000064000000c8" 1 2000 1
+association=0003dacc000000000000003200000050
+options6 "$association" "00050018${address6}1000000064000000c8" 1 2000 1
 measure6 association_with_2000_addresses 200

@@ -4,9 +4,10 @@
 usage, at the top of the repository, after: cd crates/dhcp_main && rt run < stdin -- run
   tools/benchmark_scripts.py [EVENTS..]        2000 and 20000 where none is given
 
-Three kinds of scripts of each family: a client with a lease that is polled before T1; a lease that is renewed again
-and again; a client whose Discover or Solicit is open, with a packet for another client in each event. Each figure is
-the best of five runs, the start of the process taken off; memory is the most that the process held.
+Three kinds of scripts of each family: a client with a lease that is polled before T1; a lease that
+is renewed again and again; a client whose Discover or Solicit is open, with a packet for another
+client in each event. Each figure is the best of five runs, the start of the process taken off;
+memory is the most that the process held, as GNU time (/usr/bin/time) tells it.
 """
 
 import os
@@ -20,7 +21,7 @@ ROUNDS = 5
 
 
 def parts_of_a_life(name):
-    """Returns the lines before the events of a worked script, and the two packets that come in, in hex."""
+    """Returns the lines before a worked script's events, and the two packets of them, in hex."""
     with open(f"{TOP}/tools/scripts/{name}", encoding="ascii") as file:
         lines = file.read().splitlines()
     front = [line for line in lines if not line.startswith("at ") and line != "end"]
@@ -79,7 +80,7 @@ def renewed6(count, advertise, reply):
 
 
 def foreign6(count, advertise, _):
-    """An IPv6 client whose Solicit is open, with an Advertise to another transaction id in each event."""
+    """An IPv6 client whose Solicit is open, with an Advertise to another id in each event."""
     other = advertise.replace("02abcdef", "02abcdee", 1)
     for number in range(count):
         yield f"at {number // 100} ok payload {other}"
@@ -88,15 +89,16 @@ def foreign6(count, advertise, _):
 FAMILIES = (("renewal", (idle, renewed, foreign)), ("renewal6", (idle6, renewed6, foreign6)))
 
 
-def seconds_of(text):
-    """Returns the time of the fastest run over this text, and what it printed."""
+def seconds_of(text, wanted=0):
+    """Returns the time of the fastest run over this text, which ends with the wanted status, and
+    what it printed."""
     best, printed = None, b""
     for _ in range(ROUNDS):
         begin = time.perf_counter()
         done = subprocess.run([PROGRAM, "run"], input=text, capture_output=True)
         took = time.perf_counter() - begin
         best, printed = min(took, best or took), done.stdout
-        if done.returncode not in (0, 2):
+        if done.returncode != wanted:
             sys.exit(f"status {done.returncode}")
     return best, printed
 
@@ -104,7 +106,8 @@ def seconds_of(text):
 def peak_of(text):
     """Returns the most memory, in KiB, of a run over this text, as the command `time` tells it."""
     command = ["env", "time", "--format", "%M", PROGRAM, "run"]
-    done = subprocess.run(command, input=text, stdout=subprocess.DEVNULL, stderr=subprocess.PIPE, check=True)
+    streams = {"stdout": subprocess.DEVNULL, "stderr": subprocess.PIPE}
+    done = subprocess.run(command, input=text, check=True, **streams)
     return int(done.stderr)
 
 
@@ -114,13 +117,16 @@ def cells_of(name, count, text, start):
     took = max(took - start, 1e-6)
     moved = (len(text) + len(printed)) / 1e6
     cells = [name, f"{count:,}", f"{took:.4f}", f"{count / took:,.0f}", f"{len(text) / 1e6:.2f}"]
-    return cells + [f"{len(printed) / 1e6:.2f}", f"{moved / took:.0f}", f"{peak_of(text) / 1024:.1f}"]
+    cells += [f"{len(printed) / 1e6:.2f}", f"{moved / took:.0f}"]
+    return cells + [f"{peak_of(text) / 1024:.1f}"]
 
 
 def main(words):
     counts = [int(word) for word in words] or [2000, 20000]
-    start, _ = seconds_of(b"")
-    print("| script | events | seconds | events a second | MB read | MB printed | MB a second | MiB of memory |")
+    # No text at all is the text of no script: status 2.
+    start, _ = seconds_of(b"", wanted=2)
+    heads = ["script", "events", "seconds", "events a second", "MB read", "MB printed"]
+    print(f"| {' | '.join(heads + ['MB a second', 'MiB of memory'])} |")
     print("|---|---|---|---|---|---|---|---|")
     for script, kinds in FAMILIES:
         front, offer, ack = parts_of_a_life(script)

@@ -4,7 +4,8 @@
     tools/compare_examples.py      at the repository's top
 
 Each fenced block of Rust in README.md and docs/USING.md has to stand, line for line but for its
-indentation, in a source file of the crate. Prints those that don't; the status is then 1.
+indentation, in a source file of the crate. Prints those that don't; the status is then 1, and also
+if there is no such block at all.
 """
 import re
 import sys
@@ -25,14 +26,15 @@ def is_in(example, source):
 def main():
     top = Path(__file__).resolve().parent.parent
     sources = [lines_of(path.read_text("utf-8")) for path in top.glob("crates/uses/src/**/*.rt")]
-    missing = 0
+    found, missing = 0, 0
     for page in ("README.md", "docs/USING.md"):
         text = (top / page).read_text("utf-8")
         for block in re.findall(r"```rust\n(.*?)```", text, re.S):
+            found += 1
             if not any(is_in(lines_of(block), source) for source in sources):
                 missing += 1
                 print(f"{page}: not in the crate uses:\n{block}")
-    return 1 if missing else 0
+    return 1 if missing or not found else 0
 
 
 if __name__ == "__main__":

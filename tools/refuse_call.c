@@ -1,6 +1,7 @@
 /* Refuses one call of a program that it is preloaded into: the allocation, the read or the write
    with the number that REFUSE_ALLOCATION, REFUSE_READ or REFUSE_WRITE gives, counted from 1 and
-   from the start of main. What was refused is told by the last line of the file REFUSE_LOG. */
+   from the start of main. After the refusal it appends the line "refused" to the file REFUSE_LOG.
+   refused_calls.py builds and preloads it. */
 
 #define _GNU_SOURCE
 #include <errno.h>

@@ -1,16 +1,20 @@
 #!/usr/bin/env python3
 """Refuses calls of a program one at a time, and says how each run ends.
 
-usage, at the top of the repository:
-  tools/refused_calls.py scripts              the program over each script of tools/scripts: each allocation, each
-                                              read and each write refused in turn (first: cd crates/dhcp_main && rt run)
-  tools/refused_calls.py program NUMBER WORD..  the program with these words, and this one allocation refused
-  tools/refused_calls.py tests CRATE..        the tests of these crates, each allocation refused in turn (first, in each
-                                              crate's folder: rt test)
+usage, at the top of the repository, after: cd crates/dhcp_main && rt run < stdin -- run
+  tools/refused_calls.py scripts
+      the program over each script of tools/scripts: each allocation, each read and each write is
+      refused in turn
+  tools/refused_calls.py program NUMBER WORD..
+      the program with these words; the allocation of this number is refused
+or after `rt test` in the folder of each crate:
+  tools/refused_calls.py tests CRATE..
+      the tests of these crates: each allocation is refused in turn
 
-A run of the program with an allocation refused must end with status 5 and nothing printed, or with 0 and all of it
-printed; with a read refused with 3 and nothing printed; with a write refused with 4 and a part of the text, from its
-front. A test must pass, or fail for out of memory. Exit status: 0 where all runs ended so, else 1.
+A run of the program with an allocation refused must end with status 5 and nothing printed, or with
+0 and all of it printed; with a read refused with 3 and nothing printed; with a write refused with 4
+and a part of the text, from its front. A test must pass, or fail for out of memory. Exit status: 0
+where all runs ended so, else 1.
 """
 
 import os
@@ -37,12 +41,13 @@ class Runner:
         """Returns the finished command, and whether the call was made that was to be refused."""
         if os.path.exists(self.log):
             os.remove(self.log)
-        where = {"LD_PRELOAD": self.library, "REFUSE_LOG": self.log, f"REFUSE_{kind}": str(number)}
-        done = subprocess.run(command, input=given, capture_output=True, env={**os.environ, **where})
+        names = {"LD_PRELOAD": self.library, "REFUSE_LOG": self.log, f"REFUSE_{kind}": str(number)}
+        names = {**os.environ, **names}
+        done = subprocess.run(command, input=given, capture_output=True, env=names)
         return done, os.path.exists(self.log)
 
     def in_turn(self, command, given, kind):
-        """Gives each run of the command in which a call of this kind was refused, with the call's number."""
+        """Gives each run of the command with a call of this kind refused, and the call's number."""
         number = 1
         while True:
             done, was_made = self.run(command, given, kind, number)
@@ -61,13 +66,18 @@ def is_lawful(kind, done, whole):
     return done.returncode == wanted and (is_front if kind == "WRITE" else not done.stdout)
 
 
+def printed_by(command, given):
+    """Returns what a command prints where no call is refused; it has to end with status 0."""
+    return subprocess.run(command, input=given, capture_output=True, check=True).stdout
+
+
 def try_scripts(runner):
     """Returns how many runs of the program over the scripts ended as they must not."""
     wrong = 0
     for name in sorted(os.listdir(SCRIPTS)):
         with open(f"{SCRIPTS}/{name}", "rb") as file:
             given = file.read()
-        whole = subprocess.run([PROGRAM, "run"], input=given, capture_output=True, check=True).stdout
+        whole = printed_by([PROGRAM, "run"], given)
         for kind in ("ALLOCATION", "READ", "WRITE"):
             statuses = {}
             for number, done in runner.in_turn([PROGRAM, "run"], given, kind):
@@ -75,15 +85,15 @@ def try_scripts(runner):
                 if not is_lawful(kind, done, whole):
                     wrong += 1
                     print(f"{name}: {kind.lower()} {number}: status {done.returncode}")
-            counts = ", ".join(f"{many} with status {status}" for status, many in sorted(statuses.items()))
-            print(f"{name}: each {kind.lower()} refused in turn: {counts or 'none'}")
+            counts = [f"{many} with status {status}" for status, many in sorted(statuses.items())]
+            print(f"{name}: each {kind.lower()} refused in turn: {', '.join(counts) or 'none'}")
     return wrong
 
 
 def try_tests(runner, crate):
     """Returns how many runs of the crate's tests failed for anything but out of memory."""
     program = f"{TOP}/crates/{crate}/out/{crate}_tests"
-    listed = subprocess.run([program, "--list"], capture_output=True, check=True).stdout.decode()
+    listed = printed_by([program, "--list"], b"").decode()
     tests = [line.removesuffix(": test") for line in listed.splitlines() if line.endswith(": test")]
     wrong, runs = 0, 0
     for test in tests:
@@ -92,13 +102,26 @@ def try_tests(runner, crate):
             said = done.stdout + done.stderr
             if done.returncode and not any(word in said for word in OUT_OF_MEMORY):
                 wrong += 1
-                print(f"{crate}: {test}: allocation {number}: status {done.returncode}\n{said.decode()}")
-    print(f"{crate}: {len(tests)} tests, {runs} allocations refused in turn, {wrong} runs that ended otherwise")
+                print(f"{crate}: {test}: allocation {number}: status {done.returncode}")
+                print(said.decode())
+    print(f"{crate}: {len(tests)} tests, {runs} allocations refused in turn, "
+          f"{wrong} runs that ended otherwise")
     return wrong
 
 
+def try_program(runner, number, words):
+    """Returns how many runs of the program, with one allocation refused, ended as they must not."""
+    command = [PROGRAM, *words]
+    whole = printed_by(command, b"")
+    done, was_made = runner.run(command, b"", "ALLOCATION", number)
+    said = "refused" if was_made else "never asked for"
+    print(f"allocation {number} {said}: status {done.returncode}, {len(done.stdout)} bytes printed")
+    return 0 if was_made and is_lawful("ALLOCATION", done, whole) else 1
+
+
 def main(words):
-    if not words or words[0] not in ("scripts", "program", "tests"):
+    least = {"scripts": 1, "program": 3, "tests": 2}
+    if not words or len(words) < least.get(words[0], len(words) + 1):
         print(__doc__, file=sys.stderr)
         return 2
     with tempfile.TemporaryDirectory() as folder:
@@ -106,9 +129,7 @@ def main(words):
         if words[0] == "scripts":
             return 1 if try_scripts(runner) else 0
         if words[0] == "program":
-            done, _ = runner.run([PROGRAM, *words[2:]], b"", "ALLOCATION", int(words[1]))
-            print(f"status {done.returncode}, {len(done.stdout)} bytes printed")
-            return 0 if done.returncode == 5 and not done.stdout else 1
+            return try_program(runner, int(words[1]), words[2:])
         return 1 if sum(try_tests(runner, crate) for crate in words[1:]) else 0
 
 

@@ -11,7 +11,7 @@ use std::alloc::Global;
 const HEADERS: usize = 42;
 
 impl Client for DhcpV4Client {
-    // Its transaction id is 12345678.
+    // Its transaction id is 0x12345678.
     fn begin(alloc: Global) -> Result<(Self, WordList), DhcpError> {
         let mut config = DhcpV4Config::new(alloc, "eth0")?;
         config.iface_index = 1;

@@ -15,7 +15,7 @@ const CLIENT: [u8; 10] = [0, 3, 0, 1, 2, 0, 0, 0, 0, 1];
 const SERVER: [u8; 10] = [0, 3, 0, 1, 2, 0, 0, 0, 0, 2];
 
 impl Client for DhcpV6Client {
-    // Its first transaction id is abcdef, and each later one 000000.
+    // Its first transaction id is 0xabcdef, and each later one 0.
     fn begin(alloc: Global) -> Result<(Self, WordList), DhcpError> {
         let config = config(alloc)?;
         let mut words = WordList::new(vec![in alloc; 0x00abcdef]?);

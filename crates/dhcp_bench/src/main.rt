@@ -10,7 +10,7 @@
 //! whose Discover is open, each time with the frame of the line, and `life` has it live from its
 //! Discover to its release, with the frames of an Offer and of an Ack as two lines; `idle6`,
 //! `foreign6` and `life6` do so with an IPv6 client, and payloads. These print how many polls or
-//! lives there were.
+//! lives there were. With other words or another input it prints nothing, and fails.
 #![tactic(auto)]
 
 mod client4;
@@ -34,13 +34,13 @@ use std::{env, io};
 /// Why there is nothing to measure.
 #[derive(Debug, Drop)]
 enum Failure {
-    /// The words are not a name and a number.
+    /// The words are not a name of the list above and a number below 2^32.
     Words,
-    /// The line is no hex.
+    /// A line is not hex, or there are not as many lines as the task reads.
     Hex,
-    /// The bytes do not read, or there is no memory.
+    /// The bytes do not read, or out of memory.
     Message(DhcpError),
-    /// A stream failed, or there is no memory.
+    /// A stream failed, or out of memory.
     Stream(io::Error),
 }
 

@@ -1,8 +1,9 @@
 //! Reading a lease.
 
-ghost use Rattle.std.specs.Prelude.{◌≡◌, ◌⊎◌, IfErr, IfOk, IfSome, IsTrue, None};
+ghost use Rattle.std.specs.Prelude.{◌≡◌, ◌⊎◌, IfErr, IfOk, IfSome, IsTrue, None, Some};
 ghost use Rattle.dhcp_wire.specs.Error.{no_memory};
 ghost use Rattle.dhcp4_msg.specs.Message.{read_message};
+ghost use Rattle.dhcp4_msg.specs.Options.{message_type};
 ghost use Rattle.dhcp4_lease.specs.Lease.{HasFieldsOf, are_times_in_order};
 
 use dhcp_clock::Words;
@@ -20,6 +21,9 @@ pub fn lease_of_ack<W: Words>(
 ) -> Result<Option<DhcpV4Lease>, DhcpError>
     ensures fields { IfOk result (λ found. IfSome found (λ lease.
         IfSome (read_message payload.now) (λ message. HasFieldsOf message lease))) }
+    ensures acknowledged { IfOk result (λ found. IfSome found (λ lease.
+        IfSome (read_message payload.now) (λ message.
+        message_type message.options ≡ Some DhcpV4MessageType.Ack))) }
     ensures in_order { IfOk result (λ found. IfSome found (λ lease.
         IsTrue (are_times_in_order lease))) }
     ensures error { IfErr result (λ e.
@@ -32,8 +36,8 @@ pub fn lease_of_ack<W: Words>(
     Ok(Some(DhcpV4Lease::from_message(alloc, message, words)?))
 }
 
-/// A source of words that no contract knows. A real client takes them from the system's source of
-/// randomness.
+/// A source of words that no contract knows: its `left` is none. A real client takes them from the
+/// system's source of randomness.
 #[derive(Debug, Drop)]
 pub struct Counter {
     /// The next word.

@@ -48,8 +48,9 @@ pub trait Follow<S> {
     fn follow(&mut self, state: &S);
 }
 
-/// One turn of the loop, now and whenever a packet comes: polls until nothing changes any more, and
-/// returns the moment, in milliseconds, until which the manager may sleep.
+/// One turn of the loop, now and whenever a packet comes: polls until nothing changes any more, at
+/// most seven times, since one packet changes the state at most six times. Returns the moment, in
+/// milliseconds, until which the manager may sleep; none if the client keeps an error.
 pub fn turn<C: ManagedClient, I: Follow<C::State>, W: Words, L: DhcpLink>(
     client: &mut C,
     interface: &mut I,

@@ -1,10 +1,11 @@
 //! Building a message, writing it and reading it.
 
-ghost use Rattle.std.specs.Prelude.{◌≡◌, ◌↔◌, None, IfOk, IfSome, IsTrue, codes};
+ghost use Rattle.std.specs.Prelude.{◌≡◌, ◌↔◌, None, IfOk, IfSome, IsTrue, codes, is_some};
 ghost use Rattle.std.specs.FinMap as map;
 ghost use Rattle.dhcp_wire.specs.Outcome.{Makes};
 ghost use Rattle.dhcp4_msg.specs.Laws.{MessageIsInRange, read_back};
 ghost use Rattle.dhcp4_msg.specs.Message.{written_message};
+ghost use Rattle.dhcp4_lease.specs.Config.{is_within_limits};
 ghost use Rattle.dhcp4_lease.specs.MessageTable.{discover, table_message};
 
 use dhcp_wire::{BufferMut, Bytes, DhcpError};
@@ -28,15 +29,16 @@ pub fn configuration(alloc: Global) -> Result<DhcpV4Config, DhcpError>
     Ok(config)
 }
 
-/// The payload of a Discover with this transaction id. None if the configuration is outside its
-/// limits.
+/// The payload of a Discover with this transaction id. None if and only if the configuration is
+/// outside its limits.
 pub fn discover_payload(
     alloc: Global,
     xid: u32,
     config: &DhcpV4Config,
 ) -> Result<Option<Bytes>, DhcpError>
-    ensures { IfOk result (λ found. IfSome found (λ payload.
+    ensures bytes { IfOk result (λ found. IfSome found (λ payload.
         payload ≡ written_message (table_message xid config.now discover))) }
+    ensures made { IfOk result (λ found. is_some found ≡ is_within_limits config.now) }
 {
     if !config.is_within_limits() {
         return Ok(None);

@@ -1,12 +1,18 @@
 //! Messages of a DHCPv6 client: the search for servers, and the lease of an answer.
 
-ghost use Rattle.std.specs.Prelude.{◌≡◌, ◌⊎◌, Err, IfErr, IfOk, IfSome, IsTrue, Ok};
+ghost use Rattle.std.specs.Prelude.{◌≡◌, ◌⊎◌, Err, IfErr, IfOk, IfSome, IsTrue, Ok, is_some};
 ghost use Rattle.dhcp_wire.specs.Error.{no_memory};
 ghost use Rattle.dhcp6_msg.specs.Config.{is_within_limits};
 ghost use Rattle.dhcp6_msg.specs.Lease.{Lease, are_times_in_order, read_lease};
-ghost use Rattle.dhcp6_msg.specs.Message.{parsed_message, read_message, written_message};
+ghost use Rattle.dhcp6_msg.specs.Message.{
+  id_number,
+  parsed_message,
+  read_message,
+  written_message,
+};
 ghost use Rattle.dhcp6_msg.specs.MessageTable.{request, solicit, table_message};
 ghost use Rattle.dhcp6_msg.specs.declared.message.DhcpV6Message.{DhcpV6Message};
+ghost use Rattle.dhcp6_msg.specs.declared.message_type.DhcpV6MessageType.{DhcpV6MessageType};
 
 use dhcp_wire::{Bytes, DhcpError};
 use dhcp6_msg::{
@@ -16,16 +22,17 @@ use dhcp6_msg::{
 use std::alloc::Global;
 
 /// The payload of the Solicit with this transaction id and this identifier of the association that
-/// is asked for. None if the configuration is outside its limits.
+/// is asked for. None if and only if the configuration is outside its limits.
 pub fn solicit_payload(
     alloc: Global,
     xid: u32,
     config: &DhcpV6Config,
     iaid: u32,
 ) -> Result<Option<Bytes>, DhcpError>
-    ensures { IfOk result (λ found. IfSome found (λ payload.
+    ensures bytes { IfOk result (λ found. IfSome found (λ payload.
         payload ≡ written_message
         (table_message xid config.now (solicit config.now.mode iaid 0)))) }
+    ensures made { IfOk result (λ found. is_some found ≡ is_within_limits config.now) }
 {
     if !config.is_within_limits() {
         return Ok(None);
@@ -43,6 +50,9 @@ pub fn lease_of_reply(
 ) -> Result<Option<DhcpV6Lease>, DhcpError>
     ensures granted { IfOk result (λ found. IfSome found (λ lease.
         IfSome (read_message payload.now) (λ message. read_lease message ≡ Ok lease))) }
+    ensures addressed { IfOk result (λ found. IfSome found (λ lease.
+        IfSome (read_message payload.now) (λ message. (id_number message.xid ≡ xid)
+        × (message.msg_type ≡ DhcpV6MessageType.Reply)))) }
     ensures in_order { IfOk result (λ found. IfSome found (λ lease.
         IsTrue (are_times_in_order lease))) }
     ensures error { IfErr result (λ e. (e ≡ no_memory)
