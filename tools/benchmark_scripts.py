@@ -7,7 +7,7 @@ usage, at the top of the repository, after: cd crates/dhcp_main && rt run < stdi
 Three kinds of scripts of each family: a client with a lease that is polled before T1; a lease that
 is renewed again and again; a client whose Discover or Solicit is open, with a packet for another
 client in each event. Each figure is the best of five runs, the start of the process taken off;
-memory is the most that the process held, as GNU time (/usr/bin/time) tells it.
+memory is the most that the process held, by the command `time` of GNU, which has to be there.
 """
 
 import os
