@@ -78,13 +78,13 @@ fn measure(rt: &HostRuntime) -> Result<(), Failure> {
         return Err(Failure::Words);
     };
     let text = io::read_to_string(rt.alloc(), rt.reader())?;
-    let total = measured(rt.alloc(), what, times, text.as_str())?;
+    let total = count_of_task(rt.alloc(), what, times, text.as_str())?;
     println!(rt; "{total}")?;
     Ok(())
 }
 
 // What is counted of one thing that is done so many times, with the lines of hex of a text.
-fn measured(alloc: Global, what: &str, times: u32, text: &str) -> Result<u64, Failure> {
+fn count_of_task(alloc: Global, what: &str, times: u32, text: &str) -> Result<u64, Failure> {
     let lines: Vec<&str> = text.lines().collect(alloc)?;
     let [first, rest @ ..] = lines.as_slice() else {
         return Err(Failure::Hex);
@@ -96,14 +96,14 @@ fn measured(alloc: Global, what: &str, times: u32, text: &str) -> Result<u64, Fa
         "idle6" => Ok(idle::<DhcpV6Client>(alloc, times)?),
         "foreign" => Ok(foreign::<DhcpV4Client>(alloc, times, client4::frame(first))?),
         "foreign6" => Ok(foreign::<DhcpV6Client>(alloc, times, client6::payload(first))?),
-        "life" | "life6" => lived(alloc, what, times, first, rest),
+        "life" | "life6" => count_of_lives(alloc, what, times, first, rest),
         what => total_of(alloc, what, times, first),
     }
 }
 
 // How many lives there were, with this packet of an offer, and that of the answer with the lease in
 // the next line.
-fn lived(
+fn count_of_lives(
     alloc: Global,
     what: &str,
     times: u32,
@@ -132,13 +132,13 @@ fn total_of(alloc: Global, what: &str, times: u32, bytes: &[u8]) -> Result<u64, 
     for _ in 0..times {
         let count = match what {
             "read" => read(alloc, bytes)?,
-            "message" => read_and_written(alloc, bytes)?,
+            "message" => read_and_write(alloc, bytes)?,
             "lease" => read_to_lease(alloc, bytes)?,
             "moved" => moved_to_lease(alloc, bytes)?,
             "discover" => discover(alloc)?,
             "frame" => frame(alloc, bytes)?,
             "read6" => options6::read(alloc, bytes)?,
-            "options6" => options6::read_and_written(alloc, bytes)?,
+            "options6" => options6::read_and_write(alloc, bytes)?,
             what => count_of_message6(alloc, what, bytes)?,
         };
         total = total.saturating_add(count as u64);
@@ -150,7 +150,7 @@ fn total_of(alloc: Global, what: &str, times: u32, bytes: &[u8]) -> Result<u64, 
 fn count_of_message6(alloc: Global, what: &str, bytes: &[u8]) -> Result<usize, Failure> {
     match what {
         "reply6" => Ok(messages6::read(alloc, bytes)?),
-        "message6" => Ok(messages6::read_and_written(alloc, bytes)?),
+        "message6" => Ok(messages6::read_and_write(alloc, bytes)?),
         "lease6" => Ok(messages6::read_to_lease(alloc, bytes)?),
         "moved6" => Ok(messages6::moved_to_lease(alloc, bytes)?),
         "solicit6" => Ok(messages6::solicit(alloc)?),
@@ -165,7 +165,7 @@ fn read(alloc: Global, bytes: &[u8]) -> Result<usize, DhcpError> {
 }
 
 // Reads a message and writes it.
-fn read_and_written(alloc: Global, bytes: &[u8]) -> Result<usize, DhcpError> {
+fn read_and_write(alloc: Global, bytes: &[u8]) -> Result<usize, DhcpError> {
     let message = DhcpV4Message::parse(alloc, bytes)?;
     let mut buffer = BufferMut::new(alloc);
     message.emit(&mut buffer)?;

@@ -14,7 +14,7 @@ pub(crate) fn read(alloc: Global, bytes: &[u8]) -> Result<usize, DhcpError> {
 }
 
 // Reads a message and writes it.
-pub(crate) fn read_and_written(alloc: Global, bytes: &[u8]) -> Result<usize, DhcpError> {
+pub(crate) fn read_and_write(alloc: Global, bytes: &[u8]) -> Result<usize, DhcpError> {
     let message = DhcpV6Message::parse(alloc, bytes)?;
     Ok(bytes.len().saturating_add(message.emit(alloc)?.len()))
 }

@@ -11,7 +11,7 @@ pub(crate) fn read(alloc: Global, bytes: &[u8]) -> Result<usize, DhcpError> {
 }
 
 // Reads a list of options and writes it.
-pub(crate) fn read_and_written(alloc: Global, bytes: &[u8]) -> Result<usize, DhcpError> {
+pub(crate) fn read_and_write(alloc: Global, bytes: &[u8]) -> Result<usize, DhcpError> {
     let options = DhcpV6Options::parse(alloc, bytes)?;
     let mut buffer = BufferMut::new(alloc);
     options.emit(&mut buffer)?;

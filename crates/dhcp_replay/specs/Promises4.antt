@@ -57,9 +57,11 @@ IsMessageOf config xid state message = message ≡ attempt_message xid config st
 -- none, over these words and events. A message counts if the link took it.
 pub record KeepsPromises (config : Config) (lease : Option Lease) (words : List ℕ)
     (events : List Event) : Type 0 where
-  -- the requests of a stay in RENEWING, or in REBINDING, get rarer by half
+  -- k requests in a stay, k at least 2, come in RENEWING only if T2 - T1, and in REBINDING only if
+  -- the lease time - T2, is above 60 * 2^(k-2) seconds
   pub requests_get_rarer : All GetsRarer (history4 config lease words events)
-  -- the messages of a stay are three seconds apart, those in RENEWING and in REBINDING a minute
+  -- the messages of a stay are at least three seconds apart, those in RENEWING and in REBINDING at
+  -- least a minute
   pub messages_far_apart : All AreFarApart (history4 config lease words events)
   -- a lease that was held before is requested at most four times in a stay
   pub four_requests : All HasFourRequests (history4 config lease words events)
@@ -72,8 +74,8 @@ pub record KeepsPromises (config : Config) (lease : Option Lease) (words : List 
   pub names_its_basis :
       All (NamesItsBasis (HasBasis lease (numbered 1 events) (next_of words))
       (IsMessageOf config (next_of words))) (history4 config lease words events)
-  -- Each event has its few polls. After them a client without a kept error is not in BOUND at or
-  -- past T1, in RENEWING at or past T2, or in REBINDING at or past the end of its lease.
+  -- Each event has at most seven polls. After them a client without a kept error is not in BOUND at
+  -- or past T1, in RENEWING at or past T2, or in REBINDING at or past the end of its lease.
   pub settles : SettlesAtEach (protocol config) (first_view (life_of config lease words events))
       (numbered 1 events)
 

@@ -64,7 +64,8 @@ pub record KeepsPromisesOver (config : Config) (lease : Option Lease)
     (life : Script Packet ClientState Exchange) : Type 0 where
   -- an offer is requested at most eleven times in a stay
   pub eleven_requests : All HasElevenRequests (history (protocol config) life)
-  -- the messages of a stay are 0.9 seconds apart, those in Renew and in Rebind nine seconds
+  -- the messages of a stay are at least 0.9 seconds apart, those in Renew and in Rebind at least
+  -- nine seconds
   pub messages_far_apart : All AreFarApart (history (protocol config) life)
   -- an event has at most two messages, and one more where it asks for a release
   pub two_messages : (number : ℕ) → count_of (is_send_at number)
@@ -74,9 +75,9 @@ pub record KeepsPromisesOver (config : Config) (lease : Option Lease)
   pub names_its_basis :
       All (NamesItsBasis (HasBasis lease life.events) (IsMessageOf config))
       (history (protocol config) life)
-  -- Each event has its few polls. After them a client without a kept error does not hold a lease at
-  -- or past its T1, or its end if it is of temporary addresses, is not in Renew at or past T2, and
-  -- not in Rebind at or past the end of its lease.
+  -- Each event has at most seven polls. After them a client without a kept error does not hold a
+  -- lease at or past its T1, or its end if it is of temporary addresses, is not in Renew at or past
+  -- T2, and not in Rebind at or past the end of its lease.
   pub settles : SettlesAtEach (protocol config) (first_view life) life.events
 
 -- the same of a client that begins with this configuration and this lease at this start, over these

@@ -50,7 +50,8 @@ pub record IsTextOf {S : Type 0} (texts : Texts S) (script : S) (bytes : List �
 abbrev pub IsNoText : {S : Type 0} → Texts S → List ℕ → Type 0
 IsNoText texts bytes = (script : _) → ¬ (IsTextOf texts script bytes)
 
--- there is a script that is not valid
+-- there is a script that is not valid: so in version 2, while `upgrade` takes every script of
+-- version 1, and never ends with status 7
 abbrev pub HasInvalid : {S : Type 0} → Texts S → Type 0
 HasInvalid {S} texts = (script : S) × (texts.is_valid script ≡ false)
 

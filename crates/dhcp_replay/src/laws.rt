@@ -13,9 +13,13 @@ ghost use Rattle.dhcp_replay.specs.Replayed6.{life_of};
 use dhcp4_client::{DhcpV4Client, laws};
 use dhcp6_client::{DhcpV6Client, laws as laws6};
 
-/// Over all words and events, and with whatever lease it begins, a client's Requests get rarer by
-/// half, its messages are far apart and few at an event, each names the offer or the lease of its
-/// state, and after the polls of an event it is in no state whose end has come.
+/// Over all words and events, and with whatever lease it begins, counting messages that the link
+/// took: k Requests (k at least 2) come in one stay in RENEWING only if T2 - T1, and in REBINDING
+/// only if the lease time - T2, is above 60 * 2^(k-2) seconds; the messages of a stay are at least
+/// three seconds apart, in RENEWING and REBINDING a minute; a lease that was held before is
+/// requested at most four times. An event has at most two messages besides a release; each message
+/// names the offer or the lease of its state; and after the polls of an event a client without a
+/// kept error is in no state whose end has come.
 pub fn promises_are_kept(client: &DhcpV4Client)
     ensures { (lease : Option Lease) (words : List ℕ) (events : List Event) →
         KeepsPromises client.now.config lease words events }
@@ -28,9 +32,10 @@ pub fn promises_are_kept(client: &DhcpV4Client)
 }
 
 /// Over all words and events, and with whatever configuration and lease it begins, a client of IPv6
-/// requests an offer at most eleven times, its messages are far apart and few at an event, each
-/// names the offer or the lease of its state, and after the polls of an event it is in no state
-/// whose end has come.
+/// requests an offer at most eleven times, and its messages of a stay are at least 0.9 seconds
+/// apart, in Renew and Rebind nine, counting those that the link took. An event has at most two
+/// messages besides a release; each message names the offer or the lease of its state; and after
+/// the polls of an event a client without a kept error is in no state whose end has come.
 pub fn promises6_are_kept(client: &DhcpV6Client)
     ensures { (given : configs6.Config) (lease : Option leases6.Lease) (start : ℕ)
         (words : List ℕ) (events : List Event) →

@@ -1,5 +1,5 @@
 //! Scripts of a client, played: the client's history, and the call behind the program. Scripts and
-//! their texts stand in dhcp_script, streams in dhcp_stream; they are named here too.
+//! their texts are those of dhcp_script, streams those of dhcp_stream; both are exported here too.
 #![tactic(auto)]
 
 pub mod laws;

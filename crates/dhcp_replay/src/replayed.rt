@@ -39,7 +39,8 @@ impl Replayed {
     }
 }
 
-/// Plays a script. `InvalidArgument` if and only if it is not valid.
+/// Plays a script. `InvalidArgument` if and only if it is not valid; else out of memory is the only
+/// error.
 pub fn replay(alloc: Global, script: &Script) -> Result<Replayed, DhcpError>
     ensures valid { OnOk result (scripts.is_valid script.now ≡ true) }
     ensures refused { IfErr result (IsRefusal (scripts.is_valid script.now)) }

@@ -24,9 +24,9 @@ pub struct Replayed4 {
 }
 
 /// Plays the events of a script with a client of this configuration, and with a lease that it held
-/// before, if there is one. The start and the moments of the events are in milliseconds.
-/// `InvalidArgument` if and only if the client cannot begin so, or start and events are not within
-/// their limits.
+/// before, if there is one. The start and the moments of the events are in milliseconds; the start
+/// says only that no event is before it. `InvalidArgument` if and only if the client cannot begin
+/// so, or start and events are not within their limits; else out of memory is the only error.
 pub fn replay4<W: Words>(
     alloc: Global,
     config: DhcpV4Config,

@@ -38,7 +38,7 @@ pub struct Replayed6 {
 /// events are in milliseconds. `InvalidArgument` if and only if the client cannot begin so, or what
 /// is given is not within the limits of a script: start and events are not, the client's identifier
 /// is neither empty nor 2 to 130 bytes, there are more than 1,000 option codes, or the server's
-/// identifier of the lease is not 2 to 130 bytes.
+/// identifier of the lease is not 2 to 130 bytes; else out of memory is the only error.
 pub fn replay6<W: Words>(
     alloc: Global,
     config: DhcpV6Config,
@@ -70,7 +70,7 @@ pub fn replay6<W: Words>(
     }
     let mut client = DhcpV6Client::init(alloc, config, lease, start, words)?;
     laws::promises6_are_kept(&client);
-    let outputs = played(alloc, &mut client, words, events)?;
+    let outputs = play(alloc, &mut client, words, events)?;
     Ok(Replayed6 { outputs, client })
 }
 
@@ -79,16 +79,16 @@ fn fit_a_script(config: &DhcpV6Config, lease: &Option<DhcpV6Lease>) -> bool
     ensures { result ≡ lives.fit_a_script config.now lease.now }
 {
     let names_its_server = match lease {
-        Some(lease) => is_duid(&lease.srv_duid),
+        Some(lease) => is_script_duid(&lease.srv_duid),
         None => true,
     };
-    (config.duid.written_len() == 0 || is_duid(&config.duid))
+    (config.duid.written_len() == 0 || is_script_duid(&config.duid))
         && config.request_opts.len() <= MAX_CODES
         && names_its_server
 }
 
 // Whether an identifier has 2 to 130 bytes.
-fn is_duid(duid: &DhcpV6Duid) -> bool
+fn is_script_duid(duid: &DhcpV6Duid) -> bool
     ensures { result ≡ duids.is_duid (written_duid duid.now) }
 {
     let len = duid.written_len();
@@ -96,7 +96,7 @@ fn is_duid(duid: &DhcpV6Duid) -> bool
 }
 
 // What is reported of a client over these events.
-fn played<W: Words>(
+fn play<W: Words>(
     alloc: Global,
     client: &mut DhcpV6Client,
     words: &mut W,

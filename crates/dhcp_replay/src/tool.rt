@@ -47,7 +47,7 @@ use std::io::ErrorKind;
 pub enum Status {
     /// Everything was read, run and written.
     Done = 0,
-    /// The words ask for nothing that there is.
+    /// The words are none of `run`, `upgrade`, or `demo` and a number from 1 to 2,000.
     WrongWords = 1,
     /// The bytes are the text of no script.
     NoScript = 2,
@@ -200,7 +200,7 @@ fn upgraded_text<S: Source>(alloc: Global, source: &mut S) -> Result<Bytes, Stat
         (S.faults source.old) (S.faults source.new) }
 {
     let bytes = input(alloc, source)?;
-    upgraded(alloc, bytes.as_slice())
+    upgrade_answer(alloc, bytes.as_slice())
 }
 
 // What the source holds, or the status.
@@ -217,7 +217,7 @@ fn input<S: Source>(alloc: Global, source: &mut S) -> Result<Bytes, Status>
 }
 
 // The text in version 2 of the script with these bytes as its text in version 1, or the status.
-fn upgraded(alloc: Global, bytes: &[u8]) -> Result<Bytes, Status>
+fn upgrade_answer(alloc: Global, bytes: &[u8]) -> Result<Bytes, Status>
     ensures { AnswersText scripts_v1 result bytes.now }
 {
     match upgrade(alloc, bytes) {
@@ -266,14 +266,14 @@ fn answer(alloc: Global, bytes: &[u8]) -> Result<Bytes, Status>
     ensures { AnswersText scripts result bytes.now }
 {
     match read_script(alloc, bytes) {
-        Ok(Some(script)) => played(alloc, &script),
+        Ok(Some(script)) => script_answer(alloc, &script),
         Ok(None) => Err(Status::NoScript),
         Err(error) => Err(out_of_memory(error)),
     }
 }
 
 // The text to print for a script, or the status.
-fn played(alloc: Global, script: &Script) -> Result<Bytes, Status>
+fn script_answer(alloc: Global, script: &Script) -> Result<Bytes, Status>
     ensures { AnswersScript result script.now }
 {
     if !script.is_valid() {

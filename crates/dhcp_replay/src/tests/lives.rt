@@ -254,7 +254,7 @@ const LIVES: [Life; 35] = [
         "",
     ),
     (
-        "a time limit does not count with a lease",
+        "a time limit does not count in a state that is done",
         LIMIT_OF_2,
         LEASED_AT_ONCE,
         "at 3000 ok none\n",
@@ -379,7 +379,7 @@ const LIVES: [Life; 35] = [
     ),
 ];
 
-// What is printed for a script with this line changed and these events.
+// Whether a script with this line changed and these events prints these outputs.
 fn is_printed(
     alloc: Global,
     family: Family,
@@ -414,7 +414,7 @@ fn each_life_is_printed(rt: HostRuntime) -> Result<(), Fail> {
 }
 
 #[test]
-fn the_last_moment_is_lawful(rt: HostRuntime) -> Result<(), Fail> {
+fn moments_below_2_to_the_60_are_valid(rt: HostRuntime) -> Result<(), Fail> {
     let alloc = rt.alloc();
     let last = "at 1152921504606846975 ok frame OFFER\nat 1152921504606846975 ok frame ACK\n";
     let outputs = "1 handed frame DISCOVER\n1 state selecting\n1 handed frame REQUEST\n\

@@ -15,8 +15,8 @@ use Rattle.dhcp_replay.proofs.replayed6.replay6.Goals as goal
 pub init-requires : goal.init-requires
 init-requires g c = start_below c.args.start c.args.events.now (sym c.are_valid.ensures ∙ c.if-not-are_valid.false)
 
-pub played-requires : goal.played-requires
-played-requires g c = record {
+pub play-requires : goal.play-requires
+play-requires g c = record {
   few = few_events c.args.start c.args.events.now (sym c.are_valid.ensures ∙ c.if-not-are_valid.false);
   moments = moments_below c.args.start c.args.events.now (numbered 1 c.args.events.now) refl (sym c.are_valid.ensures ∙ c.if-not-are_valid.false);
 }
@@ -37,12 +37,12 @@ returns-clause-outputs g c =
 pub returns-clause-client : goal.returns-clause-client
 returns-clause-client g c =
     client6 c.args.config c.args.lease c.args.start c.args.events.now c.in_ok-client.client (g.W.Words.left c.args.words.now) (g.W.Words.left c.init.new.words) c.in_ok-client.ensures.drawn c.in_ok-client.ensures.begun
-    c.played.new.client (g.W.Words.left c.played.new.words) c.in_ok-outputs.ensures.client c.in_ok-outputs.ensures.config c.in_ok-outputs.ensures.moment
+    c.play.new.client (g.W.Words.left c.play.new.words) c.in_ok-outputs.ensures.client c.in_ok-outputs.ensures.config c.in_ok-outputs.ensures.moment
 
 pub returns-clause-words : goal.returns-clause-words
 returns-clause-words g c =
     words6 c.args.config c.args.lease c.args.start c.args.events.now c.in_ok-client.client (g.W.Words.left c.args.words.now) (g.W.Words.left c.init.new.words) c.in_ok-client.ensures.drawn c.in_ok-client.ensures.begun
-    c.played.new.client (g.W.Words.left c.played.new.words) c.in_ok-outputs.ensures.client
+    c.play.new.client (g.W.Words.left c.play.new.words) c.in_ok-outputs.ensures.client
 
 pub returns-clause-failures : goal.returns-clause-failures
 returns-clause-failures g c =

@@ -7,7 +7,7 @@ use Rattle.dhcp_history.specs.Client.{view_of}
 use Rattle.dhcp_history.specs.EventLoop.{last_moment}
 use Rattle.dhcp_replay.proofs.Played6Lemmas.{left6, outputs_made6}
 use Rattle.dhcp_replay.proofs.TextLemmas.{texts6}
-use Rattle.dhcp_replay.proofs.replayed6.played.Goals as goal
+use Rattle.dhcp_replay.proofs.replayed6.play.Goals as goal
 
 pub replay-requires : goal.replay-requires
 replay-requires g c = subst (λ (all : List (LifeEvent Packet)). All (λ (event : LifeEvent Packet). event.moment < 2 ^ 60) all) (sym c.in_ok-numbered.ensures) c.requires.moments
