@@ -16,7 +16,7 @@ use Rattle.dhcp_history.specs.Script.{Input, Nothing, Arrival, Release, CleanUp,
 use Rattle.dhcp_history.specs.History.{history, outputs, reading_of}
 use Rattle.dhcp_history.specs.Machine.{View, PollEffect, EventEffect, is_listening, is_stopped, limit_is_over, has_ended, begin_stay, attempt_now, transmit, take_answer, receive, transmit_and_receive, poll, after_poll, clean_up, release_of, replay, replay_from, first_view, handed_output}
 use Rattle.dhcp_history.specs.Run.{input_of, waiting_of, handed_by, shown_after, UnlessNoMemory, answer_by, answer_of, HasPolled}
-use Rattle.dhcp_history.specs.Release.{UnlessUnreleased, ReleaseEffect, release_by, release_held, HasReleased}
+use Rattle.dhcp_history.specs.Release.{UnlessOutOfMemory, ReleaseEffect, release_by, release_held, HasReleased}
 use Rattle.dhcp_history.proofs.Calls.{replay_history}
 use Rattle.dhcp_history.specs.EventLoop.{release_outputs, poll_outputs, is_again, has_memory, once_outputs, HasPolledOnce, polls_at, call_at, event_at, events_at, HasReported, HasCalled, MakesUp}
 
@@ -29,7 +29,7 @@ on_run (Ok a) m h = h
 on_run (Err run.TimedOut) m h = h
 on_run (Err run.OutOfMemory) m h = absurd (cc m)
 
-pub on_release : {A : Type 0} {P : Type 0} (result : Result A ReleaseError) → (result ≡ Err release.OutOfMemory → ⊥) → UnlessUnreleased result P → P
+pub on_release : {A : Type 0} {P : Type 0} (result : Result A ReleaseError) → (result ≡ Err release.OutOfMemory → ⊥) → UnlessOutOfMemory result P → P
 on_release (Ok a) m h = h
 on_release (Err release.Refused) m h = h
 on_release (Err release.OutOfMemory) m h = absurd (m refl)

@@ -17,7 +17,7 @@ use Rattle.dhcp_history.specs.Client.{view_of}
 use Rattle.dhcp_history.specs.Errors.{release_answer, run_answer, send_refused, sent_of, timed_out}
 use Rattle.dhcp_history.specs.EventLoop.{HasReported, events_at, last_moment}
 use Rattle.dhcp_history.specs.Release as release
-use Rattle.dhcp_history.specs.Release.{HasReleased, UnlessUnreleased}
+use Rattle.dhcp_history.specs.Release.{HasReleased, UnlessOutOfMemory}
 use Rattle.dhcp_history.specs.Run.{input_of, quiet_poll, HasPolled, HasPolledQuietly, IsSent, IsStill, IsUnsent, NeedsMemory, OnNoMemory, OnTimeout, UnlessNoMemory, UsesLink, WhereKnown}
 use Rattle.dhcp_history.specs.Schedule.{HasNextAttempt, IsActive, IsIdle, next_poll}
 
@@ -84,7 +84,7 @@ module _ {PublicState State Exchange Answer Lease : Type 0}
     pub state : OnErr result (new.state ≡ old.state)
     pub standing : OnErr result (new.standing ≡ old.standing)
     pub armed : HasNextAttempt p.has_attempts old → HasNextAttempt p.has_attempts new
-    pub moment : UnlessUnreleased (release_answer result) (new.last_moment ≡ now)
+    pub moment : UnlessOutOfMemory (release_answer result) (new.last_moment ≡ now)
 
   -- A release whose message this is, whatever its errors.
   pub record HandsRelease {Returned : Type 0} (message : Handed) (now : ℕ)
@@ -112,7 +112,7 @@ module _ {PublicState State Exchange Answer Lease : Type 0}
     pub kept : KeepsUnreleased now result old new failed failed'
     pub open kept use *
     -- where the link is known, this is the release of the protocol
-    pub released : UnlessUnreleased (release_answer result) (IfSome before (λ shown.
+    pub released : UnlessOutOfMemory (release_answer result) (IfSome before (λ shown.
         (drawn : List ℕ) → HasReleased (release.release_held p shown.refuses (view_of old drawn))
         (release_answer result) (view_of new drawn) shown after))
     -- it returns whether a lease was held

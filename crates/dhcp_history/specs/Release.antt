@@ -10,10 +10,10 @@ use Rattle.dhcp_history.specs.Machine.{View, clean_up}
 use Rattle.dhcp_history.specs.Run.{handed_by}
 
 -- a fact for each answer but out of memory
-abbrev pub UnlessUnreleased : {A : Type 0} → Result A ReleaseError → Type 0 → Type 0
-UnlessUnreleased (Ok a) P = P
-UnlessUnreleased (Err release.Refused) P = P
-UnlessUnreleased (Err release.OutOfMemory) P = Unit {0}
+abbrev pub UnlessOutOfMemory : {A : Type 0} → Result A ReleaseError → Type 0 → Type 0
+UnlessOutOfMemory (Ok a) P = P
+UnlessOutOfMemory (Err release.Refused) P = P
+UnlessOutOfMemory (Err release.OutOfMemory) P = Unit {0}
 
 -- what a release does: the client after it, the message that it hands to the link, and its answer
 pub record ReleaseEffect (State Exchange : Type 0) : Type 0 where

@@ -11,9 +11,9 @@ pub enum Phase {
     Pausing,
     /// The link took its last message: the attempt is open, and a packet may answer it.
     Listening,
-    /// The link refused its last message.
+    /// The link refused its last message: no packet is taken until it takes one.
     Resting,
-    /// Its time limit is over.
+    /// Its time limit is over: it keeps that error until a clean-up or a release.
     Stopped,
 }
 
@@ -22,11 +22,12 @@ pub enum Phase {
 pub struct Standing<X> {
     /// The exchange with the servers.
     pub exchange: X,
-    /// The moment of the first poll in this state.
+    /// The moment of the first poll in this state; 0 before it.
     pub entered: u64,
     /// What the client is in the midst of.
     pub phase: Phase,
-    /// The moment from which the next attempt is due.
+    /// The moment from which the next attempt is due; none before the first poll in this state, and
+    /// in a state in which the client does not send.
     pub deadline: Option<u64>,
 }
 
@@ -35,11 +36,13 @@ pub struct Standing<X> {
 pub struct Client<S, X> {
     /// What it is in, with what that rests on.
     pub state: S,
-    /// Its time limit, in seconds, and 0 where there is none.
+    /// Its time limit in each state in which it sends, in seconds from the first poll there; 0 is no
+    /// limit.
     pub timeout_sec: u32,
     /// Where it stands in its state.
     pub standing: Standing<X>,
-    /// The last moment given to it, in milliseconds, 0 where there was none.
+    /// The last moment that was given to it, in milliseconds; 0 where there was none. A call that
+    /// is out of memory leaves it.
     pub last_moment: u64,
     ghost entered_in: { standing.entered < 2 ^ 60 },
 }

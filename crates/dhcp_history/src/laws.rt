@@ -66,7 +66,7 @@ pub fn two_messages_a_number<R: Rules>(rules: &R)
     let _rules = rules;
 }
 
-/// What a history reports stay by stay is in the order of events.
+/// What a history reports, stay by stay, is in the order of the numbers of its events.
 pub fn reports_are_in_order<R: Rules>(rules: &R)
     ensures { Lawful (R.protocol rules.now) →
         (script : Script Packet R.State R.Exchange) (least : ℕ) →
@@ -83,8 +83,8 @@ pub fn no_state_is_overdue<R: Rules>(rules: &R)
     let _rules = rules;
 }
 
-/// The four laws of polls in one: what polls report, how many polls, changes and messages an event
-/// has, and that no state is overdue after them.
+/// The four laws of polls in one: what polls report is what the history reports; an event has at
+/// most seven polls, six changes and two messages; and no state is overdue after them.
 pub fn polls_keep_laws<R: Rules>(rules: &R)
     ensures { Lawful (R.protocol rules.now) → KeepsLaws (R.protocol rules.now) }
 {
@@ -102,7 +102,8 @@ pub fn stays_close_in_turn<R: Rules>(rules: &R)
     let _rules = rules;
 }
 
-/// In a stay each attempt is made when the wait of the one before is over, or later.
+/// In a stay each attempt is made when the wait of the one before is over, or later, whether the
+/// link took that or refused it.
 pub fn attempts_are_apart<R: Rules>(rules: &R)
     ensures { (script : Script Packet R.State R.Exchange) →
         All IsApart (history (R.protocol rules.now) script) }
@@ -118,7 +119,9 @@ pub fn attempts_run_out<R: Rules>(rules: &R)
     let _rules = rules;
 }
 
-/// In a state whose waits are half of the rest, the messages of a stay get rarer by half.
+/// In a state whose waits are half of the time to its end (RFC 2131 section 4.4.5), a stay in which
+/// the link took n messages, from 2 on, has more than 60 * 2^(n - 2) seconds from its entry to that
+/// end.
 pub fn messages_halve<R: Rules>(rules: &R)
     ensures { (script : Script Packet R.State R.Exchange) →
         All (IsSparse (R.protocol rules.now)) (history (R.protocol rules.now) script) }
@@ -126,7 +129,8 @@ pub fn messages_halve<R: Rules>(rules: &R)
     let _rules = rules;
 }
 
-/// Successive attempts of a stay keep the least distance that the waits of its state have.
+/// Successive attempts of a stay keep the least distance, in milliseconds, that the waits of its
+/// state have.
 pub fn attempts_are_far_apart<R: Rules>(rules: &R)
     ensures { (good : R.Exchange → Bool) → IsKept (R.protocol rules.now) good →
         (script : Script Packet R.State R.Exchange) → good script.exchange ≡ true →
@@ -135,7 +139,7 @@ pub fn attempts_are_far_apart<R: Rules>(rules: &R)
     let _rules = rules;
 }
 
-/// And so do the messages of a stay that the link took.
+/// The messages of a stay that the link took keep the same least distance.
 pub fn messages_are_far_apart<R: Rules>(rules: &R)
     ensures { (good : R.Exchange → Bool) → IsKept (R.protocol rules.now) good →
         (script : Script Packet R.State R.Exchange) → good script.exchange ≡ true →

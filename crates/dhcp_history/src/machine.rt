@@ -1,5 +1,6 @@
-//! The client as a machine that is polled: the seven steps of a poll, each in a function of its
-//! own, over any rules, words and link.
+//! The client as a machine that is polled: the seven steps of a poll, over any rules, words and
+//! link. Each step has a function of its own; the last two, what a refused attempt and an open one
+//! await, share `receive`.
 
 ghost use Rattle.std.specs.Prelude.{◌≡◌, ◌≤◌, ◌<◌, ◌+◌, ◌^◌, ◌⊎◌, ◌&&◌, ◌||◌, ℕ, List, Bool, true, false, not, Option, Some, None, is_some, Ok, Err, OnOk, OnErr, IfOk, IfSome, IsSomeAnd};
 ghost use Rattle.dhcp_history.specs.Protocol.{has_come, pause_of};
@@ -24,10 +25,11 @@ ghost use Rattle.dhcp_history.specs.Client.{view_of, view_with, unpolled, silent
 ghost use Rattle.dhcp_history.specs.Run.{input_of, sent_by, UsesLink, WhereKnown, UnlessNoMemory, OnNoMemory, OnTimeout, HasPolled, HasReceived, HasTransmitted, HasDrawn, HasDue, quiet_poll, HasPolledQuietly, IsShut, IsStill, NeedsMemory, IsUnsent, IsSent};
 
 use crate::attempt::{receive, transmit};
+use crate::schedule::limit_moment;
 use crate::{Client, Phase, Rules, Standing};
 use dhcp_clock::{DhcpLink, Words};
 
-/// Why a poll has no answer.
+/// Why a poll returns an error.
 #[derive(Clone, Copy, Debug, PartialEq, Eq)]
 pub enum RunError {
     /// The time limit of the client is over.
@@ -53,16 +55,12 @@ fn is_stopped(phase: Phase) -> bool
     phase == Phase::Stopped
 }
 
-// Whether so many seconds have passed since the stay was entered.
+// Whether the time limit of the state is over, for a client that was polled in it.
 fn limit_has_come<R: Rules>(rules: &R, client: &Client<R::State, R::Exchange>, now: u64) -> bool
     ensures { result ≡ has_come now (limit_moment (R.protocol rules.now)
         client.now.timeout_sec client.now.standing.entered client.now.state) }
 {
-    let limit = 1000 * client.timeout_sec as u64;
-    rules.has_attempts(&client.state)
-        && limit > 0
-        && client.standing.entered <= now
-        && now - client.standing.entered >= limit
+    has_come(now, limit_moment(rules, client))
 }
 
 // Step 2: whether the time limit is over; it counts from the first poll in a state on.
@@ -294,8 +292,10 @@ fn transmit_due<R: Rules, W: Words, L: DhcpLink>(
     }
 }
 
-/// One poll, in seven steps: a kept error, the time limit, the end of the state, the pause, an
-/// attempt, the wait of a refused attempt, the packet.
+/// One poll at a moment, in milliseconds, in seven steps: a kept error, the time limit, the end of
+/// the state, the pause, an attempt, the wait of a refused attempt, the packet. Returns what is
+/// reported of the new state, or none if the state has not changed. Each error is the one that
+/// [`RunError`] names.
 pub fn run<R: Rules, W: Words, L: DhcpLink>(
     rules: &R,
     client: &mut Client<R::State, R::Exchange>,

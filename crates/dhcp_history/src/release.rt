@@ -8,7 +8,7 @@ ghost use Rattle.dhcp_history.specs.Calls.{CleansUp};
 ghost use Rattle.dhcp_history.specs.Client.{view_of};
 ghost use Rattle.dhcp_history.specs.Schedule.{HasNextAttempt};
 ghost use Rattle.dhcp_history.specs.Errors.{sent_when};
-ghost use Rattle.dhcp_history.specs.Release.{UnlessUnreleased, release_held, HasReleased};
+ghost use Rattle.dhcp_history.specs.Release.{UnlessOutOfMemory, release_held, HasReleased};
 
 use crate::attempt::send;
 use crate::{Client, Rules, Standing};
@@ -39,7 +39,7 @@ pub fn release_held<R: Rules, L: DhcpLink>(
     client: &mut Client<R::State, R::Exchange>,
     link: &mut L,
 ) -> Result<bool, ReleaseError>
-    ensures released { UnlessUnreleased result
+    ensures released { UnlessOutOfMemory result
         (IfSome (L.shown link.old) (λ before. (drawn : List ℕ) →
         HasReleased (release_held (R.protocol rules.now) before.refuses (view_of client.old drawn))
         result (view_of client.new drawn) before (L.shown link.new))) }

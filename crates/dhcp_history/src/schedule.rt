@@ -18,8 +18,11 @@ fn earlier(first: Option<u64>, second: Option<u64>) -> Option<u64>
     }
 }
 
-// The moment at which the time limit of the state is over.
-fn limit_moment<R: Rules>(rules: &R, client: &Client<R::State, R::Exchange>) -> Option<u64>
+// The moment at which the time limit of the state is over, for a client that was polled in it.
+pub(crate) fn limit_moment<R: Rules>(
+    rules: &R,
+    client: &Client<R::State, R::Exchange>,
+) -> Option<u64>
     ensures { result ≡ limit_moment (R.protocol rules.now)
         client.now.timeout_sec client.now.standing.entered client.now.state }
 {

@@ -4,7 +4,7 @@ ghost use Rattle.std.specs.Prelude.{◌≡◌, ◌⊎◌, IfErr};
 ghost use Rattle.dhcp_wire.specs.Error.{no_memory};
 ghost use Rattle.dhcp_history.specs.Calls.{Releases, ReleasesHeld};
 ghost use Rattle.dhcp_history.specs.Errors.{release_answer, send_refused};
-ghost use Rattle.dhcp_history.specs.Release.{UnlessUnreleased};
+ghost use Rattle.dhcp_history.specs.Release.{UnlessOutOfMemory};
 
 use crate::{Client, ReleaseError, Rules, release_by, release_held};
 use dhcp_clock::{DhcpLink, Handed, Sent};
@@ -51,7 +51,7 @@ fn keep_moment<S, X: Copy, T>(
 ) -> Result<T, DhcpError>
     ensures same { release_answer result ≡ released }
     ensures errors { IfErr result (λ error. (error ≡ send_refused) ⊎ (error ≡ no_memory)) }
-    ensures moment { UnlessUnreleased released (client.new.last_moment ≡ now) }
+    ensures moment { UnlessOutOfMemory released (client.new.last_moment ≡ now) }
     ensures timeout { client.new.timeout_sec ≡ client.old.timeout_sec }
     ensures state { client.new.state ≡ client.old.state }
     ensures standing { client.new.standing ≡ client.old.standing }
