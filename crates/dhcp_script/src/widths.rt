@@ -1,5 +1,5 @@
-//! What the values of every script have: numbers of their widths, whole addresses, texts of UTF-8.
-//! A call does nothing.
+//! The values of every script fit their types: numbers have their widths, addresses are whole,
+//! texts are UTF-8. A call does nothing.
 
 ghost use Rattle.std.specs.Prelude.{◌<◌, ◌^◌, All, IfSome};
 ghost use Rattle.std.specs.Int.{w16};
@@ -25,17 +25,17 @@ use dhcp4_msg::DhcpV4ClasslessRoute;
 use dhcp6_msg::DhcpV6Mode;
 use std::net::{Ipv4Addr, Ipv6Addr};
 
-// A type whose values have widths.
+// A type whose values fit it.
 pub(crate) trait Widths {
-    // What each value has.
+    // That a value fits the type.
     ghost has: { Self → Type 0 };
 
-    // It has it.
+    // Each value fits.
     fn widths(&self)
         ensures { has self.now };
 }
 
-// Each of some values has it,
+// Each item of a list fits,
 fn all_have<T: Widths>(items: &[T])
     ensures { All T.has items.now }
 {
@@ -44,7 +44,7 @@ fn all_have<T: Widths>(items: &[T])
     }
 }
 
-// and so has one that is there,
+// and so does a value that is there,
 fn has_if_some<T: Widths>(item: &Option<T>)
     ensures { IfSome item.now T.has }
 {
@@ -53,7 +53,7 @@ fn has_if_some<T: Widths>(item: &Option<T>)
     }
 }
 
-// and each of a list that is there.
+// and each item of a list that is there.
 fn all_have_if_some<T: Widths>(items: &Option<Sequence<T>>)
     ensures { IfSome items.now (All T.has) }
 {
@@ -67,7 +67,7 @@ fn are_bytes(bytes: &[u8])
     ensures { IsBytes bytes.now }
 {}
 
-// Each number of a list of two bytes has two.
+// Each number of a list of u16 has two bytes.
 fn are_two_bytes(numbers: &[u16])
     ensures { AreOfWidth w16 numbers.now }
 {}
@@ -91,7 +91,7 @@ fn are_bytes_if_some(bytes: &Option<Bytes>)
     }
 }
 
-// The numbers of two bytes of a list that is there have two.
+// Each number of a list of u16 that is there has two bytes.
 fn are_two_bytes_if_some(numbers: &Option<Sequence<u16>>)
     ensures { IfSome numbers.now (AreOfWidth w16) }
 {
@@ -117,7 +117,7 @@ fn is_mac_if_some(mac: &Option<[u8; 6]>)
     }
 }
 
-// What comes after the configuration has widths.
+// The words, the start and the events of a script fit their types.
 fn is_life(words: &Sequence<u32>, start: u64, events: &Sequence<Event>)
     ensures { IsLife words.now start events.now }
 {

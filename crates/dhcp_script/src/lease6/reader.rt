@@ -19,7 +19,7 @@ use dhcp6_msg::DhcpV6IaType;
 use std::alloc::Global;
 use std::net::Ipv6Addr;
 
-// The identity association of a lease, and its server.
+// The identity association of a lease, what it leases, and the identifier of its server.
 #[derive(Drop)]
 struct LeaseAssociation {
     ia_type: DhcpV6IaType,
@@ -29,7 +29,7 @@ struct LeaseAssociation {
     srv_duid: Bytes,
 }
 
-// Its times.
+// The times of a lease, in seconds.
 #[derive(Drop)]
 struct LeaseTimes {
     t1_sec: u32,
@@ -38,7 +38,7 @@ struct LeaseTimes {
     valid_time_sec: u32,
 }
 
-// What version 2 alone says of a lease.
+// The fields of a lease that version 2 alone has.
 #[derive(Drop)]
 struct LeaseLater {
     xid: u32,
@@ -47,7 +47,7 @@ struct LeaseLater {
 }
 
 impl LeaseLater {
-    // That of the empty lease.
+    // Those of the empty lease.
     fn none(alloc: Global) -> Self
         ensures { result ≡ no_later }
     {
@@ -59,7 +59,8 @@ impl LeaseLater {
     }
 }
 
-/// Reads the fields of a lease, to the end of the line.
+/// Reads the fields of a lease in a version, to the end of the line. `Malformed` if and only if the
+/// text does not go on with them; else out of memory is the only error.
 #[tactic(auto, unfolding(crate::specs::Lease6Reader::lease6_at))]
 pub fn read_lease(
     alloc: Global,
@@ -87,7 +88,7 @@ pub fn read_lease(
     })
 }
 
-// Reads the identity association, and the identifier of its server.
+// Reads the identity association, what it leases, and the identifier of the server.
 #[tactic(auto, unfolding(crate::specs::Lease6Reader::association_at))]
 fn read_association(alloc: Global, text: &mut TextReader) -> Result<LeaseAssociation, ReadError>
     ensures { Takes result text.new (association_at text.old) }
