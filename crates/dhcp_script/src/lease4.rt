@@ -95,9 +95,9 @@ impl Lease4 {
     fn put_servers(&self, alloc: Global, lease: &mut DhcpV4Lease) -> Result<(), DhcpError>
         ensures { Puts result lease.new (leases.with_servers self.now lease.old) }
     {
-        lease.dns_srvs = copied(alloc, self.dns_srvs.as_ref())?;
-        lease.gateways = copied(alloc, self.gateways.as_ref())?;
-        lease.ntp_srvs = copied(alloc, self.ntp_srvs.as_ref())?;
+        lease.dns_srvs = copy_of_list(alloc, self.dns_srvs.as_ref())?;
+        lease.gateways = copy_of_list(alloc, self.gateways.as_ref())?;
+        lease.ntp_srvs = copy_of_list(alloc, self.ntp_srvs.as_ref())?;
         Ok(())
     }
 
@@ -105,9 +105,9 @@ impl Lease4 {
     fn put_names(&self, alloc: Global, lease: &mut DhcpV4Lease) -> Result<(), DhcpError>
         ensures { Puts result lease.new (leases.with_names self.now lease.old) }
     {
-        lease.host_name = copied_text(alloc, self.host_name.as_ref())?;
-        lease.domain_name = copied_text(alloc, self.domain_name.as_ref())?;
-        lease.classless_routes = copied(alloc, self.classless_routes.as_ref())?;
+        lease.host_name = copy_of_text(alloc, self.host_name.as_ref())?;
+        lease.domain_name = copy_of_text(alloc, self.domain_name.as_ref())?;
+        lease.classless_routes = copy_of_list(alloc, self.classless_routes.as_ref())?;
         Ok(())
     }
 }
@@ -130,7 +130,7 @@ impl HeldLease for Lease4 {
 }
 
 // A copy of a list, if there is one.
-fn copied<T: Copy>(
+fn copy_of_list<T: Copy>(
     alloc: Global,
     kept: Option<&Sequence<T>>,
 ) -> Result<Option<Sequence<T>>, DhcpError>
@@ -143,7 +143,7 @@ fn copied<T: Copy>(
 }
 
 // A copy of a text, if there is one.
-fn copied_text(alloc: Global, kept: Option<&Text>) -> Result<Option<Text>, DhcpError>
+fn copy_of_text(alloc: Global, kept: Option<&Text>) -> Result<Option<Text>, DhcpError>
     ensures { Makes (λ made. made) result (option_copied kept.entry) }
 {
     match kept {

@@ -4,13 +4,13 @@ ghost use Rattle.std.specs.Prelude.{◌≡◌};
 ghost use Rattle.dhcp_stream.specs.TextReader.{Takes};
 ghost use Rattle.dhcp_script.specs.Lease4Reader.{
   addresses_at,
-  later_at,
   lease4_at,
   link_at,
   names_at,
-  no_later,
+  no_version2_fields,
   servers_at,
   times_at,
+  version2_fields_at,
 };
 
 use crate::Lease4;
@@ -64,18 +64,18 @@ struct LeaseNames {
 
 // The fields of a lease that version 2 alone has.
 #[derive(Drop)]
-struct LeaseLater {
+struct Version2Fields {
     link: LeaseLink,
     servers: LeaseServers,
     names: LeaseNames,
 }
 
-impl LeaseLater {
+impl Version2Fields {
     // Those of the empty lease.
     fn none() -> Self
-        ensures { result ≡ no_later }
+        ensures { result ≡ no_version2_fields }
     {
-        LeaseLater {
+        Version2Fields {
             link: LeaseLink {
                 subnet_mask: Ipv4Addr::UNSPECIFIED,
                 broadcast_addr: None,
@@ -107,7 +107,7 @@ pub fn read_lease(
 {
     let addresses = read_addresses(alloc, text)?;
     let times = read_times(alloc, version, text)?;
-    let later = read_later(alloc, version, text)?;
+    let later = read_version2_fields(alloc, version, text)?;
     Ok(Lease4 {
         yiaddr: addresses.yiaddr,
         siaddr: addresses.siaddr,
@@ -156,17 +156,17 @@ fn read_times(
 }
 
 // Reads the fields that version 2 alone has; in version 1 they are those of the empty lease.
-#[tactic(auto, unfolding(crate::specs::Lease4Reader::later_at))]
-fn read_later(
+#[tactic(auto, unfolding(crate::specs::Lease4Reader::version2_fields_at))]
+fn read_version2_fields(
     alloc: Global,
     version: Version,
     text: &mut TextReader,
-) -> Result<LeaseLater, ReadError>
-    ensures { Takes result text.new (later_at version text.old) }
+) -> Result<Version2Fields, ReadError>
+    ensures { Takes result text.new (version2_fields_at version text.old) }
 {
     match version {
-        Version::One => Ok(LeaseLater::none()),
-        Version::Two => Ok(LeaseLater {
+        Version::One => Ok(Version2Fields::none()),
+        Version::Two => Ok(Version2Fields {
             link: read_link(alloc, text)?,
             servers: read_servers(alloc, text)?,
             names: read_names(alloc, text)?,

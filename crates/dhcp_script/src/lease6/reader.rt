@@ -4,10 +4,10 @@ ghost use Rattle.std.specs.Prelude.{◌≡◌};
 ghost use Rattle.dhcp_stream.specs.TextReader.{Takes};
 ghost use Rattle.dhcp_script.specs.Lease6Reader.{
   association_at,
-  later_at,
   lease6_at,
-  no_later,
+  no_version2_fields,
   times_at,
+  version2_fields_at,
 };
 
 use crate::Lease6;
@@ -40,18 +40,18 @@ struct LeaseTimes {
 
 // The fields of a lease that version 2 alone has.
 #[derive(Drop)]
-struct LeaseLater {
+struct Version2Fields {
     xid: u32,
     cli_duid: Bytes,
     srv_ip: Ipv6Addr,
 }
 
-impl LeaseLater {
+impl Version2Fields {
     // Those of the empty lease.
     fn none(alloc: Global) -> Self
-        ensures { result ≡ no_later }
+        ensures { result ≡ no_version2_fields }
     {
-        LeaseLater {
+        Version2Fields {
             xid: 0,
             cli_duid: Bytes::new(alloc),
             srv_ip: Ipv6Addr::UNSPECIFIED,
@@ -71,7 +71,7 @@ pub fn read_lease(
 {
     let association = read_association(alloc, text)?;
     let times = read_times(alloc, version, text)?;
-    let later = read_later(alloc, version, text)?;
+    let later = read_version2_fields(alloc, version, text)?;
     Ok(Lease6 {
         ia_type: association.ia_type,
         iaid: association.iaid,
@@ -120,17 +120,17 @@ fn read_times(
 }
 
 // Reads the fields that version 2 alone has; in version 1 they are those of the empty lease.
-#[tactic(auto, unfolding(crate::specs::Lease6Reader::later_at))]
-fn read_later(
+#[tactic(auto, unfolding(crate::specs::Lease6Reader::version2_fields_at))]
+fn read_version2_fields(
     alloc: Global,
     version: Version,
     text: &mut TextReader,
-) -> Result<LeaseLater, ReadError>
-    ensures { Takes result text.new (later_at version text.old) }
+) -> Result<Version2Fields, ReadError>
+    ensures { Takes result text.new (version2_fields_at version text.old) }
 {
     match version {
-        Version::One => Ok(LeaseLater::none(alloc)),
-        Version::Two => Ok(LeaseLater {
+        Version::One => Ok(Version2Fields::none(alloc)),
+        Version::Two => Ok(Version2Fields {
             xid: read_field(alloc, text, b' ')?,
             cli_duid: text.hex(alloc, b' ')?,
             srv_ip: read_field(alloc, text, b'\n')?,
