@@ -19,10 +19,10 @@ use Rattle.dhcp_script.specs.declared.lease4.reader.LeaseTimes.{LeaseTimes}
 use Rattle.dhcp_script.specs.declared.lease4.reader.LeaseLink.{LeaseLink}
 use Rattle.dhcp_script.specs.declared.lease4.reader.LeaseServers.{LeaseServers}
 use Rattle.dhcp_script.specs.declared.lease4.reader.LeaseNames.{LeaseNames}
-use Rattle.dhcp_script.specs.declared.lease4.reader.LeaseLater.{LeaseLater}
+use Rattle.dhcp_script.specs.declared.lease4.reader.Version2Fields.{Version2Fields}
 use Rattle.dhcp_script.specs.declared.version.Version.{Version}
 use Rattle.dhcp_script.specs.declared.version.Version.TheVariants.{One, Two}
-use Rattle.dhcp_script.specs.Lease4Reader.{addresses_at, addresses_of, later_at, later_of, lease4_at, lease4_of, link_at, link_of, names_at, names_of, no_later, servers_at, servers_of, times_at, times_of}
+use Rattle.dhcp_script.specs.Lease4Reader.{addresses_at, addresses_of, lease4_at, lease4_of, link_at, link_of, names_at, names_of, no_version2_fields, servers_at, servers_of, times_at, times_of, version2_fields_at, version2_fields_of}
 use Rattle.dhcp_script.specs.FieldReader.{held_at, list_in, route_in, route_of, word_or}
 use Rattle.dhcp_script.specs.Lease4.{HasLeaseText, IsLease4, IsRoute, addresses_text, first_alone, lease_text, route_text, versioned_lease_text}
 use Rattle.dhcp_script.specs.Version.{end_of_times}
@@ -158,34 +158,34 @@ codec_names : IsCodec names_print NamesFit names_at
 unfolding names_at names_parts names_print NamesFit
 codec_names = IsCodec-made_of (IsCodec-both name_field (IsCodec-both name_field routes_field)) names_of names_parts (λ x. refl) (λ y. refl)
 
-later_parts : LeaseLater → LeaseLink × (LeaseServers × LeaseNames)
+later_parts : Version2Fields → LeaseLink × (LeaseServers × LeaseNames)
 later_parts x = (x.link, (x.servers, x.names))
 
-later_print : Version → LeaseLater → List ℕ
+later_print : Version → Version2Fields → List ℕ
 later_print One x = []
 later_print Two x = link_print x.link ++ (servers_print x.servers ++ names_print x.names)
 
-LaterFits : Version → LeaseLater → Type 0
-LaterFits One x = x ≡ no_later
+LaterFits : Version → Version2Fields → Type 0
+LaterFits One x = x ≡ no_version2_fields
 LaterFits Two x = LinkFits x.link × (ServersFit x.servers × NamesFit x.names)
 
-codec_later : (version : Version) → IsCodec (later_print version) (LaterFits version) (later_at version)
-unfolding later_at later_parts later_print LaterFits
+codec_later : (version : Version) → IsCodec (later_print version) (LaterFits version) (version2_fields_at version)
+unfolding version2_fields_at later_parts later_print LaterFits
 codec_later One = record {
-  sound = λ text x rest h. let parts = same_read no_later x text rest h in (parts.1, sym parts.0);
-  complete = λ x rest fits. ap (λ (later : LeaseLater). Some (later, rest)) (sym fits);
+  sound = λ text x rest h. let parts = same_read no_version2_fields x text rest h in (parts.1, sym parts.0);
+  complete = λ x rest fits. ap (λ (later : Version2Fields). Some (later, rest)) (sym fits);
 }
-codec_later Two = IsCodec-made_of (IsCodec-both codec_link (IsCodec-both codec_servers codec_names)) later_of later_parts (λ x. refl) (λ y. refl)
+codec_later Two = IsCodec-made_of (IsCodec-both codec_link (IsCodec-both codec_servers codec_names)) version2_fields_of later_parts (λ x. refl) (λ y. refl)
 
 -- what a lease has of them
-later_in : Lease4 → LeaseLater
+later_in : Lease4 → Version2Fields
 later_in lease = record {
   link = record { subnet_mask = lease.subnet_mask; broadcast_addr = lease.broadcast_addr; mtu = lease.mtu };
   servers = record { dns_srvs = lease.dns_srvs; gateways = lease.gateways; ntp_srvs = lease.ntp_srvs };
   names = record { host_name = lease.host_name; domain_name = lease.domain_name; classless_routes = lease.classless_routes };
 }
 
-lease_parts : Lease4 → LeaseAddresses × (LeaseTimes × LeaseLater)
+lease_parts : Lease4 → LeaseAddresses × (LeaseTimes × Version2Fields)
 lease_parts lease = (
   record { yiaddr = lease.yiaddr; siaddr = lease.siaddr; srv_id = lease.srv_id },
   (record { t1_sec = lease.t1_sec; t2_sec = lease.t2_sec; lease_time_sec = lease.lease_time_sec }, later_in lease),
@@ -257,7 +257,7 @@ PartsFit version lease = AddressesFit (lease_parts lease).0 × (TimesFit (lease_
 fits_to : (version : Version) (lease : Lease4) → PartsFit version lease → HasLeaseText version lease
 unfolding PartsFit FirstFits LaterFits lease_parts later_in AddressesFit TimesFit LinkFits ServersFit NamesFit empty_lease
 fits_to One lease fits =
-    let same : lease ≡ first_alone lease = ap (λ (later : LeaseLater). lease4_of ((lease_parts lease).0, ((lease_parts lease).1.0, later))) fits.1.1 in
+    let same : lease ≡ first_alone lease = ap (λ (later : Version2Fields). lease4_of ((lease_parts lease).0, ((lease_parts lease).1.0, later))) fits.1.1 in
     (subst (λ (l : Lease4). IsLease4 l) (sym same) (first_alone-fits lease (fits.0, fits.1.0)), same)
 fits_to Two lease fits = record {
   yiaddr = fits.0.0;

@@ -21,12 +21,12 @@ use Rattle.dhcp_script.specs.Field.{unless_none}
 use Rattle.dhcp_script.specs.declared.lease6.Lease6.{Lease6}
 use Rattle.dhcp_script.specs.declared.lease6.reader.LeaseAssociation.{LeaseAssociation}
 use Rattle.dhcp_script.specs.declared.lease6.reader.LeaseTimes.{LeaseTimes}
-use Rattle.dhcp_script.specs.declared.lease6.reader.LeaseLater.{LeaseLater}
+use Rattle.dhcp_script.specs.declared.lease6.reader.Version2Fields.{Version2Fields}
 use Rattle.dhcp_script.specs.declared.version.Version.{Version}
 use Rattle.dhcp_script.specs.declared.version.Version.TheVariants.{One, Two}
 use Rattle.dhcp_script.specs.FieldReader.{held_at}
 use Rattle.dhcp_script.specs.Lease6.{HasLeaseText, IsLease6, first_alone, ia_type_text, lease_text, versioned_lease_text}
-use Rattle.dhcp_script.specs.Lease6Reader.{association_at, association_of, ia_type_in, later_at, later_of, lease6_at, lease6_of, no_later, times_at, times_of}
+use Rattle.dhcp_script.specs.Lease6Reader.{association_at, association_of, ia_type_in, lease6_at, lease6_of, no_version2_fields, times_at, times_of, version2_fields_at, version2_fields_of}
 use Rattle.dhcp_script.specs.Version.{end_of_times}
 use Rattle.dhcp_script.proofs.Clear.{HasNo-decimal, HasNo-encode_lower, HasNo-hex_text}
 use Rattle.dhcp_script.proofs.HeldLaws.{BeginsOtherwise, IsCodec-held}
@@ -119,30 +119,30 @@ codec_times version =
     let spaced = u32_field 32 (omega arith) in
     IsCodec-made_of (IsCodec-both spaced (IsCodec-both spaced (IsCodec-both spaced (u32_field (end_of_times version) (end_of_times-below version))))) times_of times_parts (λ x. refl) (λ y. refl)
 
-later_parts : LeaseLater → ℕ × (List ℕ × Ipv6Addr)
+later_parts : Version2Fields → ℕ × (List ℕ × Ipv6Addr)
 later_parts x = (x.xid, (x.cli_duid, x.srv_ip))
 
-later_print : Version → LeaseLater → List ℕ
+later_print : Version → Version2Fields → List ℕ
 later_print One x = []
 later_print Two x = (decimal x.xid ++ 32 ∷ []) ++ ((hex_text x.cli_duid ++ 32 ∷ []) ++ (address6_text x.srv_ip ++ 10 ∷ []))
 
-LaterFits : Version → LeaseLater → Type 0
-LaterFits One x = x ≡ no_later
+LaterFits : Version → Version2Fields → Type 0
+LaterFits One x = x ≡ no_version2_fields
 LaterFits Two x = (x.xid ≤ 4294967295) × (IsBytes x.cli_duid × IsIpv6Addr x.srv_ip)
 
-codec_later : (version : Version) → IsCodec (later_print version) (LaterFits version) (later_at version)
-unfolding later_at later_parts later_print LaterFits
+codec_later : (version : Version) → IsCodec (later_print version) (LaterFits version) (version2_fields_at version)
+unfolding version2_fields_at later_parts later_print LaterFits
 codec_later One = record {
-  sound = λ text x rest h. let parts = same_read no_later x text rest h in (parts.1, sym parts.0);
-  complete = λ x rest fits. ap (λ (later : LeaseLater). Some (later, rest)) (sym fits);
+  sound = λ text x rest h. let parts = same_read no_version2_fields x text rest h in (parts.1, sym parts.0);
+  complete = λ x rest fits. ap (λ (later : Version2Fields). Some (later, rest)) (sym fits);
 }
-codec_later Two = IsCodec-made_of (IsCodec-both (u32_field 32 (omega arith)) (IsCodec-both hex_field (address6_field 10 (omega arith)))) later_of later_parts (λ x. refl) (λ y. refl)
+codec_later Two = IsCodec-made_of (IsCodec-both (u32_field 32 (omega arith)) (IsCodec-both hex_field (address6_field 10 (omega arith)))) version2_fields_of later_parts (λ x. refl) (λ y. refl)
 
 -- what a lease has of them
-later_in : Lease6 → LeaseLater
+later_in : Lease6 → Version2Fields
 later_in lease = record { xid = lease.xid; cli_duid = lease.cli_duid; srv_ip = lease.srv_ip }
 
-lease_parts : Lease6 → LeaseAssociation × (LeaseTimes × LeaseLater)
+lease_parts : Lease6 → LeaseAssociation × (LeaseTimes × Version2Fields)
 lease_parts lease = (
   record { ia_type = lease.ia_type; iaid = lease.iaid; address = lease.address; prefix_len = lease.prefix_len; srv_duid = lease.srv_duid },
   (record { t1_sec = lease.t1_sec; t2_sec = lease.t2_sec; preferred_time_sec = lease.preferred_time_sec; valid_time_sec = lease.valid_time_sec }, later_in lease),
@@ -201,7 +201,7 @@ made_fit lease association times xid cli_duid srv_ip = record {
 fits_to : (version : Version) (lease : Lease6) → PartsFit version lease → HasLeaseText version lease
 unfolding PartsFit LaterFits lease_parts later_in empty_lease written_duid
 fits_to One lease fits =
-    let same : lease ≡ first_alone lease = ap (λ (later : LeaseLater). lease6_of ((lease_parts lease).0, ((lease_parts lease).1.0, later))) fits.1.1 in
+    let same : lease ≡ first_alone lease = ap (λ (later : Version2Fields). lease6_of ((lease_parts lease).0, ((lease_parts lease).1.0, later))) fits.1.1 in
     (subst (λ (l : Lease6). IsLease6 l) (sym same) (made_fit (first_alone lease) fits.0 fits.1.0 (omega arith) none-fits unspecified-fits), same)
 fits_to Two lease fits = made_fit lease fits.0 fits.1.0 (let small = fits.1.1.0 in omega arith) fits.1.1.1.0 fits.1.1.1.1
 

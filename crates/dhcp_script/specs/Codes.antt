@@ -13,8 +13,8 @@ are_few most (Some listed) = nat_le (length listed) most
 -- the options that a configuration asks for: those listed, in rising order and each once; else
 -- those of a new configuration
 abbrev pub requested : {A : Type 0} → (List ℕ → List A) → Option (List ℕ) → List A → List A
-requested rising None usual = usual
-requested rising (Some listed) usual = rising listed
+requested rising None by_default = by_default
+requested rising (Some listed) by_default = rising listed
 
 -- the codes: those listed, or the word `default`
 abbrev pub listed_text : {A : Type 0} → (A → List ℕ) → Option A → List ℕ

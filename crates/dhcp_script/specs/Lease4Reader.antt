@@ -11,7 +11,7 @@ use Rattle.dhcp_script.specs.declared.lease4.reader.LeaseTimes.{LeaseTimes}
 use Rattle.dhcp_script.specs.declared.lease4.reader.LeaseLink.{LeaseLink}
 use Rattle.dhcp_script.specs.declared.lease4.reader.LeaseServers.{LeaseServers}
 use Rattle.dhcp_script.specs.declared.lease4.reader.LeaseNames.{LeaseNames}
-use Rattle.dhcp_script.specs.declared.lease4.reader.LeaseLater.{LeaseLater}
+use Rattle.dhcp_script.specs.declared.lease4.reader.Version2Fields.{Version2Fields}
 use Rattle.dhcp_script.specs.declared.version.Version.{Version}
 use Rattle.dhcp_script.specs.declared.version.Version.TheVariants.{One, Two}
 use Rattle.dhcp_script.specs.FieldReader.{list_in, route_in, u32_at, word_or}
@@ -70,23 +70,24 @@ names_at text =
     (both (in_field (word_or (codes "none") hex_utf8_in) 32)
     (in_field (word_or (codes "none") (list_in route_in)) 10))) text
 
-abbrev pub later_of : LeaseLink × (LeaseServers × LeaseNames) → LeaseLater
-later_of parts = record { link = parts.0; servers = parts.1.0; names = parts.1.1 }
+abbrev pub version2_fields_of : LeaseLink × (LeaseServers × LeaseNames) → Version2Fields
+version2_fields_of parts = record { link = parts.0; servers = parts.1.0; names = parts.1.1 }
 
 -- what the empty lease has of them
-abbrev pub no_later : LeaseLater
-no_later = record {
+abbrev pub no_version2_fields : Version2Fields
+no_version2_fields = record {
   link = record { subnet_mask = no_address; broadcast_addr = None; mtu = None };
   servers = record { dns_srvs = None; gateways = None; ntp_srvs = None };
   names = record { host_name = None; domain_name = None; classless_routes = None };
 }
 
 -- the fields that version 2 alone has
-unfoldable pub later_at : Version → List ℕ → Read LeaseLater
-later_at One text = Some (no_later, text)
-later_at Two text = made_of later_of (both link_at (both servers_at names_at)) text
+unfoldable pub version2_fields_at : Version → List ℕ → Read Version2Fields
+version2_fields_at One text = Some (no_version2_fields, text)
+version2_fields_at Two text =
+    made_of version2_fields_of (both link_at (both servers_at names_at)) text
 
-abbrev pub lease4_of : LeaseAddresses × (LeaseTimes × LeaseLater) → Lease4
+abbrev pub lease4_of : LeaseAddresses × (LeaseTimes × Version2Fields) → Lease4
 lease4_of parts = record {
   yiaddr = parts.0.yiaddr;
   siaddr = parts.0.siaddr;
@@ -108,4 +109,5 @@ lease4_of parts = record {
 -- the fields of a lease, to the end of the line
 unfoldable pub lease4_at : Version → List ℕ → Read Lease4
 lease4_at version text =
-    made_of lease4_of (both addresses_at (both (times_at version) (later_at version))) text
+    made_of lease4_of
+    (both addresses_at (both (times_at version) (version2_fields_at version))) text

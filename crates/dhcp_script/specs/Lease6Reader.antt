@@ -10,7 +10,7 @@ use Rattle.dhcp6_msg.specs.declared.mode.DhcpV6IaType.TheVariants.{NonTemporaryA
 use Rattle.dhcp_script.specs.declared.lease6.Lease6.{Lease6}
 use Rattle.dhcp_script.specs.declared.lease6.reader.LeaseAssociation.{LeaseAssociation}
 use Rattle.dhcp_script.specs.declared.lease6.reader.LeaseTimes.{LeaseTimes}
-use Rattle.dhcp_script.specs.declared.lease6.reader.LeaseLater.{LeaseLater}
+use Rattle.dhcp_script.specs.declared.lease6.reader.Version2Fields.{Version2Fields}
 use Rattle.dhcp_script.specs.declared.version.Version.{Version}
 use Rattle.dhcp_script.specs.declared.version.Version.TheVariants.{One, Two}
 use Rattle.dhcp_script.specs.FieldReader.{u32_at}
@@ -53,21 +53,21 @@ times_at version text =
     made_of times_of (both (u32_at 32) (both (u32_at 32)
     (both (u32_at 32) (u32_at (end_of_times version))))) text
 
-abbrev pub later_of : ℕ × (List ℕ × Ipv6Addr) → LeaseLater
-later_of parts = record { xid = parts.0; cli_duid = parts.1.0; srv_ip = parts.1.1 }
+abbrev pub version2_fields_of : ℕ × (List ℕ × Ipv6Addr) → Version2Fields
+version2_fields_of parts = record { xid = parts.0; cli_duid = parts.1.0; srv_ip = parts.1.1 }
 
 -- what the empty lease has of them
-abbrev pub no_later : LeaseLater
-no_later = record { xid = 0; cli_duid = []; srv_ip = unspecified }
+abbrev pub no_version2_fields : Version2Fields
+no_version2_fields = record { xid = 0; cli_duid = []; srv_ip = unspecified }
 
 -- the fields that version 2 alone has
-unfoldable pub later_at : Version → List ℕ → Read LeaseLater
-later_at One text = Some (no_later, text)
-later_at Two text =
-    made_of later_of
+unfoldable pub version2_fields_at : Version → List ℕ → Read Version2Fields
+version2_fields_at One text = Some (no_version2_fields, text)
+version2_fields_at Two text =
+    made_of version2_fields_of
     (both (u32_at 32) (both (in_field hex_in 32) (in_field address6_in 10))) text
 
-abbrev pub lease6_of : LeaseAssociation × (LeaseTimes × LeaseLater) → Lease6
+abbrev pub lease6_of : LeaseAssociation × (LeaseTimes × Version2Fields) → Lease6
 lease6_of parts = record {
   ia_type = parts.0.ia_type;
   iaid = parts.0.iaid;
@@ -86,4 +86,5 @@ lease6_of parts = record {
 -- the fields of a lease, to the end of the line
 unfoldable pub lease6_at : Version → List ℕ → Read Lease6
 lease6_at version text =
-    made_of lease6_of (both association_at (both (times_at version) (later_at version))) text
+    made_of lease6_of
+    (both association_at (both (times_at version) (version2_fields_at version))) text

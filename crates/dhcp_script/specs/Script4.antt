@@ -54,7 +54,7 @@ is_valid script =
 
 -- the options that a configuration asks for
 abbrev pub requested : Option (List ℕ) → List DhcpV4OptionCode → List DhcpV4OptionCode
-requested listed usual = lists.requested rising_codes listed usual
+requested listed by_default = lists.requested rising_codes listed by_default
 
 -- the configuration of the script's client; the interface has no name
 unfoldable pub config_of : Script4 → Config

@@ -12,28 +12,30 @@ use dhcp_stream::{ReadError, TextReader};
 use dhcp_wire::{Bytes, Sequence};
 use std::alloc::{AllocError, Global};
 
-/// Option codes that a script lists.
+/// Option codes that a script lists, all of one size.
 pub trait ListedCodes: Drop {
     ghost use Rattle.std.specs.Prelude.{◌≡◌, ◌++◌, ℕ, List, Option, OnOk, string_bytes};
     ghost use Rattle.dhcp_stream.specs.TextReader.{Finds};
 
-    /// The codes of a field, if it has some.
+    /// The codes of a field, if it is the text of a list.
     ghost codes_in: { List ℕ → Option Self };
 
-    /// The text of codes.
+    /// The text of a list of codes.
     ghost codes_text: { Self → List ℕ };
 
-    /// The codes of a field.
+    /// The codes of a field. `Malformed` if and only if it is the text of no list; else out of
+    /// memory is the only error.
     fn from_field(alloc: Global, field: &[u8]) -> Result<Self, ReadError>
         ensures { Finds result (codes_in field.now) };
 
-    /// Puts the codes at the end of a text.
+    /// Puts the text of the codes at the end of a text. After an error, which is out of memory, a
+    /// part of it may be there.
     fn push_to(&self, text: &mut String) -> Result<(), AllocError>
         ensures { OnOk result
             (string_bytes text.new ≡ string_bytes text.old ++ codes_text self.now) };
 }
 
-// Codes of one byte, as those of IPv4 are.
+// Codes of one byte, as those of IPv4 are (RFC 2132, section 2): two hex digits for each.
 impl ListedCodes for Bytes {
     ghost use Rattle.dhcp_stream.specs.HexText.{hex_text};
     ghost use Rattle.dhcp_stream.specs.TextReader.{hex_in};
@@ -51,7 +53,7 @@ impl ListedCodes for Bytes {
     }
 }
 
-// Codes of two bytes, as those of IPv6 are.
+// Codes of two bytes, as those of IPv6 are (RFC 8415, section 21.1): four hex digits for each.
 impl ListedCodes for Sequence<u16> {
     ghost use Rattle.std.specs.Int.{w16};
     ghost use Rattle.dhcp_stream.specs.HexText.{numbers_text};
@@ -70,7 +72,8 @@ impl ListedCodes for Sequence<u16> {
     }
 }
 
-/// Reads the line of the option codes.
+/// Reads the line `codes`: the codes that are listed, or none for the word `default`. `Malformed`
+/// if and only if the text does not go on with such a line; else out of memory is the only error.
 pub fn read_codes<C: ListedCodes>(
     alloc: Global,
     text: &mut TextReader,
@@ -85,7 +88,8 @@ pub fn read_codes<C: ListedCodes>(
     Ok(Some(C::from_field(alloc, field)?))
 }
 
-/// Puts the line of the option codes at the end of a text.
+/// Puts the line `codes` at the end of a text: the codes that are listed, or the word `default`.
+/// After an error, which is out of memory, a part of it may be there.
 pub fn push_codes<C: ListedCodes>(text: &mut String, listed: &Option<C>) -> Result<(), AllocError>
     ensures { OnOk result (string_bytes text.new ≡ string_bytes text.old
         ++ line (codes "codes " ++ listed_text C.codes_text listed.now)) }
@@ -100,7 +104,7 @@ pub fn push_codes<C: ListedCodes>(text: &mut String, listed: &Option<C>) -> Resu
     }
 }
 
-/// Whether the codes that are listed, if any are, are not more than the most.
+/// Whether at most `most` codes are listed; true if there is no list.
 pub fn are_few<T>(listed: &Option<Sequence<T>>, most: usize) -> bool
     ensures { result ≡ lists.are_few most listed.now }
 {

@@ -1,4 +1,4 @@
-//! Fields of a line: how their values are read.
+//! Fields of a line: how their values are read and printed.
 
 ghost use Rattle.std.specs.Prelude.{◌≡◌, ◌≤◌, [], ◌∷◌, ◌++◌, codes, IfOk, OnOk, string_bytes};
 ghost use Rattle.std.specs.Int.{w16};
@@ -25,7 +25,7 @@ use dhcp6_msg::DhcpV6IaType;
 use std::alloc::{AllocError, Global};
 use std::net::{Ipv4Addr, Ipv6Addr};
 
-/// A value that a field has.
+/// A value that a field of a line has.
 pub trait Field: Drop {
     ghost use Rattle.std.specs.Prelude.{ℕ, List, Option};
 
@@ -35,16 +35,19 @@ pub trait Field: Drop {
     /// The text of a value.
     ghost field_text: { Self → List ℕ };
 
-    /// The value of a field.
+    /// The value of a field. `Malformed` if and only if the field is the text of no value; else out
+    /// of memory is the only error.
     fn from_field(alloc: Global, field: &[u8]) -> Result<Self, ReadError>
         ensures { Finds result (value_in field.now) };
 
-    /// Puts the value at the end of a text.
+    /// Puts the text of the value at the end of a text. After an error, which is out of memory, a
+    /// part of it may be there.
     fn push_to(&self, text: &mut String) -> Result<(), AllocError>
         ensures { OnOk result
             (string_bytes text.new ≡ string_bytes text.old ++ field_text self.now) };
 }
 
+// An IPv4 address: four decimal numbers with dots between them.
 impl Field for Ipv4Addr {
     ghost use Rattle.dhcp_stream.specs.Number.{address_text};
     ghost use Rattle.dhcp_stream.specs.TextReader.{address_in};
@@ -63,6 +66,7 @@ impl Field for Ipv4Addr {
     }
 }
 
+// An IPv6 address: the 32 hex digits of its sixteen bytes, without colons.
 impl Field for Ipv6Addr {
     ghost use Rattle.dhcp_stream.specs.HexText.{address6_text};
     ghost use Rattle.dhcp_stream.specs.TextReader.{address6_in};
@@ -80,6 +84,7 @@ impl Field for Ipv6Addr {
     }
 }
 
+// A decimal number of 32 bits, without a leading zero.
 impl Field for u32 {
     ghost use Rattle.std.specs.Fmt.{decimal};
     ghost use Rattle.dhcp_stream.specs.TextReader.{number_in};
@@ -98,6 +103,7 @@ impl Field for u32 {
     }
 }
 
+// A decimal number of 16 bits, without a leading zero.
 impl Field for u16 {
     ghost use Rattle.std.specs.Fmt.{decimal};
     ghost use Rattle.dhcp_stream.specs.TextReader.{number_in};
@@ -116,6 +122,7 @@ impl Field for u16 {
     }
 }
 
+// A decimal number of 8 bits, without a leading zero.
 impl Field for u8 {
     ghost use Rattle.std.specs.Fmt.{decimal};
     ghost use Rattle.dhcp_stream.specs.TextReader.{number_in};
@@ -134,6 +141,7 @@ impl Field for u8 {
     }
 }
 
+// A text: its UTF-8 bytes in hex; `-` is the empty text.
 impl Field for Text {
     ghost use Rattle.dhcp_stream.specs.HexText.{hex_text};
     ghost use Rattle.dhcp_stream.specs.TextReader.{hex_utf8_in};
@@ -155,6 +163,8 @@ impl Field for Text {
     }
 }
 
+// A classless static route (RFC 3442): its destination, its prefix length in bits and its router,
+// with slashes between them.
 impl Field for DhcpV4ClasslessRoute {
     ghost use Rattle.dhcp_script.specs.Lease4.{route_text};
     ghost use Rattle.dhcp_script.specs.FieldReader.{route_in};
@@ -191,6 +201,7 @@ impl Field for DhcpV4ClasslessRoute {
     }
 }
 
+// The type of an identity association (RFC 8415, section 4.2): `na`, `ta` or `pd`.
 impl Field for DhcpV6IaType {
     ghost use Rattle.dhcp_script.specs.Lease6.{ia_type_text};
     ghost use Rattle.dhcp_script.specs.Lease6Reader.{ia_type_in};
@@ -212,6 +223,7 @@ impl Field for DhcpV6IaType {
     }
 }
 
+// A value, or the word `none`.
 impl<T: Field> Field for Option<T> {
     ghost use Rattle.dhcp_script.specs.Field.{unless_none};
     ghost use Rattle.std.specs.Prelude.{codes};
@@ -236,6 +248,7 @@ impl<T: Field> Field for Option<T> {
     }
 }
 
+// A list: its items with commas between them; `-` is the empty list.
 impl<T: Field> Field for Sequence<T> {
     ghost use Rattle.dhcp_script.specs.Field.{list_text};
     ghost use Rattle.dhcp_script.specs.FieldReader.{list_in};
@@ -262,7 +275,7 @@ impl<T: Field> Field for Sequence<T> {
     }
 }
 
-// The type of an identity association.
+// The type of an identity association that a field names: `na`, `ta` or `pd`; none for any other.
 fn ia_type(field: &[u8]) -> Option<DhcpV6IaType>
     ensures { result ≡ ia_type_in field.now }
 {
@@ -277,7 +290,7 @@ fn ia_type(field: &[u8]) -> Option<DhcpV6IaType>
     }
 }
 
-// A decimal number, at most `max`.
+// The decimal number of a field, without a leading zero and at most `max`; else `Malformed`.
 fn number(field: &[u8], max: u64) -> Result<u64, ReadError>
     ensures value { Finds result (number_in max field.now) }
     ensures small { IfOk result (λ number. number ≤ max) }
@@ -285,14 +298,16 @@ fn number(field: &[u8], max: u64) -> Result<u64, ReadError>
     number_field(field, max).ok_or(ReadError::Malformed)
 }
 
-/// Bytes in hex; `-` is none.
+/// The bytes of a field in lower-case hex; `-` is no bytes. `Malformed` if and only if the field is
+/// neither; else out of memory is the only error.
 pub fn hex(alloc: Global, field: &[u8]) -> Result<Bytes, ReadError>
     ensures { Finds result (hex_in field.now) }
 {
     found(hex_field(alloc, field))
 }
 
-/// Option codes of 16 bits in hex; `-` is none.
+/// The option codes of a field in lower-case hex, four digits for each; `-` is no codes.
+/// `Malformed` if and only if the field is neither; else out of memory is the only error.
 pub fn hex_codes(alloc: Global, field: &[u8]) -> Result<Sequence<u16>, ReadError>
     ensures { Finds result (numbers_in w16 field.now) }
 {
@@ -344,7 +359,7 @@ pub fn push_three<A: Field, B: Field, C: Field>(
     third.push_to(text)
 }
 
-/// The same, with a space after them.
+/// Puts three fields at the end of a text, each with a space after it.
 pub fn push_three_more<A: Field, B: Field, C: Field>(
     text: &mut String,
     first: &A,
@@ -359,7 +374,9 @@ pub fn push_three_more<A: Field, B: Field, C: Field>(
     text.push(' ')
 }
 
-/// Reads the field before the next such byte.
+/// Reads the field before the next byte `end`, and skips that byte. `Malformed` if and only if
+/// there is no such byte, or the field is the text of no value; else out of memory is the only
+/// error.
 pub fn read_field<T: Field>(alloc: Global, text: &mut TextReader, end: u8) -> Result<T, ReadError>
     ensures { Takes result text.new (in_field T.value_in end text.old) }
 {
@@ -367,7 +384,8 @@ pub fn read_field<T: Field>(alloc: Global, text: &mut TextReader, end: u8) -> Re
     T::from_field(alloc, field)
 }
 
-/// Whether a field is one word or the other.
+/// Whether a flag is set: true for the word `set`, false for the word `unset`, `Malformed` for any
+/// other field. Does not allocate.
 pub fn flag(field: &[u8], set: &[u8], unset: &[u8]) -> Result<bool, ReadError>
     ensures { Finds result (flag_in set.now unset.now field.now) }
 {

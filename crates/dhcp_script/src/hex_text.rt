@@ -1,4 +1,5 @@
-//! Hex in lower case, put at the end of a text.
+//! Hex in lower case, two digits for each byte, put at the end of a text. Out of memory is the only
+//! error; a part of the digits may then be there.
 
 ghost use Rattle.std.specs.Prelude.{◌≡◌, ◌<◌, ◌++◌, ◌∷◌, [], OnOk, slice_index, string_bytes};
 ghost use Rattle.hex.specs.Hex.{encode_lower, lower_digits};
@@ -9,6 +10,7 @@ ghost use Rattle.dhcp_stream.specs.Line.{line};
 
 use std::alloc::AllocError;
 
+// The digits of the numbers from 0 to 15.
 const DIGITS: &[u8; 16] = b"0123456789abcdef";
 
 /// Puts bytes in hex at the end of a text, or `-` for none.
@@ -22,7 +24,7 @@ pub fn push_hex(text: &mut String, bytes: &[u8]) -> Result<(), AllocError>
     }
 }
 
-/// Puts a line of bytes in hex at the end of a text.
+/// Puts a line at the end of a text: `tag`, and bytes in hex, or `-` for none.
 pub fn push_hex_line(text: &mut String, tag: &str, bytes: &[u8]) -> Result<(), AllocError>
     ensures { OnOk result (string_bytes text.new
         ≡ string_bytes text.old ++ line (tag.now ++ hex_text bytes.now)) }
@@ -32,7 +34,7 @@ pub fn push_hex_line(text: &mut String, tag: &str, bytes: &[u8]) -> Result<(), A
     text.push('\n')
 }
 
-/// Puts octets in hex, such as those of an address, at the end of a text.
+/// Puts octets in hex, such as those of an address, at the end of a text; nothing for none.
 pub fn push_octets(text: &mut String, octets: &[u8]) -> Result<(), AllocError>
     ensures { OnOk result (string_bytes text.new
         ≡ string_bytes text.old ++ encode_lower octets.now) }
@@ -49,15 +51,16 @@ pub trait HexNumber: Copy + Drop {
     /// Its bytes, the most significant one first.
     ghost bytes: { Self → List ℕ };
 
-    /// Puts their digits at the end of a text.
+    /// Puts the digits of its bytes at the end of a text.
     fn push_to(self, text: &mut String) -> Result<(), AllocError>
         ensures { OnOk result (string_bytes text.new
             ≡ string_bytes text.old ++ flat_map byte_digits (bytes self)) };
 
-    /// It has some.
+    /// It has at least one byte.
     ghost is_some: { (number : Self) → 0 < length (bytes number) };
 }
 
+// A number of four bytes: eight digits.
 impl HexNumber for u32 {
     ghost use Rattle.std.specs.Int.{w32, to_be_bytes};
     ghost use Rattle.std.proofs.Common.{lit<};
@@ -71,6 +74,7 @@ impl HexNumber for u32 {
     ghost is_some = { λ number. lit< tt };
 }
 
+// A number of two bytes: four digits.
 impl HexNumber for u16 {
     ghost use Rattle.std.specs.Int.{w16, to_be_bytes};
     ghost use Rattle.std.proofs.Common.{lit<};
@@ -96,7 +100,7 @@ pub fn push_numbers<N: HexNumber>(text: &mut String, numbers: &[N]) -> Result<()
     }
 }
 
-// Puts the digits of numbers at the end of a text.
+// Puts the digits of numbers at the end of a text, number by number.
 fn push_each<N: HexNumber>(text: &mut String, numbers: &[N]) -> Result<(), AllocError>
     ensures { OnOk result (string_bytes text.new ≡ string_bytes text.old
         ++ flat_map (λ number. flat_map byte_digits (N.bytes number)) numbers.now) }
@@ -107,7 +111,7 @@ fn push_each<N: HexNumber>(text: &mut String, numbers: &[N]) -> Result<(), Alloc
     Ok(())
 }
 
-/// Puts two hex digits for each byte at the end of a text.
+/// Puts two hex digits for each byte at the end of a text; nothing for none.
 pub fn push_digits(text: &mut String, bytes: &[u8]) -> Result<(), AllocError>
     ensures { OnOk result
         (string_bytes text.new ≡ string_bytes text.old ++ flat_map byte_digits bytes.now) }

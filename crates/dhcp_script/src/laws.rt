@@ -1,4 +1,4 @@
-//! Laws of the texts. A call does nothing.
+//! Laws of the texts of scripts. Each is a function whose contract says it; a call does nothing.
 
 ghost use Rattle.std.specs.Prelude.{◌≡◌};
 ghost use Rattle.dhcp_script.specs.declared.script.Script.{Script};

@@ -23,35 +23,35 @@ use std::net::Ipv4Addr;
 /// server. Times are in seconds from the acknowledgement of the lease.
 #[derive(Debug, PartialEq, Drop)]
 pub struct Lease4 {
-    /// The address that is leased.
+    /// The address that is leased, yiaddr (RFC 2131, section 2).
     pub yiaddr: Ipv4Addr,
-    /// The next server.
+    /// The next server, siaddr (RFC 2131, section 2).
     pub siaddr: Ipv4Addr,
-    /// The server identifier; 0.0.0.0 is none.
+    /// The server identifier, option 54; 0.0.0.0 is none (RFC 2132, section 9.7).
     pub srv_id: Ipv4Addr,
-    /// T1: when it is renewed.
+    /// T1: when it is renewed, in seconds (RFC 2132, section 9.11).
     pub t1_sec: u32,
-    /// T2: when it is rebound.
+    /// T2: when it is rebound, in seconds (RFC 2132, section 9.12).
     pub t2_sec: u32,
-    /// When it ends.
+    /// When it ends, in seconds (RFC 2132, section 9.2).
     pub lease_time_sec: u32,
-    /// The subnet mask; 0.0.0.0 is none.
+    /// The subnet mask, option 1; 0.0.0.0 is none (RFC 2132, section 3.3).
     pub subnet_mask: Ipv4Addr,
-    /// The broadcast address.
+    /// The broadcast address, option 28 (RFC 2132, section 5.3).
     pub broadcast_addr: Option<Ipv4Addr>,
-    /// The MTU of the interface, in bytes.
+    /// The MTU of the interface, option 26, in bytes (RFC 2132, section 5.1).
     pub mtu: Option<u16>,
-    /// The domain name servers.
+    /// The domain name servers, option 6 (RFC 2132, section 3.8).
     pub dns_srvs: Option<Sequence<Ipv4Addr>>,
-    /// The routers.
+    /// The routers, option 3 (RFC 2132, section 3.5).
     pub gateways: Option<Sequence<Ipv4Addr>>,
-    /// The NTP servers.
+    /// The NTP servers, option 42 (RFC 2132, section 8.3).
     pub ntp_srvs: Option<Sequence<Ipv4Addr>>,
-    /// The host name.
+    /// The host name, option 12 (RFC 2132, section 3.14).
     pub host_name: Option<Text>,
-    /// The domain name.
+    /// The domain name, option 15 (RFC 2132, section 3.17).
     pub domain_name: Option<Text>,
-    /// The classless static routes.
+    /// The classless static routes, of option 121 or 249 (RFC 3442).
     pub classless_routes: Option<Sequence<DhcpV4ClasslessRoute>>,
 }
 
@@ -76,7 +76,7 @@ impl Lease4 {
         Ok(lease)
     }
 
-    // Puts its addresses, its times and its MTU into a lease.
+    // Puts its single addresses, its times and its MTU into a lease.
     fn put_numbers(&self, lease: &mut DhcpV4Lease)
         ensures { lease.new ≡ leases.with_numbers self.now lease.old }
     {
@@ -95,9 +95,9 @@ impl Lease4 {
     fn put_servers(&self, alloc: Global, lease: &mut DhcpV4Lease) -> Result<(), DhcpError>
         ensures { Puts result lease.new (leases.with_servers self.now lease.old) }
     {
-        lease.dns_srvs = copied(alloc, self.dns_srvs.as_ref())?;
-        lease.gateways = copied(alloc, self.gateways.as_ref())?;
-        lease.ntp_srvs = copied(alloc, self.ntp_srvs.as_ref())?;
+        lease.dns_srvs = copy_of_list(alloc, self.dns_srvs.as_ref())?;
+        lease.gateways = copy_of_list(alloc, self.gateways.as_ref())?;
+        lease.ntp_srvs = copy_of_list(alloc, self.ntp_srvs.as_ref())?;
         Ok(())
     }
 
@@ -105,9 +105,9 @@ impl Lease4 {
     fn put_names(&self, alloc: Global, lease: &mut DhcpV4Lease) -> Result<(), DhcpError>
         ensures { Puts result lease.new (leases.with_names self.now lease.old) }
     {
-        lease.host_name = copied_text(alloc, self.host_name.as_ref())?;
-        lease.domain_name = copied_text(alloc, self.domain_name.as_ref())?;
-        lease.classless_routes = copied(alloc, self.classless_routes.as_ref())?;
+        lease.host_name = copy_of_text(alloc, self.host_name.as_ref())?;
+        lease.domain_name = copy_of_text(alloc, self.domain_name.as_ref())?;
+        lease.classless_routes = copy_of_list(alloc, self.classless_routes.as_ref())?;
         Ok(())
     }
 }
@@ -130,7 +130,7 @@ impl HeldLease for Lease4 {
 }
 
 // A copy of a list, if there is one.
-fn copied<T: Copy>(
+fn copy_of_list<T: Copy>(
     alloc: Global,
     kept: Option<&Sequence<T>>,
 ) -> Result<Option<Sequence<T>>, DhcpError>
@@ -143,7 +143,7 @@ fn copied<T: Copy>(
 }
 
 // A copy of a text, if there is one.
-fn copied_text(alloc: Global, kept: Option<&Text>) -> Result<Option<Text>, DhcpError>
+fn copy_of_text(alloc: Global, kept: Option<&Text>) -> Result<Option<Text>, DhcpError>
     ensures { Makes (λ made. made) result (option_copied kept.entry) }
 {
     match kept {

@@ -19,32 +19,34 @@ use std::alloc::{AllocError, Global};
 use std::net::Ipv6Addr;
 
 /// The fields of an IPv6 lease that its text has: all public ones but the names of its time
-/// servers, which are always empty. Times are in seconds from the reply that grants it.
+/// servers, which are always empty. The times of a lease that a script begins with count from the
+/// start of the script, those of any other from the moment at which it was granted.
 #[derive(Debug, PartialEq, Drop)]
 pub struct Lease6 {
-    /// The type of its identity association.
+    /// The type of its identity association: IA_NA, IA_TA or IA_PD (RFC 8415, section 4.2).
     pub ia_type: DhcpV6IaType,
-    /// The identifier of its identity association.
+    /// The identifier of its identity association, IAID (RFC 8415, section 12).
     pub iaid: u32,
     /// The address or the prefix that is leased.
     pub address: Ipv6Addr,
     /// The length of the prefix in bits; 128 for an address.
     pub prefix_len: u8,
-    /// The identifier of the server.
+    /// The identifier of the server, option 2, as its bytes (RFC 8415, section 21.3).
     pub srv_duid: Bytes,
-    /// T1: when it is renewed.
+    /// T1: when it is renewed, in seconds (RFC 8415, section 14.2).
     pub t1_sec: u32,
-    /// T2: when it is rebound.
+    /// T2: when it is rebound, in seconds (RFC 8415, section 14.2).
     pub t2_sec: u32,
-    /// For how long it is preferred.
+    /// For how many seconds the address or prefix is preferred.
     pub preferred_time_sec: u32,
-    /// When it ends.
+    /// For how many seconds it is valid: when the lease ends.
     pub valid_time_sec: u32,
-    /// The transaction id of the reply, of which the low 24 bits are sent.
+    /// The transaction id of the reply, of which the low 24 bits are sent (RFC 8415, section 8).
     pub xid: u32,
-    /// The identifier of the client; empty is none.
+    /// The identifier of the client, option 1, as its bytes; empty is none (RFC 8415, section
+    /// 21.2).
     pub cli_duid: Bytes,
-    /// The address to which the client may send; :: is none.
+    /// The address to which the client may send, option 12; :: is none (RFC 8415, section 21.12).
     pub srv_ip: Ipv6Addr,
 }
 
@@ -82,8 +84,8 @@ impl Lease6 {
         Ok(lease)
     }
 
-    /// The fields of a lease that its text has; without a type it has that of an IA_NA. Out of
-    /// memory is the only error.
+    /// The fields of a lease that its text has; that of a lease without an `ia_type` has the type
+    /// IA_NA. Out of memory is the only error.
     pub fn of_lease(alloc: Global, lease: &DhcpV6Lease) -> Result<Self, DhcpError>
         ensures { Makes (λ fields. fields) result (leases.fields_of
             (unwrap_or lease.now.ia_type DhcpV6IaType.NonTemporaryAddresses) lease.now) }
@@ -104,7 +106,7 @@ impl Lease6 {
         })
     }
 
-    // Puts its association, its times and its addresses into a lease.
+    // Puts all its fields but the two identifiers of client and server into a lease.
     fn put_numbers(&self, lease: &mut DhcpV6Lease)
         ensures { lease.new ≡ leases.with_numbers self.now lease.old }
     {

@@ -12,18 +12,20 @@ use dhcp_stream::{ReadError, TextReader};
 use dhcp_wire::Sequence;
 use std::alloc::Global;
 
-/// What both families have in common: random words, and what happens when.
+/// What scripts of both families have after their configuration: random words, and what happens
+/// when.
 #[derive(Drop)]
 pub struct Life {
-    /// The words that the client draws, in order; after the last one each is 0.
+    /// The random words that the client draws, in order; after the last one each is 0.
     pub words: Sequence<u32>,
-    /// The moment at which it begins, in milliseconds.
+    /// The moment at which the client begins, in milliseconds.
     pub start: u64,
-    /// The events, in order.
+    /// The events, in the order in which they happen.
     pub events: Sequence<Event>,
 }
 
-/// Reads the lines from `words` on.
+/// Reads the lines from `words` to `end`. `Malformed` if and only if the text does not go on with
+/// them; else out of memory is the only error.
 #[tactic(auto, unfolding(crate::specs::LifeReader::life_at))]
 pub fn read_life(alloc: Global, text: &mut TextReader) -> Result<Life, ReadError>
     ensures { Takes result text.new (life_at text.old) }
@@ -40,7 +42,7 @@ pub fn read_life(alloc: Global, text: &mut TextReader) -> Result<Life, ReadError
     })
 }
 
-// Reads the lines of the events, and the last line.
+// Reads the lines of the events, and the last line, `end`.
 fn read_events(alloc: Global, text: &mut TextReader) -> Result<Sequence<Event>, ReadError>
     ensures { Takes result text.new (events_at text.old) }
 {
@@ -52,7 +54,7 @@ fn read_events(alloc: Global, text: &mut TextReader) -> Result<Sequence<Event>, 
     Ok(Sequence::from(events))
 }
 
-// Reads an event, after `at `.
+// Reads an event, after `at `: its moment in milliseconds, `refuse` or `ok`, and what happens.
 #[tactic(auto, unfolding(crate::specs::LifeReader::event_at))]
 fn read_event(alloc: Global, text: &mut TextReader) -> Result<Event, ReadError>
     ensures { Takes result text.new (event_at text.old) }
@@ -67,7 +69,7 @@ fn read_event(alloc: Global, text: &mut TextReader) -> Result<Event, ReadError>
     })
 }
 
-// Reads what happens.
+// Reads what happens at an event, to the end of the line.
 #[tactic(auto, unfolding(crate::specs::LifeReader::what_at))]
 fn read_what(alloc: Global, text: &mut TextReader) -> Result<EventWhat, ReadError>
     ensures { Takes result text.new (what_at text.old) }
@@ -82,7 +84,7 @@ fn read_what(alloc: Global, text: &mut TextReader) -> Result<EventWhat, ReadErro
     call(field).ok_or(ReadError::Malformed)
 }
 
-// What happens without a packet.
+// What happens without a packet: `none`, `release` or `cleanup`; none for any other field.
 fn call(field: &[u8]) -> Option<EventWhat>
     ensures { result ≡ call_in field.now }
 {

@@ -1,4 +1,4 @@
-//! What is reported of a script, and its text.
+//! What the replay of a script reports, and its text.
 
 mod printer;
 pub mod summary;
@@ -14,7 +14,7 @@ use dhcp4_client::DhcpV4State;
 use dhcp6_client::DhcpV6State;
 use std::alloc::Global;
 
-/// The state of a client.
+/// The state of a client of either family.
 #[derive(Debug, PartialEq, Drop)]
 pub enum Reported {
     /// The state of an IPv4 client.
@@ -23,7 +23,7 @@ pub enum Reported {
     V6(DhcpV6State),
 }
 
-/// What is reported.
+/// What is reported at an event: a message, a state or a failure.
 #[derive(Debug, PartialEq, Drop)]
 pub enum OutputWhat {
     /// The link took this message.
@@ -32,7 +32,7 @@ pub enum OutputWhat {
     Refused(Handed),
     /// The client came to this state.
     Changed(Reported),
-    /// The client failed: `Timeout` where a time limit is over, `IoError` where the link refused a
+    /// The client failed: `Timeout` if its time limit is over, `IoError` if the link refused a
     /// release.
     Failed(ErrorKind),
 }
@@ -46,8 +46,9 @@ pub struct Output {
     pub what: OutputWhat,
 }
 
-/// The text of these outputs: a line for each, and a last line `ok`. Out of memory is the only
-/// error.
+/// The text of these outputs: a line for each, and a last line `ok`. Each failure among them must
+/// be `Timeout` or `IoError`, and the lease of each IPv6 state `Done` must have its `ia_type`; in
+/// what a replay reports both are so. Out of memory is the only error.
 #[tactic(auto, unfolding(crate::specs::Output::outputs_text))]
 pub fn print_outputs(alloc: Global, outputs: &[Output]) -> Result<Bytes, DhcpError>
     requires { All HasFailureText outputs.now }

@@ -1,4 +1,4 @@
-//! Scripts of an IPv4 client.
+//! Scripts of an IPv4 client: their limits, and the configuration and the lease that they give.
 
 pub mod printer;
 pub mod reader;
@@ -18,46 +18,52 @@ use dhcp_wire::{Bytes, DhcpError, Sequence};
 use dhcp4_lease::{DhcpV4Config, DhcpV4Lease};
 use std::alloc::Global;
 
-/// A script of an IPv4 client: its configuration, a lease that it held before, the words that it
-/// draws, and its events.
+/// A script of an IPv4 client: its configuration, a lease that it held before, the random words
+/// that it draws, and its events.
 #[derive(Debug, PartialEq, Drop)]
 pub struct Script4 {
-    /// The index of the network interface.
+    /// The index of the network interface; it is not 0 in a valid script.
     pub iface_index: u32,
-    /// The MAC address of the client.
+    /// The MAC address of the client, which it sends as chaddr (RFC 2131, section 2).
     pub mac: [u8; 6],
-    /// Whether the client obtains a lease for another host.
+    /// Whether the client obtains a lease for another host, from whose MAC address it sends.
     pub is_proxy: bool,
-    /// How long the client stays in a state other than done, in seconds; 0 is no limit.
+    /// How long the client may be in a state other than done before it gives up, in seconds; it is
+    /// counted anew in each state, and 0 is no limit.
     pub timeout_sec: u32,
-    /// The host name, in UTF-8; empty is none.
+    /// The host name, option 12, in UTF-8; empty is none (RFC 2132, section 3.14).
     pub host: Bytes,
-    /// The client identifier: its type, then its bytes.
+    /// The client identifier, option 61: the byte of its type, then its bytes; empty is none
+    /// (RFC 2132, section 9.14).
     pub client: Bytes,
-    /// The option codes to ask for, as they are listed; none is the default list.
+    /// The codes of the options to ask for, option 55, in any order; none is the default list
+    /// (RFC 2132, section 9.8).
     pub codes: Option<Bytes>,
     /// The lease that the client held before.
     pub lease: Option<Lease4>,
-    /// The words that the client draws; after the last one each is 0.
+    /// The random words that the client draws, in order; after the last one each is 0.
     pub words: Sequence<u32>,
     /// The moment at which the client begins, in milliseconds.
     pub start: u64,
-    /// The events, in their order.
+    /// The events, in the order in which they happen.
     pub events: Sequence<Event>,
 }
 
-// How many bytes a host name, a client identifier and a list of option codes have at most.
+// How many bytes a host name has at most.
 const MAX_HOST_LEN: usize = 254;
 
+// How many bytes a client identifier has at most: one option holds no more
+// (RFC 2132, section 2).
 const MAX_CLIENT_LEN: usize = 255;
 
+// How many option codes, of one byte each, are listed at most: one option holds no more.
 const MAX_CODES: usize = 255;
 
 impl Script4 {
     /// Whether it is within its limits: its interface index is not 0; its host name is UTF-8 of at
     /// most 254 bytes without a zero byte; its client identifier has at most 255 bytes, and its
-    /// list of option codes too; T1, T2 and the end of its lease are in order; its start and its
-    /// events are valid.
+    /// list at most 255 option codes; T1, T2 and the end of its lease are in order; its start and
+    /// its events are valid.
     #[tactic(auto, unfolding(crate::specs::Script4::is_valid))]
     pub fn is_valid(&self) -> bool
         ensures { result ≡ is_valid self.now }
@@ -70,7 +76,8 @@ impl Script4 {
             && are_valid(self.start, self.events.as_slice())
     }
 
-    /// The configuration of its client. Out of memory is the only error.
+    /// The configuration of its client, whose interface has no name. The host name must be UTF-8,
+    /// as that of a valid script is. Out of memory is the only error.
     #[tactic(auto, unfolding(crate::specs::config_of, dhcp4_lease::specs::Config::config_of))]
     pub fn config(&self, alloc: Global) -> Result<DhcpV4Config, DhcpError>
         requires { IsUtf8 self.now.host }
@@ -98,7 +105,7 @@ impl Script4 {
     }
 }
 
-// Puts the MAC address into a configuration.
+// Puts the six bytes of the MAC address into a configuration.
 #[tactic(auto, unfolding(dhcp4_lease::specs::Config::with_mac))]
 fn put_mac(config: &mut DhcpV4Config, mac: &[u8]) -> Result<(), DhcpError>
     requires { length mac.now ≡ 6 }
@@ -108,7 +115,7 @@ fn put_mac(config: &mut DhcpV4Config, mac: &[u8]) -> Result<(), DhcpError>
     Ok(())
 }
 
-// Puts the host name into a configuration.
+// Puts the host name, which is UTF-8, into a configuration.
 fn put_host(alloc: Global, config: &mut DhcpV4Config, host: &[u8]) -> Result<(), DhcpError>
     requires { IsUtf8 host.now }
     ensures { Puts result config.new (record config.old { host_name = host.now }) }
@@ -130,7 +137,8 @@ fn put_client(alloc: Global, config: &mut DhcpV4Config, client: &[u8]) -> Result
     Ok(())
 }
 
-// Puts the option codes that are listed, if any are, into a configuration.
+// Puts the option codes that are listed into a configuration, in rising order and each once; if
+// none are listed, it keeps its own.
 fn put_codes(
     alloc: Global,
     config: &mut DhcpV4Config,
@@ -145,7 +153,7 @@ fn put_codes(
     Ok(())
 }
 
-// Whether bytes are a host name.
+// Whether bytes are a host name: UTF-8 of at most 254 bytes, without a zero byte.
 fn is_host_name(host: &[u8]) -> bool
     ensures { result ≡ scripts.is_host_name host.now }
 {
@@ -159,7 +167,7 @@ fn is_utf8(bytes: &[u8]) -> bool
     std::str::from_utf8(bytes).is_ok()
 }
 
-// Whether the times of a lease, if there is one, are in order.
+// Whether the times of a lease, if there is one, are in order: T1 <= T2 <= the end of the lease.
 fn is_in_order(lease: &Option<Lease4>) -> bool
     ensures { result ≡ scripts.is_in_order lease.now }
 {

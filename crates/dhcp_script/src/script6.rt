@@ -1,4 +1,4 @@
-//! Scripts of an IPv6 client.
+//! Scripts of an IPv6 client: their limits, and the configuration and the lease that they give.
 
 pub mod printer;
 pub mod reader;
@@ -20,40 +20,43 @@ use dhcp6_msg::{DhcpV6Config, DhcpV6Lease, DhcpV6Mode};
 use std::alloc::Global;
 use std::net::Ipv6Addr;
 
-/// A script of an IPv6 client: its configuration, a lease that it held before, the words that it
-/// draws, and its events.
+/// A script of an IPv6 client: its configuration, a lease that it held before, the random words
+/// that it draws, and its events.
 #[derive(Debug, PartialEq, Drop)]
 pub struct Script6 {
-    /// The index of the network interface.
+    /// The index of the network interface; it is not 0 in a valid script.
     pub iface_index: u32,
-    /// The link-local address from which the client sends.
+    /// The link-local address from which the client sends; it is not :: in a valid script.
     pub src_ip: Ipv6Addr,
-    /// The MAC address of the client.
+    /// The MAC address of the client, of which it makes an identifier if it has none.
     pub mac: Option<[u8; 6]>,
     /// What the client asks for.
     pub mode: DhcpV6Mode,
-    /// How long the client stays in a state without a lease, in seconds; 0 is no limit.
+    /// How long the client may be in a state other than done before it gives up, in seconds; it is
+    /// counted anew in each state, and 0 is no limit.
     pub timeout_sec: u32,
-    /// The identifier of the client; empty is none, and it then makes one.
+    /// The identifier of the client, option 1, as its bytes; empty is none, and the client then
+    /// makes one (RFC 8415, sections 11 and 21.2).
     pub duid: Bytes,
-    /// The option codes to ask for, as they are listed; none is the default list.
+    /// The codes of the options to ask for, option 6, in any order; none is the default list
+    /// (RFC 8415, section 21.7).
     pub codes: Option<Sequence<u16>>,
-    /// The lease that the client held before.
+    /// The lease that the client held before, whose times count from `start`.
     pub lease: Option<Lease6>,
-    /// The words that the client draws; after the last one each is 0.
+    /// The random words that the client draws, in order; after the last one each is 0.
     pub words: Sequence<u32>,
     /// The moment at which the client begins, in milliseconds.
     pub start: u64,
-    /// The events, in their order.
+    /// The events, in the order in which they happen.
     pub events: Sequence<Event>,
 }
 
-// How many option codes are listed at most.
+// How many option codes, of two bytes each, are listed at most.
 const MAX_CODES: usize = 1000;
 
 impl Script6 {
     /// Whether it is within its limits: its interface index is not 0 and its address not ::; its
-    /// identifier is empty or has 2 to 130 bytes; its list of option codes has at most 1,000; its
+    /// identifier is empty or has 2 to 130 bytes; its list has at most 1,000 option codes; its
     /// lease is within its limits; its start and its events are valid.
     #[tactic(auto, unfolding(crate::specs::Script6::is_valid))]
     pub fn is_valid(&self) -> bool
@@ -67,7 +70,8 @@ impl Script6 {
             && are_valid(self.start, self.events.as_slice())
     }
 
-    /// The configuration of its client. Out of memory is the only error.
+    /// The configuration of its client, whose interface has no name. Out of memory is the only
+    /// error.
     #[tactic(auto, unfolding(crate::specs::config6_of, dhcp6_msg::specs::Config::config_of))]
     pub fn config(&self, alloc: Global) -> Result<DhcpV6Config, DhcpError>
         ensures { Makes (λ config. config) result (config_of self.now) }
@@ -103,7 +107,8 @@ fn put_mac(config: &mut DhcpV6Config, mac: Option<[u8; 6]>)
     }
 }
 
-// Puts the option codes that are listed, if any are, into a configuration.
+// Puts the option codes that are listed into a configuration, in rising order and each once; if
+// none are listed, it keeps its own.
 fn put_codes(
     alloc: Global,
     config: &mut DhcpV6Config,
@@ -119,7 +124,7 @@ fn put_codes(
     Ok(())
 }
 
-// Whether a lease, if there is one, is within its limits.
+// Whether a lease, if there is one, is within the limits of `Lease6::is_within_limits`.
 fn is_lease_valid(lease: &Option<Lease6>) -> bool
     ensures { result ≡ scripts.is_lease_valid lease.now }
 {

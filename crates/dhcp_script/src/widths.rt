@@ -1,5 +1,5 @@
-//! What the values of every script have: numbers of their widths, whole addresses, texts of UTF-8.
-//! A call does nothing.
+//! The values of every script fit their types: numbers have their widths, addresses are whole,
+//! texts are UTF-8. A call does nothing.
 
 ghost use Rattle.std.specs.Prelude.{◌<◌, ◌^◌, All, IfSome};
 ghost use Rattle.std.specs.Int.{w16};
@@ -25,40 +25,40 @@ use dhcp4_msg::DhcpV4ClasslessRoute;
 use dhcp6_msg::DhcpV6Mode;
 use std::net::{Ipv4Addr, Ipv6Addr};
 
-// A type whose values have widths.
+// A type whose values fit it.
 pub(crate) trait Widths {
-    // What each value has.
-    ghost has: { Self → Type 0 };
+    // That a value fits the type.
+    ghost fits: { Self → Type 0 };
 
-    // It has it.
+    // Each value fits.
     fn widths(&self)
-        ensures { has self.now };
+        ensures { fits self.now };
 }
 
-// Each of some values has it,
-fn all_have<T: Widths>(items: &[T])
-    ensures { All T.has items.now }
+// Each item of a list fits,
+fn all_fit<T: Widths>(items: &[T])
+    ensures { All T.fits items.now }
 {
     for item in items {
         item.widths();
     }
 }
 
-// and so has one that is there,
-fn has_if_some<T: Widths>(item: &Option<T>)
-    ensures { IfSome item.now T.has }
+// and so does a value that is there,
+fn fits_if_some<T: Widths>(item: &Option<T>)
+    ensures { IfSome item.now T.fits }
 {
     if let Some(item) = item {
         item.widths();
     }
 }
 
-// and each of a list that is there.
-fn all_have_if_some<T: Widths>(items: &Option<Sequence<T>>)
-    ensures { IfSome items.now (All T.has) }
+// and each item of a list that is there.
+fn all_fit_if_some<T: Widths>(items: &Option<Sequence<T>>)
+    ensures { IfSome items.now (All T.fits) }
 {
     if let Some(items) = items {
-        all_have(items.as_slice());
+        all_fit(items.as_slice());
     }
 }
 
@@ -67,7 +67,7 @@ fn are_bytes(bytes: &[u8])
     ensures { IsBytes bytes.now }
 {}
 
-// Each number of a list of two bytes has two.
+// Each number of a list of u16 has two bytes.
 fn are_two_bytes(numbers: &[u16])
     ensures { AreOfWidth w16 numbers.now }
 {}
@@ -91,7 +91,7 @@ fn are_bytes_if_some(bytes: &Option<Bytes>)
     }
 }
 
-// The numbers of two bytes of a list that is there have two.
+// Each number of a list of u16 that is there has two bytes.
 fn are_two_bytes_if_some(numbers: &Option<Sequence<u16>>)
     ensures { IfSome numbers.now (AreOfWidth w16) }
 {
@@ -117,17 +117,17 @@ fn is_mac_if_some(mac: &Option<[u8; 6]>)
     }
 }
 
-// What comes after the configuration has widths.
+// The words, the start and the events of a script fit their types.
 fn is_life(words: &Sequence<u32>, start: u64, events: &Sequence<Event>)
     ensures { IsLife words.now start events.now }
 {
     are_words(words.as_slice());
     fits_eight_bytes(start);
-    all_have(events.as_slice());
+    all_fit(events.as_slice());
 }
 
 impl Widths for u16 {
-    ghost has = { λ number. number < 2 ^ 16 };
+    ghost fits = { λ number. number < 2 ^ 16 };
 
     fn widths(&self) {
         fits_two_bytes(*self);
@@ -135,7 +135,7 @@ impl Widths for u16 {
 }
 
 impl Widths for Ipv4Addr {
-    ghost has = { IsIpv4Addr };
+    ghost fits = { IsIpv4Addr };
 
     fn widths(&self) {
         an_address_reads_back(*self);
@@ -143,7 +143,7 @@ impl Widths for Ipv4Addr {
 }
 
 impl Widths for Ipv6Addr {
-    ghost has = { IsIpv6Addr };
+    ghost fits = { IsIpv6Addr };
 
     fn widths(&self) {
         an_ipv6_address_reads_back(*self);
@@ -151,7 +151,7 @@ impl Widths for Ipv6Addr {
 }
 
 impl Widths for Text {
-    ghost has = { IsText };
+    ghost fits = { IsText };
 
     fn widths(&self) {
         are_bytes(self.as_str().as_bytes());
@@ -159,7 +159,7 @@ impl Widths for Text {
 }
 
 impl Widths for DhcpV4ClasslessRoute {
-    ghost has = { IsRoute };
+    ghost fits = { IsRoute };
 
     fn widths(&self) {
         self.destination.widths();
@@ -169,7 +169,7 @@ impl Widths for DhcpV4ClasslessRoute {
 }
 
 impl Widths for DhcpV6Mode {
-    ghost has = { IsMode };
+    ghost fits = { IsMode };
 
     fn widths(&self) {
         if let DhcpV6Mode::PrefixDelegation(len) = self {
@@ -179,7 +179,7 @@ impl Widths for DhcpV6Mode {
 }
 
 impl Widths for EventWhat {
-    ghost has = { λ what. IsBytes (packet_of what) };
+    ghost fits = { λ what. IsBytes (packet_of what) };
 
     fn widths(&self) {
         match self {
@@ -190,7 +190,7 @@ impl Widths for EventWhat {
 }
 
 impl Widths for Event {
-    ghost has = { IsEvent };
+    ghost fits = { IsEvent };
 
     fn widths(&self) {
         fits_eight_bytes(self.moment);
@@ -199,7 +199,7 @@ impl Widths for Event {
 }
 
 impl Widths for Lease4 {
-    ghost has = { IsLease4 };
+    ghost fits = { IsLease4 };
 
     fn widths(&self) {
         self.yiaddr.widths();
@@ -209,19 +209,19 @@ impl Widths for Lease4 {
         fits_four_bytes(self.t2_sec);
         fits_four_bytes(self.lease_time_sec);
         self.subnet_mask.widths();
-        has_if_some(&self.broadcast_addr);
-        has_if_some(&self.mtu);
-        all_have_if_some(&self.dns_srvs);
-        all_have_if_some(&self.gateways);
-        all_have_if_some(&self.ntp_srvs);
-        has_if_some(&self.host_name);
-        has_if_some(&self.domain_name);
-        all_have_if_some(&self.classless_routes);
+        fits_if_some(&self.broadcast_addr);
+        fits_if_some(&self.mtu);
+        all_fit_if_some(&self.dns_srvs);
+        all_fit_if_some(&self.gateways);
+        all_fit_if_some(&self.ntp_srvs);
+        fits_if_some(&self.host_name);
+        fits_if_some(&self.domain_name);
+        all_fit_if_some(&self.classless_routes);
     }
 }
 
 impl Widths for Lease6 {
-    ghost has = { IsLease6 };
+    ghost fits = { IsLease6 };
 
     fn widths(&self) {
         fits_four_bytes(self.iaid);
@@ -239,7 +239,7 @@ impl Widths for Lease6 {
 }
 
 impl Widths for Script4 {
-    ghost has = { IsScript4 Two };
+    ghost fits = { IsScript4 Two };
 
     fn widths(&self) {
         fits_four_bytes(self.iface_index);
@@ -248,13 +248,13 @@ impl Widths for Script4 {
         are_bytes(self.host.as_slice());
         are_bytes(self.client.as_slice());
         are_bytes_if_some(&self.codes);
-        has_if_some(&self.lease);
+        fits_if_some(&self.lease);
         is_life(&self.words, self.start, &self.events);
     }
 }
 
 impl Widths for Script6 {
-    ghost has = { IsScript6 Two };
+    ghost fits = { IsScript6 Two };
 
     fn widths(&self) {
         fits_four_bytes(self.iface_index);
@@ -264,13 +264,13 @@ impl Widths for Script6 {
         fits_four_bytes(self.timeout_sec);
         are_bytes(self.duid.as_slice());
         are_two_bytes_if_some(&self.codes);
-        has_if_some(&self.lease);
+        fits_if_some(&self.lease);
         is_life(&self.words, self.start, &self.events);
     }
 }
 
 impl Widths for Script {
-    ghost has = { IsScript };
+    ghost fits = { IsScript };
 
     fn widths(&self) {
         match self {

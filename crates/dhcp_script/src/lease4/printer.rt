@@ -1,4 +1,4 @@
-//! The printer of the fields of a lease.
+//! The printer of the fields of a lease of an IPv4 script.
 
 ghost use Rattle.std.specs.Prelude.{◌≡◌, ◌++◌, OnOk, string_bytes};
 ghost use Rattle.dhcp_script.specs.Lease4.{fields_of, lease_text};
@@ -8,7 +8,8 @@ use crate::field::{push_three, push_three_more};
 use dhcp4_lease::DhcpV4Lease;
 use std::alloc::AllocError;
 
-/// Puts the fields of a script's lease at the end of a text.
+/// Puts the fields of a script's lease at the end of a text, with single spaces between them. After
+/// an error, which is out of memory, a part of them may be there.
 #[tactic(auto, unfolding(crate::specs::Lease4::lease_text))]
 pub fn push_fields(text: &mut String, lease: &Lease4) -> Result<(), AllocError>
     ensures { OnOk result (string_bytes text.new
@@ -26,7 +27,8 @@ pub fn push_fields(text: &mut String, lease: &Lease4) -> Result<(), AllocError>
     )
 }
 
-/// Puts the same fields of a lease at the end of a text.
+/// Puts the same fields of a client's lease at the end of a text. After an error, which is out of
+/// memory, a part of them may be there.
 #[tactic(auto, unfolding(crate::specs::Lease4::lease_text))]
 pub fn push_lease(text: &mut String, lease: &DhcpV4Lease) -> Result<(), AllocError>
     ensures { OnOk result (string_bytes text.new

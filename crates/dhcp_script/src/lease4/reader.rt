@@ -1,16 +1,16 @@
-//! The reader of the fields of a lease.
+//! The reader of the fields of a lease of an IPv4 script.
 
 ghost use Rattle.std.specs.Prelude.{◌≡◌};
 ghost use Rattle.dhcp_stream.specs.TextReader.{Takes};
 ghost use Rattle.dhcp_script.specs.Lease4Reader.{
   addresses_at,
-  later_at,
   lease4_at,
   link_at,
   names_at,
-  no_later,
+  no_version2_fields,
   servers_at,
   times_at,
+  version2_fields_at,
 };
 
 use crate::Lease4;
@@ -22,7 +22,7 @@ use dhcp4_msg::DhcpV4ClasslessRoute;
 use std::alloc::Global;
 use std::net::Ipv4Addr;
 
-// The addresses of a lease and of its server.
+// The address that is leased, the next server, and the server identifier.
 #[derive(Drop)]
 struct LeaseAddresses {
     yiaddr: Ipv4Addr,
@@ -30,7 +30,7 @@ struct LeaseAddresses {
     srv_id: Ipv4Addr,
 }
 
-// Its times.
+// The times of a lease, in seconds.
 #[derive(Drop)]
 struct LeaseTimes {
     t1_sec: u32,
@@ -38,7 +38,7 @@ struct LeaseTimes {
     lease_time_sec: u32,
 }
 
-// What it says of the link.
+// What a lease says of the link; the MTU is in bytes.
 #[derive(Drop)]
 struct LeaseLink {
     subnet_mask: Ipv4Addr,
@@ -46,7 +46,7 @@ struct LeaseLink {
     mtu: Option<u16>,
 }
 
-// Its servers and routers.
+// The servers and the routers of a lease.
 #[derive(Drop)]
 struct LeaseServers {
     dns_srvs: Option<Sequence<Ipv4Addr>>,
@@ -54,7 +54,7 @@ struct LeaseServers {
     ntp_srvs: Option<Sequence<Ipv4Addr>>,
 }
 
-// Its names and routes.
+// The names and the routes of a lease.
 #[derive(Drop)]
 struct LeaseNames {
     host_name: Option<Text>,
@@ -62,20 +62,20 @@ struct LeaseNames {
     classless_routes: Option<Sequence<DhcpV4ClasslessRoute>>,
 }
 
-// What version 2 alone says of a lease.
+// The fields of a lease that version 2 alone has.
 #[derive(Drop)]
-struct LeaseLater {
+struct Version2Fields {
     link: LeaseLink,
     servers: LeaseServers,
     names: LeaseNames,
 }
 
-impl LeaseLater {
-    // That of the empty lease.
+impl Version2Fields {
+    // Those of the empty lease.
     fn none() -> Self
-        ensures { result ≡ no_later }
+        ensures { result ≡ no_version2_fields }
     {
-        LeaseLater {
+        Version2Fields {
             link: LeaseLink {
                 subnet_mask: Ipv4Addr::UNSPECIFIED,
                 broadcast_addr: None,
@@ -95,7 +95,8 @@ impl LeaseLater {
     }
 }
 
-/// Reads the fields of a lease, to the end of the line.
+/// Reads the fields of a lease in a version, to the end of the line. `Malformed` if and only if the
+/// text does not go on with them; else out of memory is the only error.
 #[tactic(auto, unfolding(crate::specs::Lease4Reader::lease4_at))]
 pub fn read_lease(
     alloc: Global,
@@ -106,7 +107,7 @@ pub fn read_lease(
 {
     let addresses = read_addresses(alloc, text)?;
     let times = read_times(alloc, version, text)?;
-    let later = read_later(alloc, version, text)?;
+    let later = read_version2_fields(alloc, version, text)?;
     Ok(Lease4 {
         yiaddr: addresses.yiaddr,
         siaddr: addresses.siaddr,
@@ -126,6 +127,7 @@ pub fn read_lease(
     })
 }
 
+// Reads the address that is leased, the next server, and the server identifier.
 #[tactic(auto, unfolding(crate::specs::Lease4Reader::addresses_at))]
 fn read_addresses(alloc: Global, text: &mut TextReader) -> Result<LeaseAddresses, ReadError>
     ensures { Takes result text.new (addresses_at text.old) }
@@ -137,6 +139,7 @@ fn read_addresses(alloc: Global, text: &mut TextReader) -> Result<LeaseAddresses
     })
 }
 
+// Reads the times, of which the last ends the line in version 1.
 #[tactic(auto, unfolding(crate::specs::Lease4Reader::times_at))]
 fn read_times(
     alloc: Global,
@@ -152,17 +155,18 @@ fn read_times(
     })
 }
 
-#[tactic(auto, unfolding(crate::specs::Lease4Reader::later_at))]
-fn read_later(
+// Reads the fields that version 2 alone has; in version 1 they are those of the empty lease.
+#[tactic(auto, unfolding(crate::specs::Lease4Reader::version2_fields_at))]
+fn read_version2_fields(
     alloc: Global,
     version: Version,
     text: &mut TextReader,
-) -> Result<LeaseLater, ReadError>
-    ensures { Takes result text.new (later_at version text.old) }
+) -> Result<Version2Fields, ReadError>
+    ensures { Takes result text.new (version2_fields_at version text.old) }
 {
     match version {
-        Version::One => Ok(LeaseLater::none()),
-        Version::Two => Ok(LeaseLater {
+        Version::One => Ok(Version2Fields::none()),
+        Version::Two => Ok(Version2Fields {
             link: read_link(alloc, text)?,
             servers: read_servers(alloc, text)?,
             names: read_names(alloc, text)?,
@@ -170,6 +174,7 @@ fn read_later(
     }
 }
 
+// Reads the subnet mask, the broadcast address and the MTU.
 #[tactic(auto, unfolding(crate::specs::Lease4Reader::link_at))]
 fn read_link(alloc: Global, text: &mut TextReader) -> Result<LeaseLink, ReadError>
     ensures { Takes result text.new (link_at text.old) }
@@ -181,6 +186,7 @@ fn read_link(alloc: Global, text: &mut TextReader) -> Result<LeaseLink, ReadErro
     })
 }
 
+// Reads the domain name servers, the routers and the NTP servers.
 #[tactic(auto, unfolding(crate::specs::Lease4Reader::servers_at))]
 fn read_servers(alloc: Global, text: &mut TextReader) -> Result<LeaseServers, ReadError>
     ensures { Takes result text.new (servers_at text.old) }
@@ -192,6 +198,7 @@ fn read_servers(alloc: Global, text: &mut TextReader) -> Result<LeaseServers, Re
     })
 }
 
+// Reads the host name, the domain name and the routes, to the end of the line.
 #[tactic(auto, unfolding(crate::specs::Lease4Reader::names_at))]
 fn read_names(alloc: Global, text: &mut TextReader) -> Result<LeaseNames, ReadError>
     ensures { Takes result text.new (names_at text.old) }

@@ -12,7 +12,8 @@ use crate::hex_text::push_hex;
 use dhcp6_msg::DhcpV6Lease;
 use std::alloc::{AllocError, Global};
 
-/// Puts the fields of a lease at the end of a text.
+/// Puts the fields of a script's lease at the end of a text, with single spaces between them. After
+/// an error, which is out of memory, a part of them may be there.
 pub fn push_fields(text: &mut String, lease: &Lease6) -> Result<(), AllocError>
     ensures { OnOk result (string_bytes text.new
         ≡ string_bytes text.old ++ lease_text lease.now) }
@@ -29,8 +30,8 @@ pub fn push_fields(text: &mut String, lease: &Lease6) -> Result<(), AllocError>
     lease.srv_ip.push_to(text)
 }
 
-// Puts the length of its prefix and the identifier of its server at the end of a text, each with a
-// space after it.
+// Puts the prefix length of a lease in bits and the identifier of its server, in hex, at the end of
+// a text, each with a space after it.
 fn push_server_more(text: &mut String, lease: &Lease6) -> Result<(), AllocError>
     ensures { OnOk result (string_bytes text.new ≡ string_bytes text.old
         ++ (decimal lease.now.prefix_len ++ 32 ∷ (hex_text lease.now.srv_duid ++ 32 ∷ []))) }
@@ -41,8 +42,8 @@ fn push_server_more(text: &mut String, lease: &Lease6) -> Result<(), AllocError>
     text.push(' ')
 }
 
-// Puts its end, its transaction id and the identifier of its client at the end of a text, each with
-// a space after it.
+// Puts the end of a lease in seconds, its transaction id and the identifier of its client, in hex,
+// at the end of a text, each with a space after it.
 fn push_client_more(text: &mut String, lease: &Lease6) -> Result<(), AllocError>
     ensures { OnOk result (string_bytes text.new ≡ string_bytes text.old
         ++ (decimal lease.now.valid_time_sec ++ 32 ∷ (decimal lease.now.xid
@@ -55,8 +56,8 @@ fn push_client_more(text: &mut String, lease: &Lease6) -> Result<(), AllocError>
     text.push(' ')
 }
 
-/// Puts the same fields of a lease at the end of a text; without a type it is printed as one of an
-/// IA_NA.
+/// Puts the same fields of a client's lease at the end of a text; one without an `ia_type` is
+/// printed as one of an IA_NA. Out of memory is the only error.
 pub fn push_lease(alloc: Global, text: &mut String, lease: &DhcpV6Lease) -> Result<(), AllocError>
     ensures { OnOk result (string_bytes text.new ≡ string_bytes text.old
         ++ lease_text (fields_of (unwrap_or lease.now.ia_type NonTemporaryAddresses) lease.now)) }

@@ -4,10 +4,10 @@ ghost use Rattle.std.specs.Prelude.{◌≡◌};
 ghost use Rattle.dhcp_stream.specs.TextReader.{Takes};
 ghost use Rattle.dhcp_script.specs.Lease6Reader.{
   association_at,
-  later_at,
   lease6_at,
-  no_later,
+  no_version2_fields,
   times_at,
+  version2_fields_at,
 };
 
 use crate::Lease6;
@@ -19,7 +19,7 @@ use dhcp6_msg::DhcpV6IaType;
 use std::alloc::Global;
 use std::net::Ipv6Addr;
 
-// The identity association of a lease, and its server.
+// The identity association of a lease, what it leases, and the identifier of its server.
 #[derive(Drop)]
 struct LeaseAssociation {
     ia_type: DhcpV6IaType,
@@ -29,7 +29,7 @@ struct LeaseAssociation {
     srv_duid: Bytes,
 }
 
-// Its times.
+// The times of a lease, in seconds.
 #[derive(Drop)]
 struct LeaseTimes {
     t1_sec: u32,
@@ -38,20 +38,20 @@ struct LeaseTimes {
     valid_time_sec: u32,
 }
 
-// What version 2 alone says of a lease.
+// The fields of a lease that version 2 alone has.
 #[derive(Drop)]
-struct LeaseLater {
+struct Version2Fields {
     xid: u32,
     cli_duid: Bytes,
     srv_ip: Ipv6Addr,
 }
 
-impl LeaseLater {
-    // That of the empty lease.
+impl Version2Fields {
+    // Those of the empty lease.
     fn none(alloc: Global) -> Self
-        ensures { result ≡ no_later }
+        ensures { result ≡ no_version2_fields }
     {
-        LeaseLater {
+        Version2Fields {
             xid: 0,
             cli_duid: Bytes::new(alloc),
             srv_ip: Ipv6Addr::UNSPECIFIED,
@@ -59,7 +59,8 @@ impl LeaseLater {
     }
 }
 
-/// Reads the fields of a lease, to the end of the line.
+/// Reads the fields of a lease in a version, to the end of the line. `Malformed` if and only if the
+/// text does not go on with them; else out of memory is the only error.
 #[tactic(auto, unfolding(crate::specs::Lease6Reader::lease6_at))]
 pub fn read_lease(
     alloc: Global,
@@ -70,7 +71,7 @@ pub fn read_lease(
 {
     let association = read_association(alloc, text)?;
     let times = read_times(alloc, version, text)?;
-    let later = read_later(alloc, version, text)?;
+    let later = read_version2_fields(alloc, version, text)?;
     Ok(Lease6 {
         ia_type: association.ia_type,
         iaid: association.iaid,
@@ -87,7 +88,7 @@ pub fn read_lease(
     })
 }
 
-// Reads the identity association, and the identifier of its server.
+// Reads the identity association, what it leases, and the identifier of the server.
 #[tactic(auto, unfolding(crate::specs::Lease6Reader::association_at))]
 fn read_association(alloc: Global, text: &mut TextReader) -> Result<LeaseAssociation, ReadError>
     ensures { Takes result text.new (association_at text.old) }
@@ -119,17 +120,17 @@ fn read_times(
 }
 
 // Reads the fields that version 2 alone has; in version 1 they are those of the empty lease.
-#[tactic(auto, unfolding(crate::specs::Lease6Reader::later_at))]
-fn read_later(
+#[tactic(auto, unfolding(crate::specs::Lease6Reader::version2_fields_at))]
+fn read_version2_fields(
     alloc: Global,
     version: Version,
     text: &mut TextReader,
-) -> Result<LeaseLater, ReadError>
-    ensures { Takes result text.new (later_at version text.old) }
+) -> Result<Version2Fields, ReadError>
+    ensures { Takes result text.new (version2_fields_at version text.old) }
 {
     match version {
-        Version::One => Ok(LeaseLater::none(alloc)),
-        Version::Two => Ok(LeaseLater {
+        Version::One => Ok(Version2Fields::none(alloc)),
+        Version::Two => Ok(Version2Fields {
             xid: read_field(alloc, text, b' ')?,
             cli_duid: text.hex(alloc, b' ')?,
             srv_ip: read_field(alloc, text, b'\n')?,

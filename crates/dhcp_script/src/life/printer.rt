@@ -10,7 +10,8 @@ use crate::{Event, EventWhat};
 use dhcp_wire::Sequence;
 use std::alloc::AllocError;
 
-/// Puts the lines from `words` on at the end of a text.
+/// Puts the lines from `words` to `end` at the end of a text. After an error, which is out of
+/// memory, a part of them may be there.
 pub fn push_life(
     text: &mut String,
     words: &Sequence<u32>,
@@ -51,7 +52,8 @@ fn push_event(text: &mut String, event: &Event) -> Result<(), AllocError>
     text.push('\n')
 }
 
-/// Puts one word or the other at the end of a text.
+/// Puts the word for a flag that is set, or that for one that is not, at the end of a text. Out of
+/// memory is the only error.
 pub fn push_flag(text: &mut String, flag: bool, set: &str, unset: &str) -> Result<(), AllocError>
     ensures { OnOk result (string_bytes text.new
         ≡ string_bytes text.old ++ flag_text set.now unset.now flag) }
@@ -59,7 +61,7 @@ pub fn push_flag(text: &mut String, flag: bool, set: &str, unset: &str) -> Resul
     text.push_str(if flag { set } else { unset })
 }
 
-// Puts what happens at the end of a text.
+// Puts what happens at an event at the end of a text; the bytes of a packet are in hex.
 fn push_what(text: &mut String, what: &EventWhat) -> Result<(), AllocError>
     ensures { OnOk result (string_bytes text.new
         ≡ string_bytes text.old ++ what_text what.now) }

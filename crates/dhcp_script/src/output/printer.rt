@@ -1,4 +1,4 @@
-//! The printer of what is reported of a script.
+//! The printer of what the replay of a script reports.
 
 ghost use Rattle.std.specs.Prelude.{◌≡◌, ◌++◌, OnOk, map, string_bytes};
 ghost use Rattle.std.specs.List.{flat_map};
@@ -25,7 +25,8 @@ use dhcp4_client::DhcpV4State;
 use dhcp6_client::DhcpV6State;
 use std::alloc::{AllocError, Global};
 
-/// Puts the lines of outputs at the end of a text.
+/// Puts a line for each output at the end of a text. After an error, which is out of memory, a part
+/// of them may be there.
 pub fn push_outputs(alloc: Global, text: &mut String, outputs: &[Output]) -> Result<(), AllocError>
     ensures { OnOk result (string_bytes text.new
         ≡ string_bytes text.old ++ flat_map output_line (map plain_output outputs.now)) }
@@ -45,7 +46,7 @@ fn push_each(alloc: Global, text: &mut String, outputs: &[Output]) -> Result<(),
     Ok(())
 }
 
-// Puts the line of an output at the end of a text.
+// Puts the line of an output at the end of a text: the number of its event, and what is reported.
 fn push_output(alloc: Global, text: &mut String, output: &Output) -> Result<(), AllocError>
     ensures { OnOk result (string_bytes text.new
         ≡ string_bytes text.old ++ output_line (plain_output output.now)) }
@@ -56,7 +57,7 @@ fn push_output(alloc: Global, text: &mut String, output: &Output) -> Result<(), 
     text.push('\n')
 }
 
-// Puts what is reported at the end of a text.
+// Puts what is reported at an event at the end of a text.
 fn push_report(alloc: Global, text: &mut String, what: &OutputWhat) -> Result<(), AllocError>
     ensures { OnOk result (string_bytes text.new
         ≡ string_bytes text.old ++ report_text (plain_report what.now)) }
@@ -85,7 +86,8 @@ fn push_report(alloc: Global, text: &mut String, what: &OutputWhat) -> Result<()
     }
 }
 
-// Puts a message that was handed to the link at the end of a text.
+// Puts a message that was handed to the link at the end of a text, its bytes in hex. Of a message
+// over UDP and IPv6 the address and the interface are left out.
 fn push_message(text: &mut String, message: &Handed) -> Result<(), AllocError>
     ensures { OnOk result (string_bytes text.new
         ≡ string_bytes text.old ++ message_text message.now) }
@@ -108,7 +110,7 @@ fn push_message(text: &mut String, message: &Handed) -> Result<(), AllocError>
     }
 }
 
-// Puts a state of an IPv4 client at the end of a text.
+// Puts a state of an IPv4 client at the end of a text; `done` has the fields of the lease.
 fn push_state(text: &mut String, state: &DhcpV4State) -> Result<(), AllocError>
     ensures { OnOk result (string_bytes text.new
         ≡ string_bytes text.old ++ state4_text (plain_state state.now)) }
@@ -125,7 +127,7 @@ fn push_state(text: &mut String, state: &DhcpV4State) -> Result<(), AllocError>
     }
 }
 
-// Puts a state of an IPv6 client at the end of a text.
+// Puts a state of an IPv6 client at the end of a text; `done` has the fields of the lease.
 fn push_state6(alloc: Global, text: &mut String, state: &DhcpV6State) -> Result<(), AllocError>
     ensures { OnOk result (string_bytes text.new
         ≡ string_bytes text.old ++ state6_text (v6.plain_state state.now)) }
@@ -142,7 +144,7 @@ fn push_state6(alloc: Global, text: &mut String, state: &DhcpV6State) -> Result<
     }
 }
 
-// Puts a failure at the end of a text.
+// Puts a failure at the end of a text: `timeout`, and `io_error` for every other kind.
 fn push_failure(text: &mut String, kind: ErrorKind) -> Result<(), AllocError>
     ensures { OnOk result (string_bytes text.new
         ≡ string_bytes text.old ++ failure_text kind) }

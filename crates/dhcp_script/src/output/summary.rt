@@ -15,7 +15,7 @@ use crate::{Output, OutputWhat};
 use dhcp_wire::{Bytes, DhcpError};
 use std::alloc::Global;
 
-/// A kind of what is reported.
+/// The kinds of what is reported, of which a summary has the counts.
 #[derive(Clone, Copy, Debug, PartialEq, Eq)]
 pub enum OutputKind {
     /// The link took a message.
@@ -29,7 +29,7 @@ pub enum OutputKind {
 }
 
 impl OutputWhat {
-    // Whether it is of this kind.
+    // Whether what is reported is of this kind; a state may be of either family.
     fn is_of(&self, kind: OutputKind) -> bool
         ensures { result ≡ is_of kind (plain_report self.now) }
     {

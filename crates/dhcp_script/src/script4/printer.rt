@@ -12,7 +12,8 @@ use crate::hex_text::{push_hex_line, push_octets};
 use crate::life::printer::{push_flag, push_life};
 use std::alloc::AllocError;
 
-/// Puts a script at the end of a text.
+/// Puts the text of a script, in version 2, at the end of a text. After an error, which is out of
+/// memory, a part of it may be there.
 #[tactic(auto, unfolding(crate::specs::Script4::script4_text))]
 pub fn push_script4(text: &mut String, script: &Script4) -> Result<(), AllocError>
     ensures { OnOk result (string_bytes text.new
@@ -35,7 +36,8 @@ fn push_first_lines(text: &mut String, script: &Script4) -> Result<(), AllocErro
     push_hex_line(text, "client ", script.client.as_slice())
 }
 
-// Puts the line of the interface at the end of a text.
+// Puts the line `iface` at the end of a text: the index of the interface, the MAC address, 1 for a
+// client that obtains a lease for another host and 0 for any other, and the time limit in seconds.
 fn push_iface(text: &mut String, script: &Script4) -> Result<(), AllocError>
     ensures { OnOk result (string_bytes text.new
         ≡ string_bytes text.old ++ line (codes "iface " ++ iface_text script.now)) }

@@ -13,7 +13,7 @@ use dhcp_stream::{ReadError, TextReader};
 use dhcp_wire::Bytes;
 use std::alloc::Global;
 
-// The interface of a client.
+// What the line `iface` says.
 #[derive(Drop)]
 struct Iface4 {
     index: u32,
@@ -22,7 +22,7 @@ struct Iface4 {
     timeout_sec: u32,
 }
 
-// What a client says of itself, and what it asks for.
+// What the lines `host`, `client` and `codes` say.
 #[derive(Drop)]
 struct Identity4 {
     host: Bytes,
@@ -30,7 +30,8 @@ struct Identity4 {
     codes: Option<Bytes>,
 }
 
-/// Reads a script in a version, after its first line.
+/// Reads a script in a version, after its first line. `Malformed` if and only if the text does not
+/// go on with one; else out of memory is the only error.
 #[tactic(auto, unfolding(crate::specs::ScriptReader::script4_at))]
 pub fn read_script4(
     alloc: Global,
@@ -60,6 +61,7 @@ pub fn read_script4(
     })
 }
 
+// Reads the line `iface`.
 #[tactic(auto, unfolding(crate::specs::ScriptReader::iface4_at))]
 fn read_iface(text: &mut TextReader) -> Result<Iface4, ReadError>
     ensures { Takes result text.new (iface4_at text.old) }
@@ -73,6 +75,7 @@ fn read_iface(text: &mut TextReader) -> Result<Iface4, ReadError>
     })
 }
 
+// Reads the lines `host`, `client` and `codes`.
 #[tactic(auto, unfolding(crate::specs::ScriptReader::identity4_at))]
 fn read_identity(alloc: Global, text: &mut TextReader) -> Result<Identity4, ReadError>
     ensures { Takes result text.new (identity4_at text.old) }

@@ -20,7 +20,8 @@ use crate::life::printer::push_life;
 use dhcp6_msg::DhcpV6Mode;
 use std::alloc::AllocError;
 
-/// Puts a script at the end of a text.
+/// Puts the text of a script, in version 2, at the end of a text. After an error, which is out of
+/// memory, a part of it may be there.
 #[tactic(auto, unfolding(crate::specs::Script6::script6_text))]
 pub fn push_script6(text: &mut String, script: &Script6) -> Result<(), AllocError>
     ensures { OnOk result (string_bytes text.new
@@ -42,7 +43,8 @@ fn push_first_lines(text: &mut String, script: &Script6) -> Result<(), AllocErro
     push_hex_line(text, "duid ", script.duid.as_slice())
 }
 
-// Puts the line of the interface at the end of a text.
+// Puts the line `iface` at the end of a text: the index of the interface, the two addresses, what
+// the client asks for, and the time limit in seconds.
 fn push_iface(text: &mut String, script: &Script6) -> Result<(), AllocError>
     ensures { OnOk result (string_bytes text.new
         ≡ string_bytes text.old ++ line (codes "iface " ++ iface_text script.now)) }
@@ -55,8 +57,8 @@ fn push_iface(text: &mut String, script: &Script6) -> Result<(), AllocError>
     write!(text, " {timeout_sec}\n")
 }
 
-// Puts the address and the MAC address of a client at the end of a text, each with a space after
-// it.
+// Puts the IPv6 address and the MAC address of a client at the end of a text, each with a space
+// after it.
 fn push_addresses(text: &mut String, script: &Script6) -> Result<(), AllocError>
     ensures { OnOk result (string_bytes text.new ≡ string_bytes text.old
         ++ (address6_text script.now.src_ip ++ 32 ∷ (mac_text script.now.mac ++ 32 ∷ []))) }
@@ -78,7 +80,8 @@ fn push_mac(text: &mut String, mac: &Option<[u8; 6]>) -> Result<(), AllocError>
     }
 }
 
-// Puts what a client asks for at the end of a text.
+// Puts what a client asks for at the end of a text: `na`, `ta`, or `pd` and a prefix length in
+// bits.
 fn push_mode(text: &mut String, mode: DhcpV6Mode) -> Result<(), AllocError>
     ensures { OnOk result (string_bytes text.new
         ≡ string_bytes text.old ++ mode_text mode) }

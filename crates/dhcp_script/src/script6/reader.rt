@@ -21,7 +21,7 @@ use dhcp6_msg::DhcpV6Mode;
 use std::alloc::Global;
 use std::net::Ipv6Addr;
 
-// The interface of a client, and what it asks for.
+// What the line `iface` says.
 #[derive(Drop)]
 struct Iface6 {
     index: u32,
@@ -31,14 +31,15 @@ struct Iface6 {
     timeout_sec: u32,
 }
 
-// What a client says of itself, and the options that it asks for.
+// What the lines `duid` and `codes` say.
 #[derive(Drop)]
 struct Identity6 {
     duid: Bytes,
     codes: Option<Sequence<u16>>,
 }
 
-/// Reads a script in a version, after its first line.
+/// Reads a script in a version, after its first line. `Malformed` if and only if the text does not
+/// go on with one; else out of memory is the only error.
 #[tactic(auto, unfolding(crate::specs::ScriptReader::script6_at))]
 pub fn read_script6(
     alloc: Global,
@@ -68,7 +69,7 @@ pub fn read_script6(
     })
 }
 
-// Reads the line of the interface.
+// Reads the line `iface`.
 #[tactic(auto, unfolding(crate::specs::ScriptReader::iface6_at))]
 fn read_iface(alloc: Global, text: &mut TextReader) -> Result<Iface6, ReadError>
     ensures { Takes result text.new (iface6_at text.old) }
@@ -83,7 +84,7 @@ fn read_iface(alloc: Global, text: &mut TextReader) -> Result<Iface6, ReadError>
     })
 }
 
-// Reads a MAC address or `-`.
+// Reads a MAC address, or `-` for none, and the space after it.
 fn read_mac(text: &mut TextReader) -> Result<Option<[u8; 6]>, ReadError>
     ensures { Takes result text.new (in_field mac_or_none_in 32 text.old) }
 {
@@ -94,7 +95,8 @@ fn read_mac(text: &mut TextReader) -> Result<Option<[u8; 6]>, ReadError>
     Ok(Some(mac(field)?))
 }
 
-// Reads what a client asks for.
+// Reads what a client asks for, and the space after it: `na`, `ta`, or `pd` and a prefix length in
+// bits.
 #[tactic(auto, unfolding(crate::specs::ScriptReader::mode_at))]
 fn read_mode(alloc: Global, text: &mut TextReader) -> Result<DhcpV6Mode, ReadError>
     ensures { Takes result text.new (mode_at text.old) }
@@ -109,7 +111,7 @@ fn read_mode(alloc: Global, text: &mut TextReader) -> Result<DhcpV6Mode, ReadErr
     Ok(DhcpV6Mode::PrefixDelegation(read_field(alloc, text, b' ')?))
 }
 
-// Reads the lines of the identifier and of the codes.
+// Reads the lines `duid` and `codes`.
 #[tactic(auto, unfolding(crate::specs::ScriptReader::identity6_at))]
 fn read_identity(alloc: Global, text: &mut TextReader) -> Result<Identity6, ReadError>
     ensures { Takes result text.new (identity6_at text.old) }
@@ -120,7 +122,7 @@ fn read_identity(alloc: Global, text: &mut TextReader) -> Result<Identity6, Read
     Ok(Identity6 { duid, codes })
 }
 
-// The MAC address of a field.
+// The MAC address of a field of twelve lower-case hex digits.
 fn mac(field: &[u8]) -> Result<[u8; 6], ReadError>
     ensures { Finds result (mac_in field.now) }
 {
