@@ -13,7 +13,7 @@ use Rattle.dhcp4_lease.specs.Config.{rising_codes}
 use Rattle.dhcp4_lease.specs.Lease as leases
 use Rattle.dhcp_script.specs.Event.{are_valid}
 use Rattle.dhcp_script.specs.Lease4.{lease_with}
-use Rattle.dhcp_script.specs.Script4.{are_few, config_of, is_host_name, is_in_order, is_valid, most_client_bytes, most_host_bytes, requested}
+use Rattle.dhcp_script.specs.Script4.{are_few, config_of, is_host_name, is_in_order, is_valid, most_client_bytes, most_host_bytes, request_list}
 use Rattle.dhcp_script.specs.declared.event.Event.{Event}
 use Rattle.dhcp_script.specs.declared.lease4.Lease4.{Lease4}
 use Rattle.dhcp_script.specs.declared.script4.Script4.{Script4}
@@ -22,10 +22,10 @@ use Rattle.dhcp_replay.specs.Replayed4.{can_replay}
 use Rattle.dhcp_replay.proofs.RisingLemmas.{rising_few}
 
 -- so many options are asked for at most
-requested_few : (codes : Option (List ℕ)) → are_few codes ≡ true → nat_le (length (requested codes (configs.config_of []).request_opts)) 255 ≡ true
+request_list_few : (codes : Option (List ℕ)) → are_few codes ≡ true → nat_le (length (request_list codes (configs.config_of []).request_opts)) 255 ≡ true
 unfolding configs.config_of
-requested_few None few = refl
-requested_few (Some listed) few = le-leb (length (rising_codes listed)) 255 (omega (arith, rising_few code_of listed, leb-true (length listed) 255 few))
+request_list_few None few = refl
+request_list_few (Some listed) few = le-leb (length (rising_codes listed)) 255 (omega (arith, rising_few code_of listed, leb-true (length listed) 255 few))
 
 -- the lease that is held has the times of the script
 order_kept : (lease : Option Lease4) → is_in_order lease ≡ true → option_map_or leases.are_times_in_order (option_map lease_with lease) true ≡ true
@@ -63,9 +63,9 @@ host_utf8 script valid = IsUtf8-from_is_utf8 script.host (host_parts script.host
 config_within : (script : Script4) → ValidParts script → configs.is_within_limits (config_of script) ≡ true
 unfolding config_of configs.is_within_limits
 config_within script valid =
-    and_from (nat_le (length script.host) most_host_bytes && not (list_any (λ byte. byte == 0) script.host) && nat_le (length script.client) most_client_bytes) (nat_le (length (requested script.codes (configs.config_of []).request_opts)) 255)
+    and_from (nat_le (length script.host) most_host_bytes && not (list_any (λ byte. byte == 0) script.host) && nat_le (length script.client) most_client_bytes) (nat_le (length (request_list script.codes (configs.config_of []).request_opts)) 255)
     (and_from (nat_le (length script.host) most_host_bytes && not (list_any (λ byte. byte == 0) script.host)) (nat_le (length script.client) most_client_bytes) (host_parts script.host valid.host).0 valid.client)
-    (requested_few script.codes valid.codes)
+    (request_list_few script.codes valid.codes)
 
 index_kept : (script : Script4) → not (script.iface_index == 0) ≡ true → not ((config_of script).iface_index == 0) ≡ true
 unfolding config_of

@@ -11,7 +11,7 @@ use Rattle.dhcp6_msg.specs.Config as configs
 use Rattle.dhcp6_msg.specs.Config.{rising_codes}
 use Rattle.dhcp6_msg.specs.Lease as leases
 use Rattle.dhcp6_msg.specs.Lease.{is_no_duid, is_unspecified}
-use Rattle.dhcp_script.specs.Codes.{are_few, requested}
+use Rattle.dhcp_script.specs.Codes.{are_few, request_list}
 use Rattle.dhcp_script.specs.Duid.{duid_of, is_duid, is_duid_or_none, most_duid_bytes}
 use Rattle.dhcp_script.specs.Event.{are_valid}
 use Rattle.dhcp_script.specs.Lease6.{are_times_in_order, lease_with}
@@ -25,10 +25,10 @@ use Rattle.dhcp_replay.proofs.DuidLemmas.{length-duid, no_duid}
 use Rattle.dhcp_replay.proofs.RisingLemmas.{rising_few}
 
 -- so many options are asked for at most
-requested_few : (codes : Option (List ℕ)) (mode : _) → are_few most_codes codes ≡ true → length (requested rising_codes codes (configs.config_of [] mode).request_opts) ≤ most_codes
+request_list_few : (codes : Option (List ℕ)) (mode : _) → are_few most_codes codes ≡ true → length (request_list rising_codes codes (configs.config_of [] mode).request_opts) ≤ most_codes
 unfolding configs.config_of
-requested_few None mode few = omega arith
-requested_few (Some listed) mode few = omega (arith, rising_few code_of listed, leb-true (length listed) most_codes few)
+request_list_few None mode few = omega arith
+request_list_few (Some listed) mode few = omega (arith, rising_few code_of listed, leb-true (length listed) most_codes few)
 
 -- an identifier of a script has as many bytes as it is read from
 duid_kept : (bytes : List ℕ) → is_duid bytes ≡ true → is_duid (written_duid (duid_of bytes)) ≡ true
@@ -111,15 +111,15 @@ parts script valid =
 config_within : (script : Script6) → ValidParts script → configs.is_within_limits (config_of script) ≡ true
 unfolding config_of configs.is_within_limits
 config_within script valid =
-    and_from (nat_le (length (written_duid (duid_of script.duid))) 65535) (nat_le (length (requested rising_codes script.codes (configs.config_of [] script.mode).request_opts)) 32767)
-    (duid_named script.duid valid.duid).short (le-leb (length (requested rising_codes script.codes (configs.config_of [] script.mode).request_opts)) 32767 (omega (arith, requested_few script.codes script.mode valid.codes)))
+    and_from (nat_le (length (written_duid (duid_of script.duid))) 65535) (nat_le (length (request_list rising_codes script.codes (configs.config_of [] script.mode).request_opts)) 32767)
+    (duid_named script.duid valid.duid).short (le-leb (length (request_list rising_codes script.codes (configs.config_of [] script.mode).request_opts)) 32767 (omega (arith, request_list_few script.codes script.mode valid.codes)))
 
 -- and within those of a script
 config_fits : (script : Script6) → ValidParts script → (is_duid_or_none (written_duid (config_of script).duid) && nat_le (length (config_of script).request_opts) most_codes) ≡ true
 unfolding config_of
 config_fits script valid =
-    and_from (is_duid_or_none (written_duid (duid_of script.duid))) (nat_le (length (requested rising_codes script.codes (configs.config_of [] script.mode).request_opts)) most_codes)
-    (duid_or_none_kept script.duid valid.duid) (le-leb (length (requested rising_codes script.codes (configs.config_of [] script.mode).request_opts)) most_codes (requested_few script.codes script.mode valid.codes))
+    and_from (is_duid_or_none (written_duid (duid_of script.duid))) (nat_le (length (request_list rising_codes script.codes (configs.config_of [] script.mode).request_opts)) most_codes)
+    (duid_or_none_kept script.duid valid.duid) (le-leb (length (request_list rising_codes script.codes (configs.config_of [] script.mode).request_opts)) most_codes (request_list_few script.codes script.mode valid.codes))
 
 -- it has an interface, an address and an identifier
 config_named : (script : Script6) → ValidParts script →

@@ -12,9 +12,9 @@ are_few most (Some listed) = nat_le (length listed) most
 
 -- the options that a configuration asks for: those listed, in rising order and each once; else
 -- those of a new configuration
-abbrev pub requested : {A : Type 0} → (List ℕ → List A) → Option (List ℕ) → List A → List A
-requested rising None by_default = by_default
-requested rising (Some listed) by_default = rising listed
+abbrev pub request_list : {A : Type 0} → (List ℕ → List A) → Option (List ℕ) → List A → List A
+request_list rising None by_default = by_default
+request_list rising (Some listed) by_default = rising listed
 
 -- the codes: those listed, or the word `default`
 abbrev pub listed_text : {A : Type 0} → (A → List ℕ) → Option A → List ℕ

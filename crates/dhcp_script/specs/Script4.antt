@@ -53,8 +53,8 @@ is_valid script =
     && is_in_order script.lease && are_valid script.start script.events
 
 -- the options that a configuration asks for
-abbrev pub requested : Option (List ℕ) → List DhcpV4OptionCode → List DhcpV4OptionCode
-requested listed by_default = lists.requested rising_codes listed by_default
+abbrev pub request_list : Option (List ℕ) → List DhcpV4OptionCode → List DhcpV4OptionCode
+request_list listed by_default = lists.request_list rising_codes listed by_default
 
 -- the configuration of the script's client; the interface has no name
 unfoldable pub config_of : Script4 → Config
@@ -65,7 +65,7 @@ config_of script = record (configs.config_of []) {
   src_mac = script.mac;
   client_id = script.client;
   host_name = script.host;
-  request_opts = requested script.codes (configs.config_of []).request_opts;
+  request_opts = request_list script.codes (configs.config_of []).request_opts;
 }
 
 -- the interface

@@ -14,7 +14,7 @@ use Rattle.dhcp6_msg.specs.Lease.{is_unspecified}
 use Rattle.dhcp_script.specs.declared.lease6.Lease6.{Lease6}
 use Rattle.dhcp_script.specs.declared.script6.Script6.{Script6}
 use Rattle.dhcp_script.specs.declared.version.Version.{Version}
-use Rattle.dhcp_script.specs.Codes.{are_few, listed_text, requested}
+use Rattle.dhcp_script.specs.Codes.{are_few, listed_text, request_list}
 use Rattle.dhcp_script.specs.Duid.{duid_of, is_duid_or_none}
 use Rattle.dhcp_script.specs.Event.{are_valid}
 use Rattle.dhcp_script.specs.Field.{or_word, spaced, unless_none}
@@ -47,7 +47,7 @@ config_of script = record (configs.config_of [] script.mode) {
   src_ip = script.src_ip;
   timeout_sec = script.timeout_sec;
   request_opts =
-      requested rising_codes script.codes (configs.config_of [] script.mode).request_opts;
+      request_list rising_codes script.codes (configs.config_of [] script.mode).request_opts;
   src_mac = script.mac;
 }
 

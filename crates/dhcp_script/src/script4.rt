@@ -10,7 +10,7 @@ ghost use Rattle.dhcp_wire.specs.Outcome.{Makes};
 ghost use Rattle.dhcp_script.specs.Lease4.{lease_with};
 ghost use Rattle.dhcp_script.specs.Puts.{Puts};
 ghost use Rattle.dhcp_script.specs.Script4 as scripts;
-ghost use Rattle.dhcp_script.specs.Script4.{config_of, is_valid, requested};
+ghost use Rattle.dhcp_script.specs.Script4.{config_of, is_valid, request_list};
 
 use crate::codes::are_few;
 use crate::{Event, Lease4, are_valid};
@@ -145,7 +145,7 @@ fn put_codes(
     codes: &Option<Bytes>,
 ) -> Result<(), DhcpError>
     ensures { Puts result config.new
-        (record config.old { request_opts = requested codes.now config.old.request_opts }) }
+        (record config.old { request_opts = request_list codes.now config.old.request_opts }) }
 {
     if let Some(listed) = codes {
         config.override_request_dhcp_opts(alloc, listed.as_slice())?;

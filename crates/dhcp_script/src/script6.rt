@@ -6,7 +6,7 @@ pub mod reader;
 ghost use Rattle.std.specs.Prelude.{◌≡◌, option_map};
 ghost use Rattle.dhcp_wire.specs.Outcome.{Makes};
 ghost use Rattle.dhcp6_msg.specs.Config.{rising_codes};
-ghost use Rattle.dhcp_script.specs.Codes.{requested};
+ghost use Rattle.dhcp_script.specs.Codes.{request_list};
 ghost use Rattle.dhcp_script.specs.Lease6.{lease_with};
 ghost use Rattle.dhcp_script.specs.Puts.{Puts};
 ghost use Rattle.dhcp_script.specs.Script6 as scripts;
@@ -115,7 +115,7 @@ fn put_codes(
     codes: &Option<Sequence<u16>>,
 ) -> Result<(), DhcpError>
     ensures { Puts result config.new (record config.old {
-      request_opts = requested rising_codes codes.now config.old.request_opts;
+      request_opts = request_list rising_codes codes.now config.old.request_opts;
     }) }
 {
     if let Some(listed) = codes {
