@@ -34,16 +34,20 @@ frame config dst_mac from to payload = record {
 abbrev pub everyone : Ipv4Addr
 everyone = address_of (replicate 4 255)
 
--- a broadcast of a client that may not use its address yet, or no longer
+-- A frame from 0.0.0.0 to 255.255.255.255. So go the messages of INIT, REQUESTING, REBOOTING and
+-- REBINDING; in REBINDING the client has its address still, and names it in `ciaddr`. The broadcast
+-- flag (RFC 2131, section 2) is set in no state.
 abbrev pub broadcast : Config → List ℕ → Handed
 broadcast config payload =
     handed.Frame (frame_bytes (frame config (replicate 6 255) no_address everyone payload))
 
--- a payload from the address of a lease to its server
+-- a payload from the address of a lease to its siaddr; by RFC 2131 section 4.4.5 it goes to the
+-- server that granted the lease, whose address may be another
 abbrev pub to_server : Lease → List ℕ → Handed
 to_server lease payload = handed.Udp4 lease.yiaddr lease.siaddr payload
 
--- The message of a state. BOUND sends nothing; it stands here as RENEWING.
+-- The message of a state. That of RENEWING and REBINDING has options 50 and 54, which RFC 2131
+-- section 4.3.2 forbids there. BOUND sends nothing; it stands here as RENEWING.
 abbrev pub row : ClientState → Row
 row InitReboot = table.discover
 row (Selecting offer) = table.request offer
@@ -66,7 +70,8 @@ abbrev pub attempt_message : ℕ → Config → ClientState → Handed
 attempt_message xid config state =
     carried config state (message_bytes xid config (row state))
 
--- the bytes of the release of a lease
+-- the bytes of the release of a lease: ciaddr is 0, and option 50 is the address; by RFC 2131 table 5
+-- ciaddr is the address, and option 50 is absent
 abbrev pub release_bytes : ℕ → Config → Lease → List ℕ
 release_bytes xid config lease = message_bytes xid config (table.release lease)
 

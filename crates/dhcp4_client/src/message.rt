@@ -43,7 +43,9 @@ pub fn attempt_message(
     carried(alloc, config, state, payload)
 }
 
-/// The release of a lease by a client that holds this one or none. Out of memory is the only error.
+/// The release of a lease by a client that holds this one or none. Its `ciaddr` is 0, and option 50
+/// is the address; by RFC 2131 table 5 `ciaddr` is the address, and option 50 is absent. Out of
+/// memory is the only error.
 pub fn release_message(
     alloc: Global,
     xid: u32,
@@ -118,7 +120,8 @@ fn payload_of(
     written(alloc, &message)
 }
 
-// The message of a state.
+// The message of a state. That of RENEWING and REBINDING has options 50 and 54, which RFC 2131
+// section 4.3.2 forbids there.
 fn message_of(
     alloc: Global,
     xid: u32,
@@ -163,7 +166,8 @@ fn written(alloc: Global, message: &DhcpV4Message) -> Result<Bytes, DhcpError>
     Ok(buffer.into_bytes())
 }
 
-// A payload from the address of a lease to its server.
+// A payload from the address of a lease to its `siaddr`. By RFC 2131 section 4.4.5 it goes to the
+// server that granted the lease, whose address may be another.
 fn to_server(lease: &DhcpV4Lease, payload: Bytes) -> Handed
     ensures { result ≡ messages.to_server lease.now payload }
 {
@@ -190,7 +194,9 @@ fn carried(
     }
 }
 
-// A broadcast of a client that may not use its address yet, or no longer.
+// A frame from 0.0.0.0 to 255.255.255.255 and the MAC address ff:ff:ff:ff:ff:ff. So go the messages
+// of INIT, REQUESTING, REBOOTING and REBINDING; in REBINDING the client has its address still, and
+// names it in `ciaddr`. The broadcast flag (RFC 2131 section 2) is set in no state.
 fn broadcast(alloc: Global, config: &DhcpV4Config, payload: Bytes) -> Result<Handed, DhcpError>
     requires { length payload ≤ most_payload }
     ensures { Makes (λ message. message) result (messages.broadcast config.now payload) }

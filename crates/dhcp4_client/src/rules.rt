@@ -69,6 +69,9 @@ impl Rules for ClientRules {
         }
     }
 
+    // A lease that was held before is requested four times. In REQUESTING no attempt is the last:
+    // the offer is requested until an answer comes or the time limit is over. By RFC 2131 section
+    // 3.1 a client gives up after some requests, four in its example, and begins its search anew.
     fn is_last_attempt(&self, state: &ClientState, exchange: Exchange) -> bool {
         match state {
             ClientState::InitReboot => false,
@@ -250,7 +253,8 @@ pub fn restarted(exchange: Exchange) -> Exchange
     }
 }
 
-// How long a client waits before its first Discover.
+// How long a client waits before its first Discover, in milliseconds; RFC 2131 section 4.4.1 asks
+// for 1 to 10 seconds. One whose count is not 0 does not wait.
 fn first_pause<W: Words>(exchange: Exchange, words: &mut W) -> u64
     ensures drawn { GivesDrawn (table.first_pause exchange)
         (W.left words.old) result (W.left words.new) }
@@ -263,7 +267,9 @@ fn first_pause<W: Words>(exchange: Exchange, words: &mut W) -> u64
     }
 }
 
-// How long an answer is awaited in a state.
+// How long an answer is awaited in a state, in milliseconds. In RENEWING and REBINDING it is half of
+// the time to T2 or to the end of the lease, at least a minute, and never past that moment (RFC 2131
+// section 4.4.5).
 fn wait<W: Words>(state: &ClientState, exchange: Exchange, now: u64, words: &mut W) -> u64
     ensures drawn { GivesDrawn (table.wait state.now exchange now)
         (W.left words.old) result (W.left words.new) }
@@ -279,7 +285,10 @@ fn wait<W: Words>(state: &ClientState, exchange: Exchange, now: u64, words: &mut
     }
 }
 
-// The wait of a client without an address.
+// The wait in INIT, REQUESTING and REBOOTING, in milliseconds: about 4, 8, 16, 32 and then 64
+// seconds, by the retry count (RFC 2131 section 4.1). The last is 62 to 64 seconds, so that none
+// passes the most of the RFC. Since the count goes on from INIT to REQUESTING, the first Request of
+// an offer may have a longer wait than 5 seconds.
 fn growing_wait<W: Words>(exchange: Exchange, words: &mut W) -> u64
     ensures drawn { GivesDrawn (table.growing_wait exchange)
         (W.left words.old) result (W.left words.new) }
