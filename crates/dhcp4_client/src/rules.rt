@@ -20,6 +20,12 @@ use dhcp4_lease::{DhcpV4Config, DhcpV4Lease};
 use std::alloc::{AllocError, Global};
 use std::mem;
 
+/// The pause before the first Discover is below so many milliseconds.
+const MOST_PAUSE: u64 = 200;
+
+/// How often the Request of a lease that was held before is sent again, after its first time.
+const MOST_RETRIES: u32 = 3;
+
 /// The rules of a client with this configuration.
 #[derive(Drop)]
 pub struct ClientRules {
@@ -76,7 +82,7 @@ impl Rules for ClientRules {
         match state {
             ClientState::InitReboot => false,
             ClientState::Selecting(_) => false,
-            ClientState::Rebooting(_) => exchange.retry_count >= 3,
+            ClientState::Rebooting(_) => exchange.retry_count >= MOST_RETRIES,
             ClientState::Done(_) => false,
             ClientState::Renewing(_) => false,
             ClientState::Rebinding(_) => false,
@@ -261,7 +267,7 @@ fn first_pause<W: Words>(exchange: Exchange, words: &mut W) -> u64
     ensures below { result < 2 ^ 62 }
 {
     if exchange.retry_count == 0 {
-        draw(0, 200, words.next_word())
+        draw(0, MOST_PAUSE, words.next_word())
     } else {
         0
     }
