@@ -70,8 +70,8 @@ abbrev pub attempt_message : ℕ → Config → ClientState → Handed
 attempt_message xid config state =
     carried config state (message_bytes xid config (row state))
 
--- the bytes of the release of a lease: ciaddr is 0, and option 50 is the address; by RFC 2131 table 5
--- ciaddr is the address, and option 50 is absent
+-- the bytes of the release of a lease: ciaddr is 0, and option 50 is the address; by RFC 2131
+-- table 5 ciaddr is the address, and option 50 is absent
 abbrev pub release_bytes : ℕ → Config → Lease → List ℕ
 release_bytes xid config lease = message_bytes xid config (table.release lease)
 

@@ -63,9 +63,9 @@ pause (Done bound) exchange words = undrawn 0 words
 pause (Renewing bound) exchange words = undrawn 0 words
 pause (Rebinding bound) exchange words = undrawn 0 words
 
--- The wait in INIT, REQUESTING and REBOOTING, RFC 2131 section 4.1. The longest is 62 to 64 seconds,
--- so that none passes the most of the RFC. Since the count goes on from INIT to REQUESTING, the first
--- Request of an offer may have a longer wait than 5 seconds.
+-- The wait in INIT, REQUESTING and REBOOTING, RFC 2131 section 4.1. The longest is 62 to 64
+-- seconds, so that none passes the most of the RFC. Since the count goes on from INIT to REQUESTING,
+-- the first Request of an offer may have a longer wait than 5 seconds.
 abbrev pub growing_wait : Exchange → List ℕ → Drawn ℕ
 growing_wait exchange words = record {
   value = discovery_wait exchange.retry_count (next_of words);
@@ -102,8 +102,8 @@ after_wait exchange =
     record exchange { retry_count = min (exchange.retry_count + 1) (2 ^ 32 - 1) }
 
 -- A lease that was held before is requested four times, and an offer until an answer comes or the
--- time limit is over. By RFC 2131 section 3.1 a client gives up an offer after some requests, four in
--- its example, and begins its search anew.
+-- time limit is over. By RFC 2131 section 3.1 a client gives up an offer after some requests, four
+-- in its example, and begins its search anew.
 abbrev pub is_last_attempt : ClientState → Exchange → Bool
 is_last_attempt InitReboot exchange = false
 is_last_attempt (Selecting offer) exchange = false

@@ -20,10 +20,12 @@ use dhcp4_lease::{DhcpV4Config, DhcpV4Lease};
 use std::alloc::{AllocError, Global};
 use std::mem;
 
-/// The pause before the first Discover is below so many milliseconds.
+/// The pause before the first Discover is below so many milliseconds; RFC 2131 section 4.4.1 asks
+/// for one to ten seconds.
 const MOST_PAUSE: u64 = 200;
 
-/// How often the Request of a lease that was held before is sent again, after its first time.
+/// How often the Request of a lease that was held before is sent again, so that it is sent four
+/// times in all; RFC 2131 section 3.2 leaves the number open.
 const MOST_RETRIES: u32 = 3;
 
 /// The rules of a client with this configuration.
@@ -273,9 +275,9 @@ fn first_pause<W: Words>(exchange: Exchange, words: &mut W) -> u64
     }
 }
 
-// How long an answer is awaited in a state, in milliseconds. In RENEWING and REBINDING it is half of
-// the time to T2 or to the end of the lease, at least a minute, and never past that moment (RFC 2131
-// section 4.4.5).
+// How long an answer is awaited in a state, in milliseconds. In RENEWING and REBINDING it is half
+// of the time to T2 or to the end of the lease, at least a minute (RFC 2131 section 4.4.5), and never
+// past that moment.
 fn wait<W: Words>(state: &ClientState, exchange: Exchange, now: u64, words: &mut W) -> u64
     ensures drawn { GivesDrawn (table.wait state.now exchange now)
         (W.left words.old) result (W.left words.new) }
