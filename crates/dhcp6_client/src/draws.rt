@@ -9,17 +9,27 @@ use crate::bound_lease::{expiry, rebinding, renewal};
 use crate::client_state::{ClientState, Exchange};
 use dhcp_clock::{Words, retransmit_wait};
 
-// SOL_TIMEOUT and REQ_TIMEOUT, SOL_MAX_RT, REQ_MAX_RT, RFC 8415 section 7.6, in milliseconds.
-const FIRST_WAIT: u64 = 1_000;
+/// About how long the first Solicit of a stay awaits an answer, in milliseconds. RFC 8415 section
+/// 7.6.
+const SOL_TIMEOUT: u64 = 1_000;
 
-const LONGEST_SOLICIT: u64 = 3_600_000;
+/// About how long a Solicit awaits an answer at most, in milliseconds. RFC 8415 section 7.6.
+const SOL_MAX_RT: u64 = 3_600_000;
 
-const LONGEST_REQUEST: u64 = 30_000;
+/// About how long the first Request of a stay awaits an answer, in milliseconds. RFC 8415 section
+/// 7.6.
+const REQ_TIMEOUT: u64 = 1_000;
 
-// REN_TIMEOUT and REB_TIMEOUT, REN_MAX_RT and REB_MAX_RT.
-const FIRST_RENEW: u64 = 10_000;
+/// About how long a Request awaits an answer at most, in milliseconds. RFC 8415 section 7.6.
+const REQ_MAX_RT: u64 = 30_000;
 
-const LONGEST_RENEW: u64 = 600_000;
+/// About how long the first Renew of a stay awaits an answer, in milliseconds; and the first Rebind,
+/// whose REB_TIMEOUT is the same. RFC 8415 section 7.6.
+const REN_TIMEOUT: u64 = 10_000;
+
+/// About how long a Renew awaits an answer at most, in milliseconds; and a Rebind, whose REB_MAX_RT
+/// is the same. RFC 8415 section 7.6.
+const REN_MAX_RT: u64 = 600_000;
 
 /// How long an answer is awaited in a state, in milliseconds.
 pub fn wait<W: Words>(state: &ClientState, exchange: Exchange, now: u64, words: &mut W) -> u64
@@ -28,8 +38,8 @@ pub fn wait<W: Words>(state: &ClientState, exchange: Exchange, now: u64, words: 
     ensures short { result ≤ 3960000 }
 {
     match state {
-        ClientState::Solicit => next_wait(exchange, FIRST_WAIT, LONGEST_SOLICIT, words),
-        ClientState::Request(_) => next_wait(exchange, FIRST_WAIT, LONGEST_REQUEST, words),
+        ClientState::Solicit => next_wait(exchange, SOL_TIMEOUT, SOL_MAX_RT, words),
+        ClientState::Request(_) => next_wait(exchange, REQ_TIMEOUT, REQ_MAX_RT, words),
         ClientState::Done(bound) => wait_until(renewal(bound), exchange, now, words),
         ClientState::Temporary(bound) => wait_until(expiry(bound), exchange, now, words),
         ClientState::Renew(bound) => wait_until(rebinding(bound), exchange, now, words),
@@ -43,7 +53,7 @@ fn wait_until<W: Words>(moment: u64, exchange: Exchange, now: u64, words: &mut W
         (W.left words.old) result (W.left words.new) }
     ensures short { result ≤ 3960000 }
 {
-    let wait = next_wait(exchange, FIRST_RENEW, LONGEST_RENEW, words);
+    let wait = next_wait(exchange, REN_TIMEOUT, REN_MAX_RT, words);
     moment.saturating_sub(now).min(wait)
 }
 
