@@ -276,8 +276,8 @@ fn first_pause<W: Words>(exchange: Exchange, words: &mut W) -> u64
 }
 
 // How long an answer is awaited in a state, in milliseconds. In RENEWING and REBINDING it is half
-// of the time to T2 or to the end of the lease, at least a minute (RFC 2131 section 4.4.5), and never
-// past that moment.
+// of the time to T2 or to the end of the lease, at least a minute (RFC 2131 section 4.4.5), and
+// never past that moment.
 fn wait<W: Words>(state: &ClientState, exchange: Exchange, now: u64, words: &mut W) -> u64
     ensures drawn { GivesDrawn (table.wait state.now exchange now)
         (W.left words.old) result (W.left words.new) }
