@@ -56,19 +56,19 @@ row (Done bound) = table.extend bound.lease
 row (Renewing bound) = table.extend bound.lease
 row (Rebinding bound) = table.extend bound.lease
 
--- its carrier: RENEWING alone sends to the server of its lease
-abbrev pub carried : Config → ClientState → List ℕ → Handed
-carried config InitReboot payload = broadcast config payload
-carried config (Selecting offer) payload = broadcast config payload
-carried config (Rebooting held) payload = broadcast config payload
-carried config (Done bound) payload = to_server bound.lease payload
-carried config (Renewing bound) payload = to_server bound.lease payload
-carried config (Rebinding bound) payload = broadcast config payload
+-- a payload with the carrier of a state: RENEWING alone sends it to the server of its lease
+abbrev pub with_carrier : Config → ClientState → List ℕ → Handed
+with_carrier config InitReboot payload = broadcast config payload
+with_carrier config (Selecting offer) payload = broadcast config payload
+with_carrier config (Rebooting held) payload = broadcast config payload
+with_carrier config (Done bound) payload = to_server bound.lease payload
+with_carrier config (Renewing bound) payload = to_server bound.lease payload
+with_carrier config (Rebinding bound) payload = broadcast config payload
 
 -- what is handed to the link at an attempt in a state
 abbrev pub attempt_message : ℕ → Config → ClientState → Handed
 attempt_message xid config state =
-    carried config state (message_bytes xid config (row state))
+    with_carrier config state (message_bytes xid config (row state))
 
 -- the bytes of the release of a lease: ciaddr is 0, and option 50 is the address; by RFC 2131
 -- table 5 ciaddr is the address, and option 50 is absent

@@ -40,7 +40,7 @@ pub fn attempt_message(
         (messages.attempt_message xid config.now state.now) }
 {
     let payload = payload_of(alloc, xid, config, state)?;
-    carried(alloc, config, state, payload)
+    with_carrier(alloc, config, state, payload)
 }
 
 /// The release of a lease by a client that holds this one or none. Its `ciaddr` is 0, and option 50
@@ -76,7 +76,7 @@ fn framed_release(
     ensures { Makes (λ message. message) result
         (Handed.Frame (frame_bytes (messages.release_frame config.now lease.now payload))) }
 {
-    framed(
+    frame_to(
         alloc,
         config,
         lease.srv_mac,
@@ -100,7 +100,7 @@ fn release_bytes(
 {
     requests_are_short(config, lease);
     let message = new_release(alloc, xid, config, lease)?;
-    written(alloc, &message)
+    bytes_of(alloc, &message)
 }
 
 // The bytes of the message of a state.
@@ -117,7 +117,7 @@ fn payload_of(
 {
     has_short_message(config, state);
     let message = message_of(alloc, xid, config, state)?;
-    written(alloc, &message)
+    bytes_of(alloc, &message)
 }
 
 // The message of a state. That of RENEWING and REBINDING has options 50 and 54, which RFC 2131
@@ -158,7 +158,7 @@ fn has_short_message(config: &DhcpV4Config, state: &ClientState)
 }
 
 // The bytes of a message.
-fn written(alloc: Global, message: &DhcpV4Message) -> Result<Bytes, DhcpError>
+fn bytes_of(alloc: Global, message: &DhcpV4Message) -> Result<Bytes, DhcpError>
     ensures { Makes (λ bytes. bytes) result (written_message message.now) }
 {
     let mut buffer = BufferMut::new(alloc);
@@ -174,15 +174,16 @@ fn to_server(lease: &DhcpV4Lease, payload: Bytes) -> Handed
     Handed::Udp4(lease.yiaddr, lease.siaddr, payload)
 }
 
-// How a payload is carried in a state.
-fn carried(
+// A payload with the carrier of a state: RENEWING alone sends it to the server of its lease.
+fn with_carrier(
     alloc: Global,
     config: &DhcpV4Config,
     state: &ClientState,
     payload: Bytes,
 ) -> Result<Handed, DhcpError>
     requires { length payload ≤ most_payload }
-    ensures { Makes (λ message. message) result (messages.carried config.now state.now payload) }
+    ensures { Makes (λ message. message) result
+        (messages.with_carrier config.now state.now payload) }
 {
     match state {
         ClientState::InitReboot => broadcast(alloc, config, payload),
@@ -202,7 +203,7 @@ fn broadcast(alloc: Global, config: &DhcpV4Config, payload: Bytes) -> Result<Han
     ensures { Makes (λ message. message) result (messages.broadcast config.now payload) }
 {
     let everyone = Ipv4Addr::BROADCAST;
-    framed(
+    frame_to(
         alloc,
         config,
         BROADCAST_MAC_ADDRESS,
@@ -212,8 +213,8 @@ fn broadcast(alloc: Global, config: &DhcpV4Config, payload: Bytes) -> Result<Han
     )
 }
 
-// A frame from the client's port to a server's.
-fn framed(
+// A frame from the client's port 68 to a server's port 67.
+fn frame_to(
     alloc: Global,
     config: &DhcpV4Config,
     dst_mac: [u8; 6],
