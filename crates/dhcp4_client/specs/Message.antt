@@ -34,9 +34,9 @@ frame config dst_mac from to payload = record {
 abbrev pub everyone : Ipv4Addr
 everyone = address_of (replicate 4 255)
 
--- A frame from 0.0.0.0 to 255.255.255.255. So go the messages of INIT, REQUESTING, REBOOTING and
--- REBINDING; in REBINDING the client has its address still, and names it in `ciaddr`. The broadcast
--- flag (RFC 2131, section 2) is set in no state.
+-- A frame from 0.0.0.0 to 255.255.255.255 and the MAC address ff:ff:ff:ff:ff:ff. The messages of
+-- each state but RENEWING go this way; in REBINDING the client still has its address, and names it
+-- in ciaddr. The broadcast flag (RFC 2131, section 2) is set in no state.
 abbrev pub broadcast : Config → List ℕ → Handed
 broadcast config payload =
     handed.Frame (frame_bytes (frame config (replicate 6 255) no_address everyone payload))

@@ -64,7 +64,7 @@ pause (Renewing bound) exchange words = undrawn 0 words
 pause (Rebinding bound) exchange words = undrawn 0 words
 
 -- The wait in INIT, REQUESTING and REBOOTING, RFC 2131 section 4.1. The longest is 62 to 64
--- seconds, so that none passes the most of the RFC. Since the count goes on from INIT to
+-- seconds, so that none is longer than the RFC allows. Since the count goes on from INIT to
 -- REQUESTING, the first Request of an offer may have a longer wait than 5 seconds.
 abbrev pub growing_wait : Exchange → List ℕ → Drawn ℕ
 growing_wait exchange words = record {

@@ -195,9 +195,9 @@ fn with_carrier(
     }
 }
 
-// A frame from 0.0.0.0 to 255.255.255.255 and the MAC address ff:ff:ff:ff:ff:ff. So go the messages
-// of INIT, REQUESTING, REBOOTING and REBINDING; in REBINDING the client has its address still, and
-// names it in `ciaddr`. The broadcast flag (RFC 2131 section 2) is set in no state.
+// A frame from 0.0.0.0 to 255.255.255.255 and the MAC address ff:ff:ff:ff:ff:ff. The messages of
+// each state but RENEWING go this way; in REBINDING the client still has its address, and names it
+// in `ciaddr`. The broadcast flag (RFC 2131 section 2) is set in no state.
 fn broadcast(alloc: Global, config: &DhcpV4Config, payload: Bytes) -> Result<Handed, DhcpError>
     requires { length payload ≤ most_payload }
     ensures { Makes (λ message. message) result (messages.broadcast config.now payload) }

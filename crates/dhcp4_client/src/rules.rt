@@ -294,8 +294,8 @@ fn wait<W: Words>(state: &ClientState, exchange: Exchange, now: u64, words: &mut
 }
 
 // The wait in INIT, REQUESTING and REBOOTING, in milliseconds: about 4, 8, 16, 32 and then 64
-// seconds, by the retry count (RFC 2131 section 4.1). The last is 62 to 64 seconds, so that none
-// passes the most of the RFC. Since the count goes on from INIT to REQUESTING, the first Request of
+// seconds, by the retry count (RFC 2131 section 4.1). The last is 62 to 64 seconds, so that none is
+// longer than the RFC allows. Since the count goes on from INIT to REQUESTING, the first Request of
 // an offer may have a longer wait than 5 seconds.
 fn growing_wait<W: Words>(exchange: Exchange, words: &mut W) -> u64
     ensures drawn { GivesDrawn (table.growing_wait exchange)
