@@ -1,4 +1,4 @@
--- How much a client sends in a stay, by its history.
+-- How much a client sends in a stay, by its history, RFC 2131 sections 3.2, 4.1 and 4.4.5.
 use Rattle.std.specs.Prelude.{ℕ, ◌-◌, ◌*◌, ◌^◌, ◌<◌, ◌≤◌}
 use Rattle.dhcp_clock.specs.declared.link.Handed.{Handed}
 use Rattle.dhcp_history.specs.Bounds.{attempts_of, taken_of, taken_count, FarApart}

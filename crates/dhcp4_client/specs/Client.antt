@@ -1,4 +1,4 @@
--- A client, and how it begins.
+-- A client, and how it begins, RFC 2131 sections 3.1, 3.2 and 4.4.
 use Rattle.std.specs.Prelude.{◌≡◌, ◌==◌, ◌&&◌, ℕ, Bool, true, not, Option, Some, None}
 use Rattle.std.specs.Option.{option_map_or}
 use Rattle.dhcp_history.specs.Calls as calls

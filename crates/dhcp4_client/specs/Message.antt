@@ -34,16 +34,20 @@ frame config dst_mac from to payload = record {
 abbrev pub everyone : Ipv4Addr
 everyone = address_of (replicate 4 255)
 
--- a broadcast of a client that may not use its address yet, or no longer
+-- A frame from 0.0.0.0 to 255.255.255.255 and the MAC address ff:ff:ff:ff:ff:ff. The messages of
+-- each state but RENEWING go this way; in REBINDING the client still has its address, and names it
+-- in ciaddr. The broadcast flag (RFC 2131, section 2) is set in no state.
 abbrev pub broadcast : Config → List ℕ → Handed
 broadcast config payload =
     handed.Frame (frame_bytes (frame config (replicate 6 255) no_address everyone payload))
 
--- a payload from the address of a lease to its server
+-- a payload from the address of a lease to its siaddr; by RFC 2131 section 4.4.5 it goes to the
+-- server that granted the lease, whose address may be another
 abbrev pub to_server : Lease → List ℕ → Handed
 to_server lease payload = handed.Udp4 lease.yiaddr lease.siaddr payload
 
--- The message of a state. BOUND sends nothing; it stands here as RENEWING.
+-- The message of a state. That of RENEWING and REBINDING has options 50 and 54, which RFC 2131
+-- section 4.3.2 forbids there. BOUND sends nothing; it stands here as RENEWING.
 abbrev pub row : ClientState → Row
 row InitReboot = table.discover
 row (Selecting offer) = table.request offer
@@ -52,21 +56,22 @@ row (Done bound) = table.extend bound.lease
 row (Renewing bound) = table.extend bound.lease
 row (Rebinding bound) = table.extend bound.lease
 
--- its carrier: RENEWING alone sends to the server of its lease
-abbrev pub carried : Config → ClientState → List ℕ → Handed
-carried config InitReboot payload = broadcast config payload
-carried config (Selecting offer) payload = broadcast config payload
-carried config (Rebooting held) payload = broadcast config payload
-carried config (Done bound) payload = to_server bound.lease payload
-carried config (Renewing bound) payload = to_server bound.lease payload
-carried config (Rebinding bound) payload = broadcast config payload
+-- a payload with the carrier of a state: RENEWING alone sends it to the server of its lease
+abbrev pub with_carrier : Config → ClientState → List ℕ → Handed
+with_carrier config InitReboot payload = broadcast config payload
+with_carrier config (Selecting offer) payload = broadcast config payload
+with_carrier config (Rebooting held) payload = broadcast config payload
+with_carrier config (Done bound) payload = to_server bound.lease payload
+with_carrier config (Renewing bound) payload = to_server bound.lease payload
+with_carrier config (Rebinding bound) payload = broadcast config payload
 
 -- what is handed to the link at an attempt in a state
 abbrev pub attempt_message : ℕ → Config → ClientState → Handed
 attempt_message xid config state =
-    carried config state (message_bytes xid config (row state))
+    with_carrier config state (message_bytes xid config (row state))
 
--- the bytes of the release of a lease
+-- the bytes of the release of a lease: ciaddr is 0, and option 50 is the address; by RFC 2131
+-- table 5 ciaddr is the address, and option 50 is absent
 abbrev pub release_bytes : ℕ → Config → Lease → List ℕ
 release_bytes xid config lease = message_bytes xid config (table.release lease)
 

@@ -1,4 +1,4 @@
--- The release of a lease by a client.
+-- The release of a lease by a client, RFC 2131 section 4.4.6.
 use Rattle.dhcp_clock.specs.declared.link.Handed.{Handed}
 use Rattle.dhcp4_lease.specs.Lease.{Lease}
 use Rattle.dhcp4_client.specs.Client.{ClientParts}

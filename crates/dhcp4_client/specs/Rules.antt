@@ -63,7 +63,9 @@ pause (Done bound) exchange words = undrawn 0 words
 pause (Renewing bound) exchange words = undrawn 0 words
 pause (Rebinding bound) exchange words = undrawn 0 words
 
--- the wait of a client without an address, RFC 2131 section 4.1
+-- The wait in INIT, REQUESTING and REBOOTING, RFC 2131 section 4.1. The longest is 62 to 64
+-- seconds, so that none is longer than the RFC allows. Since the count goes on from INIT to
+-- REQUESTING, the first Request of an offer may have a longer wait than 5 seconds.
 abbrev pub growing_wait : Exchange → List ℕ → Drawn ℕ
 growing_wait exchange words = record {
   value = discovery_wait exchange.retry_count (next_of words);
@@ -94,12 +96,14 @@ attempt config state exchange start words =
       left = wait.left;
     }
 
--- the retry count rises with each attempt that went without an answer
+-- the retry count rises with each attempt that had no answer when its wait was over
 abbrev pub after_wait : Exchange → Exchange
 after_wait exchange =
     record exchange { retry_count = min (exchange.retry_count + 1) (2 ^ 32 - 1) }
 
--- a lease that was held before is requested four times
+-- A lease that was held before is requested four times, and an offer until an answer comes or the
+-- time limit is over. By RFC 2131 section 3.1 a client gives up an offer after some requests, four
+-- in its example, and begins its search anew.
 abbrev pub is_last_attempt : ClientState → Exchange → Bool
 is_last_attempt InitReboot exchange = false
 is_last_attempt (Selecting offer) exchange = false
@@ -144,12 +148,12 @@ after_grant (Done bound) lease now exchange = bound_from now lease exchange
 after_grant (Renewing bound) lease now exchange = bound_from now lease exchange
 after_grant (Rebinding bound) lease now exchange = bound_from now lease exchange
 
--- the state after an answer; a refusal leads back to the start
+-- the state after an answer; a refusal leads to INIT, with the retry count as it is
 abbrev pub after_answer : ClientState → Answer → ℕ → Exchange → NextState ClientState Exchange
 after_answer state (Granted lease) now exchange = after_grant state lease now exchange
 after_answer state Refused now exchange = entering InitReboot exchange
 
--- the state after the end of one
+-- the state after the end of one; to REBINDING the count begins anew, else it is kept
 abbrev pub after_end : ClientState → Exchange → NextState ClientState Exchange
 after_end InitReboot exchange = entering InitReboot exchange
 after_end (Selecting offer) exchange = entering InitReboot exchange
@@ -158,11 +162,11 @@ after_end (Done bound) exchange = entering (Renewing bound) exchange
 after_end (Renewing bound) exchange = starting (Rebinding bound) exchange
 after_end (Rebinding bound) exchange = entering InitReboot exchange
 
--- the state after a clean-up
+-- the state after a clean-up, with the retry count as it is
 abbrev pub after_clean_up : Exchange → NextState ClientState Exchange
 after_clean_up exchange = entering InitReboot exchange
 
--- the lease that is held
+-- the lease that is held; in REBOOTING no server has confirmed it yet
 abbrev pub held_lease : ClientState → Option Lease
 held_lease InitReboot = None
 held_lease (Selecting offer) = None

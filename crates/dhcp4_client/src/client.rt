@@ -140,7 +140,8 @@ impl DhcpV4Client {
         Ok(())
     }
 
-    /// The lease that is held, if one is.
+    /// The lease that is held, if one is. In REBOOTING it is the lease that `init` was given, which
+    /// no server has confirmed yet.
     pub fn lease(&self) -> Option<&DhcpV4Lease>
         ensures { Finds (λ lease. lease.now) result (held_lease self.now.client.state) }
     {

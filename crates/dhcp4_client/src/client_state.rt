@@ -10,11 +10,12 @@ use dhcp4_lease::DhcpV4Lease;
 /// What a client is in, with what that rests on.
 #[derive(Drop)]
 pub enum ClientState {
-    /// INIT: it searches for servers.
+    /// INIT and SELECTING: it sends Discover messages and awaits offers.
     InitReboot,
     /// REQUESTING: it requests the lease of this offer.
     Selecting(DhcpV4Lease),
-    /// REBOOTING: it requests this lease, which it held before.
+    /// INIT-REBOOT and REBOOTING: it requests this lease, which it held before and which no server
+    /// has confirmed yet.
     Rebooting(DhcpV4Lease),
     /// BOUND: T1 of this lease is still to come.
     Done(BoundLease<DhcpV4Lease>),
@@ -25,7 +26,7 @@ pub enum ClientState {
 }
 
 impl ClientState {
-    /// The lease that is held.
+    /// The lease that is held. In REBOOTING no server has confirmed it yet.
     pub fn held_lease(&self) -> Option<&DhcpV4Lease>
         ensures { Finds (λ lease. lease.now) result (table.held_lease self.now) }
     {
@@ -45,6 +46,9 @@ impl ClientState {
 pub struct Exchange {
     /// The transaction id, which the client drew at its start.
     pub xid: u32,
-    /// How many attempts that the link took went without an answer.
+    /// How many attempts that the link took had no answer when their wait was over, since `init`,
+    /// or since the client last entered BOUND or REBINDING. So it counts on from INIT to
+    /// REQUESTING; and a Nack, the last request in REBOOTING, the end of a lease, a clean-up and a
+    /// release lead to INIT with the count as it is. It stays at 2^32 - 1 once it is there.
     pub retry_count: u32,
 }

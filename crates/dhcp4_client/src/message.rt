@@ -40,10 +40,12 @@ pub fn attempt_message(
         (messages.attempt_message xid config.now state.now) }
 {
     let payload = payload_of(alloc, xid, config, state)?;
-    carried(alloc, config, state, payload)
+    with_carrier(alloc, config, state, payload)
 }
 
-/// The release of a lease by a client that holds this one or none. Out of memory is the only error.
+/// The release of a lease by a client that holds this one or none. Its `ciaddr` is 0, and option 50
+/// is the address; by RFC 2131 table 5 `ciaddr` is the address, and option 50 is absent. Out of
+/// memory is the only error.
 pub fn release_message(
     alloc: Global,
     xid: u32,
@@ -74,7 +76,7 @@ fn framed_release(
     ensures { Makes (λ message. message) result
         (Handed.Frame (frame_bytes (messages.release_frame config.now lease.now payload))) }
 {
-    framed(
+    frame_to(
         alloc,
         config,
         lease.srv_mac,
@@ -98,7 +100,7 @@ fn release_bytes(
 {
     requests_are_short(config, lease);
     let message = new_release(alloc, xid, config, lease)?;
-    written(alloc, &message)
+    bytes_of(alloc, &message)
 }
 
 // The bytes of the message of a state.
@@ -115,10 +117,11 @@ fn payload_of(
 {
     has_short_message(config, state);
     let message = message_of(alloc, xid, config, state)?;
-    written(alloc, &message)
+    bytes_of(alloc, &message)
 }
 
-// The message of a state.
+// The message of a state. That of RENEWING and REBINDING has options 50 and 54, which RFC 2131
+// section 4.3.2 forbids there.
 fn message_of(
     alloc: Global,
     xid: u32,
@@ -155,7 +158,7 @@ fn has_short_message(config: &DhcpV4Config, state: &ClientState)
 }
 
 // The bytes of a message.
-fn written(alloc: Global, message: &DhcpV4Message) -> Result<Bytes, DhcpError>
+fn bytes_of(alloc: Global, message: &DhcpV4Message) -> Result<Bytes, DhcpError>
     ensures { Makes (λ bytes. bytes) result (written_message message.now) }
 {
     let mut buffer = BufferMut::new(alloc);
@@ -163,22 +166,24 @@ fn written(alloc: Global, message: &DhcpV4Message) -> Result<Bytes, DhcpError>
     Ok(buffer.into_bytes())
 }
 
-// A payload from the address of a lease to its server.
+// A payload from the address of a lease to its `siaddr`. By RFC 2131 section 4.4.5 it goes to the
+// server that granted the lease, whose address may be another.
 fn to_server(lease: &DhcpV4Lease, payload: Bytes) -> Handed
     ensures { result ≡ messages.to_server lease.now payload }
 {
     Handed::Udp4(lease.yiaddr, lease.siaddr, payload)
 }
 
-// How a payload is carried in a state.
-fn carried(
+// A payload with the carrier of a state: RENEWING alone sends it to the server of its lease.
+fn with_carrier(
     alloc: Global,
     config: &DhcpV4Config,
     state: &ClientState,
     payload: Bytes,
 ) -> Result<Handed, DhcpError>
     requires { length payload ≤ most_payload }
-    ensures { Makes (λ message. message) result (messages.carried config.now state.now payload) }
+    ensures { Makes (λ message. message) result
+        (messages.with_carrier config.now state.now payload) }
 {
     match state {
         ClientState::InitReboot => broadcast(alloc, config, payload),
@@ -190,13 +195,15 @@ fn carried(
     }
 }
 
-// A broadcast of a client that may not use its address yet, or no longer.
+// A frame from 0.0.0.0 to 255.255.255.255 and the MAC address ff:ff:ff:ff:ff:ff. The messages of
+// each state but RENEWING go this way; in REBINDING the client still has its address, and names it
+// in `ciaddr`. The broadcast flag (RFC 2131 section 2) is set in no state.
 fn broadcast(alloc: Global, config: &DhcpV4Config, payload: Bytes) -> Result<Handed, DhcpError>
     requires { length payload ≤ most_payload }
     ensures { Makes (λ message. message) result (messages.broadcast config.now payload) }
 {
     let everyone = Ipv4Addr::BROADCAST;
-    framed(
+    frame_to(
         alloc,
         config,
         BROADCAST_MAC_ADDRESS,
@@ -206,8 +213,8 @@ fn broadcast(alloc: Global, config: &DhcpV4Config, payload: Bytes) -> Result<Han
     )
 }
 
-// A frame from the client's port to a server's.
-fn framed(
+// A frame from the client's port 68 to a server's port 67.
+fn frame_to(
     alloc: Global,
     config: &DhcpV4Config,
     dst_mac: [u8; 6],

@@ -20,6 +20,14 @@ use dhcp4_lease::{DhcpV4Config, DhcpV4Lease};
 use std::alloc::{AllocError, Global};
 use std::mem;
 
+/// The pause before the first Discover is below so many milliseconds; RFC 2131 section 4.4.1 asks
+/// for one to ten seconds.
+const MOST_PAUSE: u64 = 200;
+
+/// How often the Request of a lease that was held before is sent again, so that it is sent four
+/// times in all; RFC 2131 section 3.2 leaves the number open.
+const MOST_RETRIES: u32 = 3;
+
 /// The rules of a client with this configuration.
 #[derive(Drop)]
 pub struct ClientRules {
@@ -69,11 +77,14 @@ impl Rules for ClientRules {
         }
     }
 
+    // A lease that was held before is requested four times. In REQUESTING no attempt is the last:
+    // the offer is requested until an answer comes or the time limit is over. By RFC 2131 section
+    // 3.1 a client gives up after some requests, four in its example, and begins its search anew.
     fn is_last_attempt(&self, state: &ClientState, exchange: Exchange) -> bool {
         match state {
             ClientState::InitReboot => false,
             ClientState::Selecting(_) => false,
-            ClientState::Rebooting(_) => exchange.retry_count >= 3,
+            ClientState::Rebooting(_) => exchange.retry_count >= MOST_RETRIES,
             ClientState::Done(_) => false,
             ClientState::Renewing(_) => false,
             ClientState::Rebinding(_) => false,
@@ -250,20 +261,23 @@ pub fn restarted(exchange: Exchange) -> Exchange
     }
 }
 
-// How long a client waits before its first Discover.
+// How long a client waits before its first Discover, in milliseconds; RFC 2131 section 4.4.1 asks
+// for 1 to 10 seconds. One whose count is not 0 does not wait.
 fn first_pause<W: Words>(exchange: Exchange, words: &mut W) -> u64
     ensures drawn { GivesDrawn (table.first_pause exchange)
         (W.left words.old) result (W.left words.new) }
     ensures below { result < 2 ^ 62 }
 {
     if exchange.retry_count == 0 {
-        draw(0, 200, words.next_word())
+        draw(0, MOST_PAUSE, words.next_word())
     } else {
         0
     }
 }
 
-// How long an answer is awaited in a state.
+// How long an answer is awaited in a state, in milliseconds. In RENEWING and REBINDING it is half
+// of the time to T2 or to the end of the lease, at least a minute (RFC 2131 section 4.4.5), and
+// never past that moment.
 fn wait<W: Words>(state: &ClientState, exchange: Exchange, now: u64, words: &mut W) -> u64
     ensures drawn { GivesDrawn (table.wait state.now exchange now)
         (W.left words.old) result (W.left words.new) }
@@ -279,7 +293,10 @@ fn wait<W: Words>(state: &ClientState, exchange: Exchange, now: u64, words: &mut
     }
 }
 
-// The wait of a client without an address.
+// The wait in INIT, REQUESTING and REBOOTING, in milliseconds: about 4, 8, 16, 32 and then 64
+// seconds, by the retry count (RFC 2131 section 4.1). The last is 62 to 64 seconds, so that none is
+// longer than the RFC allows. Since the count goes on from INIT to REQUESTING, the first Request of
+// an offer may have a longer wait than 5 seconds.
 fn growing_wait<W: Words>(exchange: Exchange, words: &mut W) -> u64
     ensures drawn { GivesDrawn (table.growing_wait exchange)
         (W.left words.old) result (W.left words.new) }

@@ -13,15 +13,17 @@ use std::alloc::Global;
 use std::fmt;
 use std::marker::Model;
 
-/// The state of a client, RFC 2131 figure 5. The default is `InitReboot`.
+/// The state of a client; each variant names its states of RFC 2131 figure 5. The default is
+/// `InitReboot`.
 #[derive(Debug, Default, PartialEq, Drop)]
 pub enum DhcpV4State {
     /// BOUND: it has this lease, and T1 is still to come.
     Done(Box<DhcpV4Lease>),
-    /// INIT: it searches for servers.
+    /// INIT and SELECTING: it sends Discover messages and awaits offers.
     #[default]
     InitReboot,
-    /// SELECTING or INIT-REBOOT: it requests the lease of an offer, or one that it held before.
+    /// REQUESTING: it requests the lease of an offer. Or INIT-REBOOT and REBOOTING: it requests a
+    /// lease that it held before.
     Selecting,
     /// RENEWING: T1 is past, and it asks the server of its lease to renew it.
     Renewing,

@@ -33,7 +33,8 @@ payload_by carriers.Payload bytes = Some bytes
 abbrev pub payload_in : Packet → Option (List ℕ)
 payload_in packet = payload_by packet.kind packet.bytes
 
--- whether a message is of this type and has this transaction id
+-- whether a message is of this type and has this transaction id; its client identifier, which RFC
+-- 8415 sections 16.3 and 16.10 compare too, is not compared
 abbrev pub concerns : DhcpV6MessageType → ℕ → DhcpV6Message → Bool
 concerns kind xid message =
     (type_number message.msg_type == type_number kind) && (id_number message.xid == xid)

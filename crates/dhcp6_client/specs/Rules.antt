@@ -68,7 +68,9 @@ wait_until moment exchange now =
     (λ wait. undrawn (min (moment - now) wait))
 
 -- How long an answer is awaited: SOL_TIMEOUT and SOL_MAX_RT, REQ_TIMEOUT and REQ_MAX_RT (RFC 8415,
--- section 7.6). A client that holds its lease sends nothing; it stands here as the others.
+-- section 7.6). The first wait of a Solicit is from nine tenths of SOL_TIMEOUT on, where section
+-- 18.2.1 asks for more than SOL_TIMEOUT. A client that holds its lease sends nothing; it stands
+-- here as the others.
 abbrev pub wait : ClientState → Exchange → ℕ → List ℕ → Drawn ℕ
 wait Solicit exchange now words = retransmit_wait exchange.previous_wait 1000 3600000 words
 wait (Request offer) exchange now words =
@@ -87,7 +89,8 @@ abbrev pub id_for : Bool → Exchange → List ℕ → Drawn ℕ
 id_for true exchange = drawn_then drawn_word (λ word. undrawn (new_id word))
 id_for false exchange = undrawn exchange.xid
 
--- the transaction id of an attempt; a client that searches has the one that it drew before
+-- the transaction id of an attempt; a client that searches has the one that it drew last, where RFC
+-- 8415 section 16.1 asks for a new one for its first Solicit
 abbrev pub transaction_id : ClientState → Bool → Exchange → List ℕ → Drawn ℕ
 transaction_id Solicit is_first exchange words = undrawn exchange.xid words
 transaction_id (Request offer) is_first exchange words = id_for is_first exchange words
@@ -96,8 +99,9 @@ transaction_id (Temporary bound) is_first exchange words = id_for is_first excha
 transaction_id (Renew bound) is_first exchange words = id_for is_first exchange words
 transaction_id (Rebind bound) is_first exchange words = id_for is_first exchange words
 
--- the identifier of the identity association that is asked for: a Solicit draws one; in the other
--- messages it is that of their lease
+-- the identifier of the identity association that is asked for: each attempt of a Solicit draws
+-- one, where RFC 8415 section 12 asks for the same one over restarts; in the other messages it is
+-- that of their lease
 abbrev pub association_id : ClientState → List ℕ → Drawn ℕ
 association_id Solicit words = drawn_word words
 association_id (Request offer) words = undrawn 0 words
@@ -106,8 +110,9 @@ association_id (Temporary bound) words = undrawn 0 words
 association_id (Renew bound) words = undrawn 0 words
 association_id (Rebind bound) words = undrawn 0 words
 
--- the time since which the client tries, from the first poll in its state on, or from the moment
--- within its stay from which it counts anew (RFC 8415, section 21.9)
+-- for how many milliseconds the client has tried, from the first poll in its state on, or from the
+-- moment within its stay from which it counts anew; RFC 8415 section 21.9 asks for 0 in the first
+-- message, and here the pause of Solicit is in it
 abbrev pub elapsed : AttemptStart → Exchange → ℕ
 elapsed start exchange = start.now - max start.entered exchange.counted_from
 
@@ -129,12 +134,13 @@ attempt config state exchange start =
     drawn_then (association_id state) (λ iaid.
     undrawn (attempt_with config state exchange start xid wait iaid))))
 
--- the count rises with each attempt that went without an answer
+-- the count rises with each attempt that had no answer when its wait was over
 abbrev pub after_wait : Exchange → Exchange
 after_wait exchange =
     record exchange { retransmit_count = min (exchange.retransmit_count + 1) (2 ^ 32 - 1) }
 
--- an offer is requested eleven times: once, and again REQ_MAX_RC times (RFC 8415, section 18.2.2)
+-- an offer is requested eleven times: once, and again REQ_MAX_RC times (RFC 8415, section 18.2.2);
+-- section 15 means ten in all
 abbrev pub is_last_attempt : ClientState → Exchange → Bool
 is_last_attempt Solicit exchange = false
 is_last_attempt (Request offer) exchange = nat_le 10 exchange.retransmit_count
@@ -173,7 +179,9 @@ abbrev pub bound_from : DhcpV6Mode → ℕ → Lease → Exchange → NextState 
 bound_from mode now lease exchange =
     starting (bound_state mode (record { lease = lease; since = now })) exchange
 
--- the state after a lease was offered or granted; a client that holds its lease awaits none
+-- The state after a lease was offered or granted; a client that holds its lease awaits none. The
+-- first Advertise that grants a lease counts at once; by RFC 8415 section 18.2.1 a client collects
+-- them until its first wait is over, unless one has preference 255, and the best counts.
 abbrev pub after_answer : Config → ClientState → Lease → ℕ → Exchange →
     NextState ClientState Exchange
 after_answer config Solicit offer now exchange = starting (Request offer) exchange

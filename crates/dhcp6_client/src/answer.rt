@@ -63,7 +63,8 @@ fn payload_in(packet: &Packet) -> Option<&[u8]>
     }
 }
 
-// Whether a message is of this type and has this transaction id.
+// Whether a message is of this type and has this transaction id. Its client identifier, which RFC
+// 8415 sections 16.3 and 16.10 compare too, is not compared.
 #[tactic(auto, unfolding(dhcp6_msg::specs::MessageType::type_number))]
 fn concerns(kind: DhcpV6MessageType, xid: u32, message: &DhcpV6View) -> bool
     ensures { result ≡ answers.concerns kind xid message.now }

@@ -49,9 +49,12 @@ impl ClientState {
 pub struct Exchange {
     /// The transaction id that was drawn last, of three bytes.
     pub xid: u32,
-    /// RC: how many attempts of this stay that the link took went without an answer.
+    /// RC: how many attempts that the link took had no answer when their wait was over, since the
+    /// state was entered, or since `reset_retransmit_counters` within it. It stays at 2^32 - 1 once
+    /// it is there.
     pub retransmit_count: u32,
-    /// RTprev: the wait of the attempt before in this stay, in milliseconds; 0 if there was none.
+    /// RTprev: the wait of the last attempt since then, whether the link took it or refused it, in
+    /// milliseconds; 0 if there was none.
     pub previous_wait: u32,
     /// The moment from which the elapsed time counts, if it comes after the first poll of the stay;
     /// in milliseconds.

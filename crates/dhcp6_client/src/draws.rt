@@ -9,27 +9,40 @@ use crate::bound_lease::{expiry, rebinding, renewal};
 use crate::client_state::{ClientState, Exchange};
 use dhcp_clock::{Words, retransmit_wait};
 
-// SOL_TIMEOUT and REQ_TIMEOUT, SOL_MAX_RT, REQ_MAX_RT, RFC 8415 section 7.6, in milliseconds.
-const FIRST_WAIT: u64 = 1_000;
+/// About how long the first Solicit of a stay awaits an answer, in milliseconds. RFC 8415 section
+/// 7.6.
+const SOL_TIMEOUT: u64 = 1_000;
 
-const LONGEST_SOLICIT: u64 = 3_600_000;
+/// About how long a Solicit awaits an answer at most, in milliseconds. RFC 8415 section 7.6.
+const SOL_MAX_RT: u64 = 3_600_000;
 
-const LONGEST_REQUEST: u64 = 30_000;
+/// About how long the first Request of a stay awaits an answer, in milliseconds. RFC 8415 section
+/// 7.6.
+const REQ_TIMEOUT: u64 = 1_000;
 
-// REN_TIMEOUT and REB_TIMEOUT, REN_MAX_RT and REB_MAX_RT.
-const FIRST_RENEW: u64 = 10_000;
+/// About how long a Request awaits an answer at most, in milliseconds. RFC 8415 section 7.6.
+const REQ_MAX_RT: u64 = 30_000;
 
-const LONGEST_RENEW: u64 = 600_000;
+/// About how long the first Renew of a stay awaits an answer, in milliseconds; and the first
+/// Rebind, whose REB_TIMEOUT is the same. RFC 8415 section 7.6.
+const REN_TIMEOUT: u64 = 10_000;
 
-/// How long an answer is awaited in a state, in milliseconds.
+/// About how long a Renew awaits an answer at most, in milliseconds; and a Rebind, whose REB_MAX_RT
+/// is the same. RFC 8415 section 7.6.
+const REN_MAX_RT: u64 = 600_000;
+
+/// How long an answer is awaited in a state, in milliseconds, RFC 8415 section 15; in Renew until
+/// T2 at most, and in Rebind until the end of the lease. The first wait of a Solicit is from nine
+/// tenths of SOL_TIMEOUT on, as that of any other message; section 18.2.1 asks for more than
+/// SOL_TIMEOUT.
 pub fn wait<W: Words>(state: &ClientState, exchange: Exchange, now: u64, words: &mut W) -> u64
     ensures drawn { GivesDrawn (table.wait state.now exchange now)
         (W.left words.old) result (W.left words.new) }
     ensures short { result ≤ 3960000 }
 {
     match state {
-        ClientState::Solicit => next_wait(exchange, FIRST_WAIT, LONGEST_SOLICIT, words),
-        ClientState::Request(_) => next_wait(exchange, FIRST_WAIT, LONGEST_REQUEST, words),
+        ClientState::Solicit => next_wait(exchange, SOL_TIMEOUT, SOL_MAX_RT, words),
+        ClientState::Request(_) => next_wait(exchange, REQ_TIMEOUT, REQ_MAX_RT, words),
         ClientState::Done(bound) => wait_until(renewal(bound), exchange, now, words),
         ClientState::Temporary(bound) => wait_until(expiry(bound), exchange, now, words),
         ClientState::Renew(bound) => wait_until(rebinding(bound), exchange, now, words),
@@ -43,7 +56,7 @@ fn wait_until<W: Words>(moment: u64, exchange: Exchange, now: u64, words: &mut W
         (W.left words.old) result (W.left words.new) }
     ensures short { result ≤ 3960000 }
 {
-    let wait = next_wait(exchange, FIRST_RENEW, LONGEST_RENEW, words);
+    let wait = next_wait(exchange, REN_TIMEOUT, REN_MAX_RT, words);
     moment.saturating_sub(now).min(wait)
 }
 
@@ -58,7 +71,9 @@ fn next_wait<W: Words>(exchange: Exchange, first: u64, longest: u64, words: &mut
     retransmit_wait(u64::from(exchange.previous_wait), first, longest, words)
 }
 
-/// The transaction id of an attempt: a new one for the first of a stay that is no search.
+/// The transaction id of an attempt: a new one for the first of a stay that is no search, and for
+/// the others the one that was drawn last. So each Solicit of a search has that of `init`, or of
+/// the last other message; RFC 8415 section 16.1 asks for a new one for its first.
 pub fn transaction_id<W: Words>(
     state: &ClientState,
     is_first: bool,
@@ -90,14 +105,16 @@ fn id_for<W: Words>(is_first: bool, exchange: Exchange, words: &mut W) -> u32
     }
 }
 
-/// The transaction id of a random word: a number of three bytes.
+/// The transaction id of a random word: a number of three bytes, from 0 to 16,777,214.
 pub fn new_id(word: u32) -> u32
     ensures { result ≡ table.new_id word }
 {
     word % 16_777_215
 }
 
-/// The identifier of the identity association that is asked for: drawn at each Solicit.
+/// The identifier of the identity association that is asked for: drawn anew at each attempt of a
+/// Solicit, where RFC 8415 section 12 asks for the same one over restarts. The other messages have
+/// that of their lease, and for them it is 0.
 pub fn association_id<W: Words>(state: &ClientState, words: &mut W) -> u32
     ensures { GivesDrawn (table.association_id state.now)
         (W.left words.old) result (W.left words.new) }

@@ -22,6 +22,13 @@ use dhcp6_msg::{DhcpV6Config, DhcpV6Lease, DhcpV6Mode};
 use std::alloc::{AllocError, Global};
 use std::mem;
 
+/// The pause before the first Solicit is below so many milliseconds. RFC 8415 section 7.6.
+const SOL_MAX_DELAY: u64 = 1_000;
+
+/// How often the Request of an offer is sent again, RFC 8415 section 7.6. So it is sent eleven
+/// times in all, where section 15 means ten.
+const REQ_MAX_RC: u32 = 10;
+
 /// The rules of a client with this configuration.
 #[derive(Drop)]
 pub struct ClientRules {
@@ -74,7 +81,7 @@ impl Rules for ClientRules {
     fn is_last_attempt(&self, state: &ClientState, exchange: Exchange) -> bool {
         match state {
             ClientState::Solicit => false,
-            ClientState::Request(_) => exchange.retransmit_count >= 10,
+            ClientState::Request(_) => exchange.retransmit_count >= REQ_MAX_RC,
             ClientState::Done(_) => false,
             ClientState::Temporary(_) => false,
             ClientState::Renew(_) => false,
@@ -93,7 +100,7 @@ impl Rules for ClientRules {
 
     fn pause<W: Words>(&self, state: &ClientState, exchange: Exchange, words: &mut W) -> u64 {
         match state {
-            ClientState::Solicit => draw(0, 1000, words.next_word()),
+            ClientState::Solicit => draw(0, SOL_MAX_DELAY, words.next_word()),
             ClientState::Request(_) => 0,
             ClientState::Done(_) => 0,
             ClientState::Temporary(_) => 0,
@@ -144,6 +151,9 @@ impl Rules for ClientRules {
         }
     }
 
+    // The first Advertise that grants a lease counts at once. By RFC 8415 section 18.2.1 a client
+    // collects them until its first wait is over, unless one has preference 255, and the best
+    // counts.
     fn after_answer(
         &self,
         state: &mut ClientState,
@@ -262,7 +272,9 @@ pub fn bound_state(mode: DhcpV6Mode, bound: BoundLease<GrantedLease>) -> ClientS
     }
 }
 
-// For how many milliseconds the client has tried.
+// For how many milliseconds the client has tried: from the first poll in its state on, or from the
+// moment within its stay from which it counts anew. RFC 8415 section 21.9 asks for 0 in the first
+// message; here the pause of Solicit is in it.
 fn elapsed(start: AttemptStart, exchange: Exchange) -> u64
     ensures { result ≡ table.elapsed start exchange }
 {
