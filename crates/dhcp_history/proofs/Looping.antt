@@ -1,8 +1,7 @@
 -- How the loop over events goes on by one poll and by one event, and that it reports what the history reports.
 use Rattle.std.proofs.Common.{◌≡◌, ℕ, suc, zero, ◌-◌, ◌<◌, List, [], ◌∷◌, ◌++◌, Bool, true, false, refl, ap, sym, subst, arith, ◌∙◌, append_assoc, append-nil}
-use Rattle.std.specs.Prelude.{Option, Some, None, is_some, option_map, drop, slice_get, Vec, Result, Ok, Err, OnOk, IfOk, IfSome, IsSomeAnd}
+use Rattle.std.specs.Prelude.{Option, Some, None, is_some, option_map, drop, slice_get, Result, Ok, Err, OnOk, IfOk, IfSome, IsSomeAnd}
 use Rattle.std.specs.declared.alloc.AllocError.{AllocError}
-use Rattle.std.proofs.Common.{Global}
 use Rattle.dhcp_clock.specs.declared.link.Packet.{Packet}
 use Rattle.dhcp_clock.specs.declared.link.Handed.{Handed}
 use Rattle.dhcp_clock.specs.declared.link.Sent.{Sent}
@@ -14,7 +13,7 @@ use Rattle.dhcp_history.specs.declared.release.ReleaseError.TheVariants as relea
 use Rattle.dhcp_history.specs.Protocol.{Protocol, Lawful, has_come}
 use Rattle.dhcp_history.specs.Script.{Input, Nothing, Arrival, Release, CleanUp, Event, Output, Changed, Script, after_call}
 use Rattle.dhcp_history.specs.History.{history, outputs, reading_of}
-use Rattle.dhcp_history.specs.Machine.{View, PollEffect, EventEffect, is_listening, is_stopped, limit_is_over, has_ended, begin_stay, attempt_now, transmit, take_answer, receive, transmit_and_receive, poll, after_poll, clean_up, release_of, replay, replay_from, first_view, handed_output}
+use Rattle.dhcp_history.specs.Machine.{View, PollEffect, EventEffect, is_listening, is_stopped, limit_is_over, has_ended, begin_stay, attempt_now, transmit, take_answer, receive, transmit_and_receive, poll, after_poll, clean_up, release_of, replay_from, first_view, handed_output}
 use Rattle.dhcp_history.specs.Run.{input_of, waiting_of, handed_by, shown_after, UnlessNoMemory, answer_by, answer_of, HasPolled}
 use Rattle.dhcp_history.specs.Release.{UnlessOutOfMemory, ReleaseEffect, release_by, release_held, HasReleased}
 use Rattle.dhcp_history.proofs.Calls.{replay_history}

@@ -1,9 +1,32 @@
-//! The errors of a client's calls, as `DhcpError`.
+//! The errors of a client's calls: out of memory as one of them, and each as `DhcpError`.
 
 ghost use Rattle.dhcp_history.specs.Errors as errors;
 
 use crate::{ReleaseError, RunError};
 use dhcp_wire::{DhcpError, ErrorKind, FixedText};
+use std::alloc::AllocError;
+
+impl From<AllocError> for RunError {
+    ghost use Rattle.std.specs.Prelude.{◌≡◌};
+    ghost use Rattle.dhcp_history.specs.declared.machine.RunError.{RunError};
+
+    ghost from_gives = { λ _ given. given ≡ RunError.OutOfMemory };
+
+    fn from(_error: AllocError) -> RunError {
+        RunError::OutOfMemory
+    }
+}
+
+impl From<AllocError> for ReleaseError {
+    ghost use Rattle.std.specs.Prelude.{◌≡◌};
+    ghost use Rattle.dhcp_history.specs.declared.release.ReleaseError.{ReleaseError};
+
+    ghost from_gives = { λ _ given. given ≡ ReleaseError.OutOfMemory };
+
+    fn from(_error: AllocError) -> ReleaseError {
+        ReleaseError::OutOfMemory
+    }
+}
 
 impl From<RunError> for DhcpError {
     ghost use Rattle.std.specs.Prelude.{◌≡◌};

@@ -236,13 +236,9 @@ fn receive_early<R: Rules, W: Words, L: DhcpLink>(
     ensures later { L.faults link.old ≤ L.faults link.new }
 {
     client.standing = begun;
-    match receive(rules, client, now, words, link) {
-        Ok(change) => {
-            client.last_moment = now;
-            Ok(change)
-        }
-        Err(_) => Err(RunError::OutOfMemory),
-    }
+    let change = receive(rules, client, now, words, link)?;
+    client.last_moment = now;
+    Ok(change)
 }
 
 // A poll whose attempt is due: the attempt, and then the packet, for a client that stands so once
@@ -282,14 +278,8 @@ fn transmit_due<R: Rules, W: Words, L: DhcpLink>(
         UsesLink false before after)) }
     ensures later { L.faults link.old ≤ L.faults link.new }
 {
-    match transmit(rules, client, begun, now, words, link) {
-        Ok(()) => {}
-        Err(_) => return Err(RunError::OutOfMemory),
-    }
-    match receive(rules, client, now, words, link) {
-        Ok(change) => Ok(change),
-        Err(_) => Err(RunError::OutOfMemory),
-    }
+    transmit(rules, client, begun, now, words, link)?;
+    Ok(receive(rules, client, now, words, link)?)
 }
 
 /// One poll at a moment, in milliseconds, in seven steps: a kept error, the time limit, the end of

@@ -60,10 +60,8 @@ pub fn release_held<R: Rules, L: DhcpLink>(
     ensures faults { HasCause (result ≡ Err ReleaseError.Refused)
         (L.faults link.old) (L.faults link.new) }
 {
-    let message = match rules.release_message(&client.state, client.standing.exchange) {
-        Ok(None) => return Ok(false),
-        Ok(Some(message)) => message,
-        Err(_) => return Err(ReleaseError::OutOfMemory),
+    let Some(message) = rules.release_message(&client.state, client.standing.exchange)? else {
+        return Ok(false);
     };
     release_by(rules, client, message, link)?;
     Ok(true)
