@@ -1,29 +1,24 @@
 -- The traffic of a client's history: its waits, by the laws of histories.
-use Rattle.std.proofs.Common.{◌≡◌, ℕ, ◌+◌, ◌-◌, ◌*◌, ◌^◌, ◌≤◌, ◌<◌, List, refl, Bool, true, false, arith, ◌⊎◌, inl, inr}
-use Rattle.std.specs.Prelude.{Option, Some, None, All, ◌||◌, nat_le}
+use Rattle.std.proofs.Common.{◌≡◌, ℕ, ◌+◌, ◌-◌, ◌*◌, ◌^◌, ◌≤◌, ◌<◌, List, refl, Bool, true, arith}
+use Rattle.std.specs.Prelude.{Option, All, nat_le}
 use Rattle.std.specs.List.{Contains}
-use Rattle.std.proofs.lemmas.Bool.{leb-true, leb-false, le-leb}
+use Rattle.std.proofs.lemmas.Bool.{leb-true, le-leb}
 use Rattle.std.proofs.lemmas.List.Elements.{All-contains, All-contains_itself, All-weaker}
 use Rattle.dhcp_clock.specs.declared.link.Handed.{Handed}
 use Rattle.dhcp_clock.specs.declared.link.Packet.{Packet}
-use Rattle.dhcp_clock.specs.Wait.{half_wait}
-use Rattle.dhcp_clock.specs.Words.{next_of}
-use Rattle.dhcp_history.specs.Protocol.{has_come}
 use Rattle.dhcp_history.specs.Script.{Script}
 use Rattle.dhcp_history.specs.History.{Stay, history}
 use Rattle.dhcp_history.specs.Bounds as generic
 use Rattle.dhcp_history.specs.Bounds.{HoldsAtEntries, EndsAfter, Halved, HasAtMost, attempts_of, taken_count, IsKept, Distant, IsTakenDistant}
 use Rattle.dhcp4_lease.specs.Config.{Config}
 use Rattle.dhcp4_lease.specs.Lease.{Lease}
-use Rattle.dhcp4_client.specs.declared.answer.Answer.{Answer}
-use Rattle.dhcp4_client.specs.declared.answer.Answer.TheVariants.{Granted, Refused}
 use Rattle.dhcp4_client.specs.declared.client_state.ClientState.{ClientState}
 use Rattle.dhcp4_client.specs.declared.client_state.ClientState.TheVariants.{InitReboot, Selecting, Rebooting, Done, Renewing, Rebinding}
 use Rattle.dhcp4_client.specs.declared.client_state.Exchange.{Exchange}
 use Rattle.dhcp4_client.specs.BoundLease.{renewal, rebinding, expiry}
 use Rattle.dhcp4_client.specs.Bounds.{HalvesIn, HalvesFor, GetsRarer, FourFor, HasFourRequests, distance, AreFarApart}
 use Rattle.dhcp4_client.specs.Client.{first_state}
-use Rattle.dhcp4_client.specs.Rules.{protocol, after_answer, after_end, ending_moment, is_last_attempt}
+use Rattle.dhcp4_client.specs.Rules.{protocol}
 use Rattle.dhcp4_client.proofs.Lawful.{discovery_wait_long}
 
 -- a lease is renewed from T1 on, and rebound from T2 on
@@ -35,35 +30,12 @@ is_due (Done bound) now = true
 is_due (Renewing bound) now = nat_le (renewal bound) now
 is_due (Rebinding bound) now = nat_le (rebinding bound) now
 
-or_false : (b : Bool) → (b || false) ≡ true → b ≡ true
-or_false true h = refl
-or_false false h = h
-
-due_answered : (state : ClientState) (answer : Answer) (now : ℕ) (exchange : Exchange) → is_due (after_answer state answer now exchange).state now ≡ true
-due_answered InitReboot (Granted lease) now exchange = refl
-due_answered InitReboot Refused now exchange = refl
-due_answered (Selecting offer) (Granted lease) now exchange = refl
-due_answered (Selecting offer) Refused now exchange = refl
-due_answered (Rebooting held) (Granted lease) now exchange = refl
-due_answered (Rebooting held) Refused now exchange = refl
-due_answered (Done bound) (Granted lease) now exchange = refl
-due_answered (Done bound) Refused now exchange = refl
-due_answered (Renewing bound) (Granted lease) now exchange = refl
-due_answered (Renewing bound) Refused now exchange = refl
-due_answered (Rebinding bound) (Granted lease) now exchange = refl
-due_answered (Rebinding bound) Refused now exchange = refl
-
-due_ended : (state : ClientState) (exchange after : Exchange) (now : ℕ) → (has_come now (ending_moment state) || is_last_attempt state exchange) ≡ true →
-    is_due (after_end state after).state now ≡ true
-due_ended InitReboot exchange after now h = refl
-due_ended (Selecting offer) exchange after now h = refl
-due_ended (Rebooting held) exchange after now h = refl
-due_ended (Done bound) exchange after now h = or_false (nat_le (renewal bound) now) h
-due_ended (Renewing bound) exchange after now h = or_false (nat_le (rebinding bound) now) h
-due_ended (Rebinding bound) exchange after now h = refl
-
 due_at_entries : (config : Config) → HoldsAtEntries (protocol config) is_due
-due_at_entries config = record { cut = λ exchange now. refl; answer = due_answered; end = due_ended }
+due_at_entries config = record {
+  cut = λ exchange now. refl;
+  answer = λ state answer now exchange. grind arith;
+  end = λ state exchange after now h. grind arith;
+}
 
 seconds : (count since first last entered : ℕ) → generic.Halves count (since + 1000 * last - entered) → since + 1000 * first ≤ entered → HalvesIn count (last - first)
 seconds count since first last entered h due two = go (2 ^ (count - 2)) (h two)
@@ -85,8 +57,7 @@ rarer_by config (Rebinding bound) entered count due h =
     (h (expiry bound) (record { ends = refl; waits = λ exchange start words. refl })) (leb-true (rebinding bound) entered due)
 
 first_due : (lease : Option Lease) (now : ℕ) → is_due (first_state lease) now ≡ true
-first_due None now = refl
-first_due (Some lease) now = refl
+first_due lease now = grind arith
 
 pub rarer_history : (config : Config) →
     ((holds : ClientState → ℕ → Bool) → HoldsAtEntries (protocol config) holds → (script : Script Packet ClientState Exchange) → ((now : ℕ) → holds script.state now ≡ true) →
@@ -134,28 +105,10 @@ kept : (config : Config) → IsKept (protocol config) always
 unfolding always
 kept config = record { after_wait = λ exchange h. refl; cleaned = λ exchange. refl; answered = λ state answer now exchange. refl; ended = λ state exchange. refl }
 
-half_far : (end now : ℕ) → now < end → (60000 ≤ half_wait (end - now)) ⊎ (end ≤ now + half_wait (end - now))
-half_far end now h = go (nat_le 60000 (end - now)) refl
-  where
-    go : (b : Bool) → nat_le 60000 (end - now) ≡ b → (60000 ≤ half_wait (end - now)) ⊎ (end ≤ now + half_wait (end - now))
-    go true e = let long : 60000 ≤ end - now = leb-true 60000 (end - now) e in inl (omega (arith, long))
-    go false e = let short : end - now < 60000 = leb-false 60000 (end - now) e in inr (omega (arith, short, h))
-
-half_distant : (end now : ℕ) → has_come now (Some end) ≡ false → ((60000 ≤ half_wait (end - now)) × (true ≡ true)) ⊎ (has_come (now + half_wait (end - now)) (Some end) ≡ true)
-half_distant end now h = go (half_far end now (leb-false end now h))
-  where
-    go : (60000 ≤ half_wait (end - now)) ⊎ (end ≤ now + half_wait (end - now)) → ((60000 ≤ half_wait (end - now)) × (true ≡ true)) ⊎ (has_come (now + half_wait (end - now)) (Some end) ≡ true)
-    go (inl far) = inl (far, refl)
-    go (inr past) = inr (le-leb end (now + half_wait (end - now)) past)
-
+-- each wait is as long as its state has it at least, or lasts to the end of the state
 distant : (config : Config) (state : ClientState) → Distant (protocol config) always state (distance state)
 unfolding always
-distant config InitReboot = record { far = λ exchange start words g h. inl (discovery_wait_long exchange.retry_count (next_of words), refl) }
-distant config (Selecting offer) = record { far = λ exchange start words g h. inl (discovery_wait_long exchange.retry_count (next_of words), refl) }
-distant config (Rebooting held) = record { far = λ exchange start words g h. inl (discovery_wait_long exchange.retry_count (next_of words), refl) }
-distant config (Done bound) = record { far = λ exchange start words g h. half_distant (renewal bound) start.now h }
-distant config (Renewing bound) = record { far = λ exchange start words g h. half_distant (rebinding bound) start.now h }
-distant config (Rebinding bound) = record { far = λ exchange start words g h. half_distant (expiry bound) start.now h }
+distant config state = record { far = λ exchange start words g h. grind (arith, discovery_wait_long) }
 
 pub far_history : (config : Config) →
     ((good : Exchange → Bool) → IsKept (protocol config) good → (script : Script Packet ClientState Exchange) → good script.exchange ≡ true →
