@@ -72,7 +72,7 @@ impl DhcpV4Client {
         ensures undrawn { OnErr result (W.left words.new ≡ W.left words.old) }
     {
         if !can_begin(&config, &lease) {
-            return Err(DhcpError::new_fixed(ErrorKind::InvalidArgument, FixedText::Config));
+            return Err(refused_start(&lease));
         }
         let exchange = Exchange {
             xid: words.next_word(),
@@ -158,6 +158,18 @@ fn can_begin(config: &DhcpV4Config, lease: &Option<DhcpV4Lease>) -> bool
         None => true,
     };
     config.iface_index != 0 && config.is_within_limits() && is_in_order
+}
+
+// The error of a client that cannot begin: its lease is out of order, or else its configuration is
+// outside its limits.
+fn refused_start(lease: &Option<DhcpV4Lease>) -> DhcpError
+    ensures { result.kind ≡ ErrorKind.InvalidArgument }
+{
+    let text = match lease {
+        Some(lease) if !lease.are_times_in_order() => FixedText::Times,
+        _ => FixedText::Config,
+    };
+    DhcpError::new_fixed(ErrorKind::InvalidArgument, text)
 }
 
 // The state in which it begins.

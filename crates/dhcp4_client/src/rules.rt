@@ -117,14 +117,13 @@ impl Rules for ClientRules {
         words: &mut W,
     ) -> Result<NewAttempt<Exchange, Handed>, AllocError> {
         let wait = wait(state, exchange, start.now, words);
-        match attempt_message(self.alloc, exchange.xid, &self.config, state) {
-            Ok(message) => Ok(NewAttempt {
-                wait,
-                message,
-                exchange,
-            }),
-            Err(_) => Err(AllocError),
-        }
+        let built = attempt_message(self.alloc, exchange.xid, &self.config, state);
+        let message = built.map_err(|_| AllocError)?;
+        Ok(NewAttempt {
+            wait,
+            message,
+            exchange,
+        })
     }
 
     fn reading<W: Words>(
@@ -137,10 +136,7 @@ impl Rules for ClientRules {
         let Some(awaited) = Awaited::in_state(state) else {
             return Ok(None);
         };
-        match read_answer(self.alloc, awaited, exchange.xid, &packet, words) {
-            Ok(answer) => Ok(answer),
-            Err(_) => Err(AllocError),
-        }
+        read_answer(self.alloc, awaited, exchange.xid, &packet, words).map_err(|_| AllocError)
     }
 
     fn after_answer(
@@ -190,10 +186,8 @@ impl Rules for ClientRules {
         let Some(lease) = state.held_lease() else {
             return Ok(None);
         };
-        match release_message(self.alloc, exchange.xid, &self.config, Some(lease), lease) {
-            Ok(message) => Ok(Some(message)),
-            Err(_) => Err(AllocError),
-        }
+        let built = release_message(self.alloc, exchange.xid, &self.config, Some(lease), lease);
+        Ok(Some(built.map_err(|_| AllocError)?))
     }
 }
 
@@ -241,10 +235,7 @@ impl ClientRules {
             reported ≡ table.public_state state.new) }
         ensures unchanged { OnErr result (state.new ≡ state.old) }
     {
-        let reported = match ReportedState::done(self.alloc, &lease) {
-            Ok(reported) => reported,
-            Err(_) => return Err(AllocError),
-        };
+        let reported = ReportedState::done(self.alloc, &lease).map_err(|_| AllocError)?;
         *state = ClientState::Done(BoundLease::new(lease, now));
         *exchange = restarted(*exchange);
         Ok(reported)

@@ -17,13 +17,13 @@ use Rattle.dhcp6_client.specs.declared.client_state.ClientState.{ClientState}
 use Rattle.dhcp6_client.specs.declared.client_state.ClientState.TheVariants.{Solicit, Request, Done, Temporary, Renew, Rebind}
 
 -- the type that a state awaits
-abbrev pub awaited : ClientState → Option DhcpV6MessageType
-awaited Solicit = Some Advertise
-awaited (Request offer) = Some Reply
-awaited (Done bound) = None
-awaited (Temporary bound) = None
-awaited (Renew bound) = Some Reply
-awaited (Rebind bound) = Some Reply
+abbrev pub awaited_type : ClientState → Option DhcpV6MessageType
+awaited_type Solicit = Some Advertise
+awaited_type (Request offer) = Some Reply
+awaited_type (Done bound) = None
+awaited_type (Temporary bound) = None
+awaited_type (Renew bound) = Some Reply
+awaited_type (Rebind bound) = Some Reply
 
 -- the payload of a packet; a frame has none here
 abbrev pub payload_by : PacketKind → List ℕ → Option (List ℕ)

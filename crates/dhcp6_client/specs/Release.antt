@@ -15,7 +15,7 @@ use Rattle.dhcp6_client.specs.Rules.{protocol}
 
 -- the error of a lease that a client may not hold or release
 abbrev pub lease_refused : ErrorParts
-lease_refused = error_of kinds.InvalidArgument (fixed_text texts.Unreadable)
+lease_refused = error_of kinds.InvalidArgument (fixed_text texts.Lease)
 
 -- the release of a lease by a client
 abbrev pub release_by : ClientParts → Lease → Handed

@@ -15,7 +15,7 @@ use Rattle.dhcp6_msg.specs.Lease.{Lease}
 use Rattle.dhcp6_client.specs.declared.client_state.ClientState.{ClientState}
 use Rattle.dhcp6_client.specs.declared.client_state.ClientState.TheVariants.{Solicit, Request, Done, Temporary, Renew, Rebind}
 use Rattle.dhcp6_client.specs.declared.client_state.Exchange.{Exchange}
-use Rattle.dhcp6_client.specs.Answer.{answer_of, awaited, message_for}
+use Rattle.dhcp6_client.specs.Answer.{answer_of, awaited_type, message_for}
 use Rattle.dhcp6_client.specs.BoundLease.{renewal, rebinding, expiry}
 use Rattle.dhcp6_client.specs.Message.{attempt_message, release_message}
 use Rattle.dhcp6_client.specs.State.{PlainState, done, solicit, request, renew, rebind}
@@ -48,7 +48,8 @@ ending_moment (Temporary bound) = Some (expiry bound)
 ending_moment (Renew bound) = Some (rebinding bound)
 ending_moment (Rebind bound) = Some (expiry bound)
 
--- Before its first Solicit a client waits up to a second, SOL_MAX_DELAY (RFC 8415, section 18.2.1).
+-- Before its first Solicit a client waits less than a second, SOL_MAX_DELAY (RFC 8415, section
+-- 18.2.1).
 abbrev pub first_pause : List ℕ → Drawn ℕ
 first_pause = drawn_then drawn_word (λ word. undrawn (draw 0 1000 word))
 
@@ -113,15 +114,15 @@ association_id (Rebind bound) words = undrawn 0 words
 -- for how many milliseconds the client has tried, from the first poll in its state on, or from the
 -- moment within its stay from which it counts anew; RFC 8415 section 21.9 asks for 0 in the first
 -- message, and here the pause of Solicit is in it
-abbrev pub elapsed : AttemptStart → Exchange → ℕ
-elapsed start exchange = start.now - max start.entered exchange.counted_from
+abbrev pub elapsed_time : AttemptStart → Exchange → ℕ
+elapsed_time start exchange = start.now - max start.entered exchange.counted_from
 
 -- an attempt with this transaction id, wait and association
 abbrev pub attempt_with : Config → ClientState → Exchange → AttemptStart → ℕ → ℕ → ℕ →
     NewAttempt Exchange Handed
 attempt_with config state exchange start xid time iaid = record {
   wait = time;
-  message = attempt_message xid config (elapsed start exchange) iaid state;
+  message = attempt_message xid config (elapsed_time start exchange) iaid state;
   exchange = record exchange { xid = xid; previous_wait = time };
 }
 
@@ -152,13 +153,13 @@ is_last_attempt (Rebind bound) exchange = false
 -- what a packet answers; it draws nothing
 abbrev pub reading : ClientState → Exchange → Packet → List ℕ → Drawn (Option Lease)
 reading state exchange packet words =
-    undrawn (answer_of (message_for (awaited state) exchange.xid packet)) words
+    undrawn (answer_of (message_for (awaited_type state) exchange.xid packet)) words
 
 -- Reading a packet may need memory only if it is a payload, and its transaction id and its type are
 -- those that the attempt awaits.
 abbrev pub needs_memory : ClientState → Exchange → Packet → Bool
 needs_memory state exchange packet =
-    is_some (message_for (awaited state) exchange.xid packet)
+    is_some (message_for (awaited_type state) exchange.xid packet)
 
 -- an exchange whose count and previous wait begin anew
 abbrev pub restarted : Exchange → Exchange

@@ -15,8 +15,8 @@ use dhcp6_msg::{DhcpV6Lease, DhcpV6MessageType, DhcpV6View};
 use std::alloc::Global;
 
 /// The type that a state awaits.
-pub fn awaited(state: &ClientState) -> Option<DhcpV6MessageType>
-    ensures { result ≡ answers.awaited state.now }
+pub fn awaited_type(state: &ClientState) -> Option<DhcpV6MessageType>
+    ensures { result ≡ answers.awaited_type state.now }
 {
     match state {
         ClientState::Solicit => Some(DhcpV6MessageType::Advertise),

@@ -90,7 +90,7 @@ impl DhcpV6Client {
         ensures undrawn { can_begin config lease ≡ false → W.left words.new ≡ W.left words.old }
     {
         if !can_begin(&config, &lease) {
-            return Err(DhcpError::new_fixed(ErrorKind::InvalidArgument, FixedText::Config));
+            return Err(refused_start(&lease));
         }
         let mut config = config;
         config.init_duid(alloc, words)?;
@@ -165,7 +165,7 @@ impl DhcpV6Client {
         ensures unchanged { OnErr result (self.new ≡ self.old) }
     {
         if !lease.is_within_limits() {
-            return Err(DhcpError::new_fixed(ErrorKind::InvalidArgument, FixedText::Unreadable));
+            return Err(DhcpError::new_fixed(ErrorKind::InvalidArgument, FixedText::Lease));
         }
         let exchange = restarted(self.client.standing.exchange);
         let state = bound_state(self.rules.config.mode, bound(lease, now));
@@ -194,6 +194,18 @@ fn can_begin(config: &DhcpV6Config, lease: &Option<DhcpV6Lease>) -> bool
         && (config.duid.is_empty() || is_duid(&config.duid))
         && config.is_within_limits()
         && is_held
+}
+
+// The error of a client that cannot begin: its lease is outside its limits, or else its
+// configuration is.
+fn refused_start(lease: &Option<DhcpV6Lease>) -> DhcpError
+    ensures { result.kind ≡ ErrorKind.InvalidArgument }
+{
+    let text = match lease {
+        Some(lease) if !lease.is_within_limits() => FixedText::Lease,
+        _ => FixedText::Config,
+    };
+    DhcpError::new_fixed(ErrorKind::InvalidArgument, text)
 }
 
 // A lease that is within its limits, from this moment on.

@@ -9,7 +9,7 @@ ghost use Rattle.dhcp6_client.specs.State.{done};
 ghost use Rattle.dhcp6_client.specs.declared.client_state.Exchange.{Exchange};
 
 use crate::DhcpV6State;
-use crate::answer::{awaited, read_answer};
+use crate::answer::{awaited_type, read_answer};
 use crate::bound_lease::{expiry, rebinding, renewal};
 use crate::client_state::{ClientState, Exchange};
 use crate::draws::{association_id, restarted, transaction_id, wait};
@@ -119,20 +119,19 @@ impl Rules for ClientRules {
         let xid = transaction_id(state, start.is_first, exchange, words);
         let wait = wait(state, exchange, start.now, words);
         let iaid = association_id(state, words);
-        let elapsed_ms = elapsed(start, exchange);
-        match attempt_message(self.alloc, xid, &self.config, elapsed_ms, iaid, state) {
-            Ok(message) => Ok(NewAttempt {
-                wait,
-                message,
-                exchange: Exchange {
-                    xid,
-                    retransmit_count: exchange.retransmit_count,
-                    previous_wait: wait as u32,
-                    counted_from: exchange.counted_from,
-                },
-            }),
-            Err(_) => Err(AllocError),
-        }
+        let elapsed_ms = elapsed_time(start, exchange);
+        let built = attempt_message(self.alloc, xid, &self.config, elapsed_ms, iaid, state);
+        let message = built.map_err(|_| AllocError)?;
+        Ok(NewAttempt {
+            wait,
+            message,
+            exchange: Exchange {
+                xid,
+                retransmit_count: exchange.retransmit_count,
+                previous_wait: wait as u32,
+                counted_from: exchange.counted_from,
+            },
+        })
     }
 
     fn reading<W: Words>(
@@ -142,13 +141,10 @@ impl Rules for ClientRules {
         packet: Packet,
         words: &mut W,
     ) -> Result<Option<GrantedLease>, AllocError> {
-        let Some(kind) = awaited(state) else {
+        let Some(kind) = awaited_type(state) else {
             return Ok(None);
         };
-        match read_answer(self.alloc, kind, exchange.xid, &packet) {
-            Ok(answer) => Ok(answer),
-            Err(_) => Err(AllocError),
-        }
+        read_answer(self.alloc, kind, exchange.xid, &packet).map_err(|_| AllocError)
     }
 
     // The first Advertise that grants a lease counts at once. By RFC 8415 section 18.2.1 a client
@@ -196,10 +192,8 @@ impl Rules for ClientRules {
         let Some(lease) = state.held_lease() else {
             return Ok(None);
         };
-        match release_message(self.alloc, exchange.xid, &self.config, lease) {
-            Ok(message) => Ok(Some(message)),
-            Err(_) => Err(AllocError),
-        }
+        let built = release_message(self.alloc, exchange.xid, &self.config, lease);
+        Ok(Some(built.map_err(|_| AllocError)?))
     }
 }
 
@@ -220,10 +214,7 @@ impl ClientRules {
             reported ≡ table.public_state state.new) }
         ensures unchanged { OnErr result (state.new ≡ state.old) }
     {
-        let reported = match ReportedState::done(self.alloc, lease.lease()) {
-            Ok(reported) => reported,
-            Err(_) => return Err(AllocError),
-        };
+        let reported = ReportedState::done(self.alloc, lease.lease()).map_err(|_| AllocError)?;
         *state = bound_state(self.config.mode, BoundLease::new(lease, now));
         *exchange = restarted(*exchange);
         Ok(reported)
@@ -275,8 +266,8 @@ pub fn bound_state(mode: DhcpV6Mode, bound: BoundLease<GrantedLease>) -> ClientS
 // For how many milliseconds the client has tried: from the first poll in its state on, or from the
 // moment within its stay from which it counts anew. RFC 8415 section 21.9 asks for 0 in the first
 // message; here the pause of Solicit is in it.
-fn elapsed(start: AttemptStart, exchange: Exchange) -> u64
-    ensures { result ≡ table.elapsed start exchange }
+fn elapsed_time(start: AttemptStart, exchange: Exchange) -> u64
+    ensures { result ≡ table.elapsed_time start exchange }
 {
     start
         .now

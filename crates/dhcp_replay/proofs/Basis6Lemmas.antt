@@ -13,9 +13,9 @@ use Rattle.dhcp6_msg.specs.Config.{Config}
 use Rattle.dhcp6_msg.specs.Lease.{Lease}
 use Rattle.dhcp6_msg.specs.declared.mode.DhcpV6Mode.{DhcpV6Mode}
 use Rattle.dhcp6_msg.specs.declared.mode.DhcpV6Mode.TheVariants.{NonTemporaryAddresses, TemporaryAddresses, PrefixDelegation}
-use Rattle.dhcp6_client.specs.Answer.{answer_of, awaited, message_for}
+use Rattle.dhcp6_client.specs.Answer.{answer_of, awaited_type, message_for}
 use Rattle.dhcp6_client.specs.Client.{first_state}
-use Rattle.dhcp6_client.specs.Rules.{after_answer, after_end, association_id, attempt, bound_state, elapsed, protocol, reading, transaction_id, wait}
+use Rattle.dhcp6_client.specs.Rules.{after_answer, after_end, association_id, attempt, bound_state, elapsed_time, protocol, reading, transaction_id, wait}
 use Rattle.dhcp6_client.specs.declared.client_state.ClientState.{ClientState}
 use Rattle.dhcp6_client.specs.declared.client_state.ClientState.TheVariants.{Solicit, Request, Done, Temporary, Renew, Rebind}
 use Rattle.dhcp6_client.specs.declared.client_state.Exchange.{Exchange}
@@ -53,9 +53,9 @@ module _ (config : Config) (before : Option Lease) (events : List (LifeEvent Pac
   fits state exchange start words good =
       let id = transaction_id state start.is_first exchange words in
       let time = wait state exchange start.now id.left in
-      record { xid = id.value; elapsed = elapsed start exchange; iaid = (association_id state time.left).value; is = refl }
+      record { xid = id.value; elapsed = elapsed_time start exchange; iaid = (association_id state time.left).value; is = refl }
 
-  granted : (state : ClientState) (xid : ℕ) (packet : Packet) (lease : Lease) → answer_of (message_for (awaited state) xid packet) ≡ Some lease → answer_of (message_for (Some (grant_of state)) xid packet) ≡ Some lease
+  granted : (state : ClientState) (xid : ℕ) (packet : Packet) (lease : Lease) → answer_of (message_for (awaited_type state) xid packet) ≡ Some lease → answer_of (message_for (Some (grant_of state)) xid packet) ≡ Some lease
   granted Solicit xid packet lease is = is
   granted (Request offer) xid packet lease is = is
   granted (Done bound) xid packet lease is = absurd (cc is)

@@ -25,7 +25,7 @@ use Rattle.dhcp6_msg.specs.declared.message_type.DhcpV6MessageType.{DhcpV6Messag
 use Rattle.dhcp6_msg.specs.declared.mode.DhcpV6Mode.{DhcpV6Mode}
 use Rattle.dhcp6_msg.specs.declared.mode.DhcpV6Mode.TheVariants.{NonTemporaryAddresses, TemporaryAddresses, PrefixDelegation}
 use Rattle.dhcp6_msg.proofs.LimitLemmas.{within_limits}
-use Rattle.dhcp6_client.specs.Answer.{answer_of, awaited, concerns, lease_if_read, message_for, payload_in}
+use Rattle.dhcp6_client.specs.Answer.{answer_of, awaited_type, concerns, lease_if_read, message_for, payload_in}
 use Rattle.dhcp6_client.specs.Rules.{after_answer, after_end, bound_state, protocol, public_state, reading}
 use Rattle.dhcp6_client.specs.State as states6
 use Rattle.dhcp6_client.specs.declared.client_state.ClientState.{ClientState}
@@ -117,7 +117,7 @@ bound_typed (PrefixDelegation length) lease now typed = typed
 
 answered_text : (config : Config) (state : ClientState) (exchange : Exchange) (packet : Packet) (words : List ℕ) (lease : Lease) (now : ℕ) →
     (reading state exchange packet words).value ≡ Some lease → HasStateText6 (public_state (after_answer config state lease now exchange).state)
-answered_text config state exchange packet words lease now is = go state (answer_typed (awaited state) exchange.xid packet lease is)
+answered_text config state exchange packet words lease now is = go state (answer_typed (awaited_type state) exchange.xid packet lease is)
   where
     go : (state : ClientState) → IsTrue (is_typed lease.ia_type) → HasStateText6 (public_state (after_answer config state lease now exchange).state)
     go Solicit typed = tt

@@ -28,7 +28,7 @@ impl DhcpV6Client {
             (L.shown link.old) (L.shown link.new) (L.faults link.old) (L.faults link.new) }
     {
         if !is_duid(&lease.srv_duid) {
-            return Err(DhcpError::new_fixed(ErrorKind::InvalidArgument, FixedText::Unreadable));
+            return Err(DhcpError::new_fixed(ErrorKind::InvalidArgument, FixedText::Lease));
         }
         let xid = self.client.standing.exchange.xid;
         let message = release_message(self.rules.alloc, xid, &self.rules.config, lease)?;
