@@ -1,6 +1,6 @@
 //! Reading a lease.
 
-ghost use Rattle.std.specs.Prelude.{◌≡◌, ◌⊎◌, IfErr, IfOk, IfSome, IsTrue, None, Some};
+ghost use Rattle.std.specs.Prelude.{◌≡◌, ◌⊎◌, IfErr, IfOk, IfSome, IsSomeAnd, IsTrue, None, Ok, Some};
 ghost use Rattle.dhcp_wire.specs.Error.{no_memory};
 ghost use Rattle.dhcp4_msg.specs.Message.{read_message};
 ghost use Rattle.dhcp4_msg.specs.Options.{message_type};
@@ -13,7 +13,7 @@ use dhcp4_msg::{DhcpV4Message, DhcpV4MessageType};
 use std::alloc::Global;
 use std::net::Ipv4Addr;
 
-/// The lease that an Ack grants; none if the payload is a message of another type.
+/// The lease that an Ack grants; none if and only if the payload is a message of another type.
 pub fn lease_of_ack<W: Words>(
     alloc: Global,
     payload: &[u8],
@@ -24,6 +24,8 @@ pub fn lease_of_ack<W: Words>(
     ensures acknowledged { IfOk result (λ found. IfSome found (λ lease.
         IfSome (read_message payload.now) (λ message.
         message_type message.options ≡ Some DhcpV4MessageType.Ack))) }
+    ensures other { result ≡ Ok None → IsSomeAnd (read_message payload.now) (λ message.
+        message_type message.options ≡ Some DhcpV4MessageType.Ack → ⊥) }
     ensures in_order { IfOk result (λ found. IfSome found (λ lease.
         IsTrue (are_times_in_order lease))) }
     ensures error { IfErr result (λ e.

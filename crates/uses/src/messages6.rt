@@ -1,6 +1,6 @@
 //! Messages of a DHCPv6 client: the search for servers, and the lease of an answer.
 
-ghost use Rattle.std.specs.Prelude.{◌≡◌, ◌⊎◌, Err, IfErr, IfOk, IfSome, IsTrue, Ok, is_some};
+ghost use Rattle.std.specs.Prelude.{◌≡◌, ◌⊎◌, Err, IfErr, IfOk, IfSome, IsTrue, None, Ok, is_some};
 ghost use Rattle.dhcp_wire.specs.Error.{no_memory};
 ghost use Rattle.dhcp6_msg.specs.Config.{is_within_limits};
 ghost use Rattle.dhcp6_msg.specs.Lease.{Lease, are_times_in_order, read_lease};
@@ -41,8 +41,8 @@ pub fn solicit_payload(
     Ok(Some(message.emit(alloc)?))
 }
 
-/// The lease that a Reply with this transaction id grants, or its refusal. None if the payload is
-/// another message; it is tested before anything is copied.
+/// The lease that a Reply with this transaction id grants, or its refusal. None if and only if the
+/// payload is not such a Reply; that is tested before anything is copied.
 pub fn lease_of_reply(
     alloc: Global,
     payload: &[u8],
@@ -53,6 +53,8 @@ pub fn lease_of_reply(
     ensures addressed { IfOk result (λ found. IfSome found (λ lease.
         IfSome (read_message payload.now) (λ message. (id_number message.xid ≡ xid)
         × (message.msg_type ≡ DhcpV6MessageType.Reply)))) }
+    ensures other { result ≡ Ok None → IfSome (read_message payload.now) (λ message.
+        id_number message.xid ≡ xid → message.msg_type ≡ DhcpV6MessageType.Reply → ⊥) }
     ensures in_order { IfOk result (λ found. IfSome found (λ lease.
         IsTrue (are_times_in_order lease))) }
     ensures error { IfErr result (λ e. (e ≡ no_memory)
