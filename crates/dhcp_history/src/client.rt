@@ -36,8 +36,8 @@ pub struct Standing<X> {
 pub struct Client<S, X> {
     /// What it is in, with what that rests on.
     pub state: S,
-    /// Its time limit in each state in which it sends, in seconds from the first poll there; 0 is no
-    /// limit.
+    /// Its time limit in each state in which it sends, in seconds from the first poll there; 0 is
+    /// no limit.
     pub timeout_sec: u32,
     /// Where it stands in its state.
     pub standing: Standing<X>,
