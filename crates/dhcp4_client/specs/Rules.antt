@@ -46,9 +46,9 @@ ending_moment (Done bound) = Some (renewal bound)
 ending_moment (Renewing bound) = Some (rebinding bound)
 ending_moment (Rebinding bound) = Some (expiry bound)
 
--- Before its first Discover a client waits less than 200 milliseconds, so that clients that start at
--- once do not send at once (RFC 2131, section 4.4.1, asks for 1 to 10 seconds). One that has tried
--- before does not.
+-- Before its first Discover a client waits less than 200 milliseconds, so that clients that start
+-- at once do not send at once (RFC 2131, section 4.4.1, asks for 1 to 10 seconds). One that has
+-- tried before does not.
 abbrev pub first_pause : Exchange → List ℕ → Drawn ℕ
 first_pause exchange words =
     if exchange.retry_count == 0
