@@ -1,5 +1,5 @@
 -- What a client begins with.
-use Rattle.std.proofs.Common.{◌≡◌, true, ap, ◌∙◌, refl, rules}
+use Rattle.std.proofs.Common.{◌≡◌, true, ap, ◌∙◌, rules}
 use Rattle.dhcp6_msg.specs.declared.mode.DhcpV6Mode.{DhcpV6Mode}
 use Rattle.dhcp6_msg.specs.Config.{Config}
 use Rattle.dhcp6_client.specs.Client.{can_begin, first_state}
