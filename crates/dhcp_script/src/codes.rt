@@ -23,8 +23,8 @@ pub trait ListedCodes: Drop {
     /// The text of a list of codes.
     ghost codes_text: { Self → List ℕ };
 
-    /// The codes of a field. `Malformed` if and only if it is the text of no list; else out of
-    /// memory is the only error.
+    /// The codes of a field. `Malformed` only if it is the text of no list; out of memory is the
+    /// only other error.
     fn from_field(alloc: Global, field: &[u8]) -> Result<Self, ReadError>
         ensures { Finds result (codes_in field.now) };
 
@@ -73,7 +73,7 @@ impl ListedCodes for Sequence<u16> {
 }
 
 /// Reads the line `codes`: the codes that are listed, or none for the word `default`. `Malformed`
-/// if and only if the text does not go on with such a line; else out of memory is the only error.
+/// only if the text does not go on with such a line; out of memory is the only other error.
 pub fn read_codes<C: ListedCodes>(
     alloc: Global,
     text: &mut TextReader,

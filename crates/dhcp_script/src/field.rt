@@ -35,8 +35,8 @@ pub trait Field: Drop {
     /// The text of a value.
     ghost field_text: { Self → List ℕ };
 
-    /// The value of a field. `Malformed` if and only if the field is the text of no value; else out
-    /// of memory is the only error.
+    /// The value of a field. `Malformed` only if the field is the text of no value; out of memory
+    /// is the only other error.
     fn from_field(alloc: Global, field: &[u8]) -> Result<Self, ReadError>
         ensures { Finds result (value_in field.now) };
 
@@ -298,8 +298,8 @@ fn number(field: &[u8], max: u64) -> Result<u64, ReadError>
     number_field(field, max).ok_or(ReadError::Malformed)
 }
 
-/// The bytes of a field in lower-case hex; `-` is no bytes. `Malformed` if and only if the field is
-/// neither; else out of memory is the only error.
+/// The bytes of a field in lower-case hex; `-` is no bytes. `Malformed` only if the field is
+/// neither; out of memory is the only other error.
 pub fn hex(alloc: Global, field: &[u8]) -> Result<Bytes, ReadError>
     ensures { Finds result (hex_in field.now) }
 {
@@ -307,7 +307,7 @@ pub fn hex(alloc: Global, field: &[u8]) -> Result<Bytes, ReadError>
 }
 
 /// The option codes of a field in lower-case hex, four digits for each; `-` is no codes.
-/// `Malformed` if and only if the field is neither; else out of memory is the only error.
+/// `Malformed` only if the field is neither; out of memory is the only other error.
 pub fn hex_codes(alloc: Global, field: &[u8]) -> Result<Sequence<u16>, ReadError>
     ensures { Finds result (numbers_in w16 field.now) }
 {
@@ -374,9 +374,8 @@ pub fn push_three_more<A: Field, B: Field, C: Field>(
     text.push(' ')
 }
 
-/// Reads the field before the next byte `end`, and skips that byte. `Malformed` if and only if
-/// there is no such byte, or the field is the text of no value; else out of memory is the only
-/// error.
+/// Reads the field before the next byte `end`, and skips that byte. `Malformed` only if there is no
+/// such byte, or the field is the text of no value; out of memory is the only other error.
 pub fn read_field<T: Field>(alloc: Global, text: &mut TextReader, end: u8) -> Result<T, ReadError>
     ensures { Takes result text.new (in_field T.value_in end text.old) }
 {

@@ -24,8 +24,8 @@ pub struct Life {
     pub events: Sequence<Event>,
 }
 
-/// Reads the lines from `words` to `end`. `Malformed` if and only if the text does not go on with
-/// them; else out of memory is the only error.
+/// Reads the lines from `words` to `end`. `Malformed` only if the text does not go on with them;
+/// out of memory is the only other error.
 #[tactic(auto, unfolding(crate::specs::LifeReader::life_at))]
 pub fn read_life(alloc: Global, text: &mut TextReader) -> Result<Life, ReadError>
     ensures { Takes result text.new (life_at text.old) }

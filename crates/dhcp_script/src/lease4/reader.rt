@@ -95,8 +95,8 @@ impl Version2Fields {
     }
 }
 
-/// Reads the fields of a lease in a version, to the end of the line. `Malformed` if and only if the
-/// text does not go on with them; else out of memory is the only error.
+/// Reads the fields of a lease in a version, to the end of the line. `Malformed` only if the text
+/// does not go on with them; out of memory is the only other error.
 #[tactic(auto, unfolding(crate::specs::Lease4Reader::lease4_at))]
 pub fn read_lease(
     alloc: Global,

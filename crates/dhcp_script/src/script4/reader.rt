@@ -30,8 +30,8 @@ struct Identity4 {
     codes: Option<Bytes>,
 }
 
-/// Reads a script in a version, after its first line. `Malformed` if and only if the text does not
-/// go on with one; else out of memory is the only error.
+/// Reads a script in a version, after its first line. `Malformed` only if the text does not go on
+/// with one; out of memory is the only other error.
 #[tactic(auto, unfolding(crate::specs::ScriptReader::script4_at))]
 pub fn read_script4(
     alloc: Global,

@@ -38,8 +38,8 @@ struct Identity6 {
     codes: Option<Sequence<u16>>,
 }
 
-/// Reads a script in a version, after its first line. `Malformed` if and only if the text does not
-/// go on with one; else out of memory is the only error.
+/// Reads a script in a version, after its first line. `Malformed` only if the text does not go on
+/// with one; out of memory is the only other error.
 #[tactic(auto, unfolding(crate::specs::ScriptReader::script6_at))]
 pub fn read_script6(
     alloc: Global,
