@@ -13,7 +13,7 @@ use dhcp4_msg::{DhcpV4Message, DhcpV4MessageType};
 use std::alloc::Global;
 use std::net::Ipv4Addr;
 
-/// The lease that an Ack grants; none if and only if the payload is a message of another type.
+/// The lease that an Ack grants; none only if the payload is a message of another type.
 pub fn lease_of_ack<W: Words>(
     alloc: Global,
     payload: &[u8],

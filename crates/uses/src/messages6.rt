@@ -41,8 +41,8 @@ pub fn solicit_payload(
     Ok(Some(message.emit(alloc)?))
 }
 
-/// The lease that a Reply with this transaction id grants, or its refusal. None if and only if the
-/// payload is not such a Reply; that is tested before anything is copied.
+/// The lease that a Reply with this transaction id grants, or its refusal. None only if the payload
+/// is not such a Reply; that is tested before anything is copied.
 pub fn lease_of_reply(
     alloc: Global,
     payload: &[u8],
