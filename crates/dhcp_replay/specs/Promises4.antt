@@ -3,7 +3,7 @@ use Rattle.std.specs.Prelude.{◌≡◌, ℕ, ◌≤◌, List, All, Option, Some
 use Rattle.dhcp_clock.specs.declared.link.Handed.{Handed}
 use Rattle.dhcp_clock.specs.declared.link.Packet.{Packet}
 use Rattle.dhcp_clock.specs.Words.{next_of}
-use Rattle.dhcp_history.specs.Bounds.{allowed, count_of, is_send_at}
+use Rattle.dhcp_history.specs.Bounds.{KeepsDistance, allowed, count_of, is_send_at}
 use Rattle.dhcp_history.specs.History.{outputs}
 use Rattle.dhcp_history.specs.Machine.{first_view}
 use Rattle.dhcp_history.specs.declared.script.Event.{Event as LifeEvent}
@@ -12,7 +12,7 @@ use Rattle.dhcp4_msg.specs.declared.message_type.DhcpV4MessageType.TheVariants.{
 use Rattle.dhcp4_lease.specs.Config.{Config}
 use Rattle.dhcp4_lease.specs.Lease.{Lease}
 use Rattle.dhcp4_client.specs.Answer.{awaited, message_for, reading_of}
-use Rattle.dhcp4_client.specs.Bounds.{AreFarApart, GetsRarer, HasFourRequests}
+use Rattle.dhcp4_client.specs.Bounds.{GetsRarer, HasFourRequests, distance}
 use Rattle.dhcp4_client.specs.Message.{attempt_message}
 use Rattle.dhcp4_client.specs.Rules.{protocol}
 use Rattle.dhcp4_client.specs.declared.answer.Answer.TheVariants.{Granted}
@@ -62,7 +62,7 @@ pub record KeepsPromises (config : Config) (lease : Option Lease) (words : List 
   pub requests_get_rarer : All GetsRarer (history4 config lease words events)
   -- the messages of a stay are at least three seconds apart, those in RENEWING and in REBINDING at
   -- least a minute
-  pub messages_far_apart : All AreFarApart (history4 config lease words events)
+  pub messages_far_apart : All (KeepsDistance distance) (history4 config lease words events)
   -- a lease that was held before is requested at most four times in a stay
   pub four_requests : All HasFourRequests (history4 config lease words events)
   -- an event has at most two messages, and one more where it asks for a release

@@ -2,7 +2,7 @@
 use Rattle.std.specs.Prelude.{◌≡◌, ◌⊎◌, ℕ, ◌≤◌, List, All, Option, Some, option_map}
 use Rattle.dhcp_clock.specs.declared.link.Handed.{Handed}
 use Rattle.dhcp_clock.specs.declared.link.Packet.{Packet}
-use Rattle.dhcp_history.specs.Bounds.{allowed, count_of, is_send_at}
+use Rattle.dhcp_history.specs.Bounds.{KeepsDistance, allowed, count_of, is_send_at}
 use Rattle.dhcp_history.specs.History.{history, outputs}
 use Rattle.dhcp_history.specs.Machine.{first_view}
 use Rattle.dhcp_history.specs.Script.{Script}
@@ -12,7 +12,7 @@ use Rattle.dhcp6_msg.specs.declared.message_type.DhcpV6MessageType.TheVariants.{
 use Rattle.dhcp6_msg.specs.Config.{Config}
 use Rattle.dhcp6_msg.specs.Lease.{Lease}
 use Rattle.dhcp6_client.specs.Answer.{answer_of, message_for}
-use Rattle.dhcp6_client.specs.Bounds.{AreFarApart, HasElevenRequests}
+use Rattle.dhcp6_client.specs.Bounds.{HasElevenRequests, distance}
 use Rattle.dhcp6_client.specs.Message.{attempt_message}
 use Rattle.dhcp6_client.specs.Rules.{protocol}
 use Rattle.dhcp6_client.specs.declared.client_state.ClientState.{ClientState}
@@ -66,7 +66,7 @@ pub record KeepsPromisesOver (config : Config) (lease : Option Lease)
   pub eleven_requests : All HasElevenRequests (history (protocol config) life)
   -- the messages of a stay are at least 0.9 seconds apart, those in Renew and in Rebind at least
   -- nine seconds
-  pub messages_far_apart : All AreFarApart (history (protocol config) life)
+  pub messages_far_apart : All (KeepsDistance distance) (history (protocol config) life)
   -- an event has at most two messages, and one more where it asks for a release
   pub two_messages : (number : ℕ) → count_of (is_send_at number)
       (outputs (protocol config) (history (protocol config) life)) ≤ allowed number life.events
