@@ -1,5 +1,5 @@
 -- The traffic of a client's history: its waits, by the laws of histories.
-use Rattle.std.proofs.Common.{◌≡◌, ℕ, ◌+◌, ◌-◌, ◌*◌, ◌^◌, ◌≤◌, ◌<◌, List, refl, Bool, true, arith}
+use Rattle.std.proofs.Common.{subst, ◌≡◌, ℕ, ◌+◌, ◌-◌, ◌*◌, ◌^◌, ◌≤◌, ◌<◌, List, refl, Bool, true, arith}
 use Rattle.std.specs.Prelude.{Option, All, nat_le}
 use Rattle.std.specs.List.{Contains}
 use Rattle.std.proofs.lemmas.Bool.{leb-true, le-leb}
@@ -9,14 +9,15 @@ use Rattle.dhcp_clock.specs.declared.link.Packet.{Packet}
 use Rattle.dhcp_history.specs.Script.{Script}
 use Rattle.dhcp_history.specs.History.{Stay, history}
 use Rattle.dhcp_history.specs.Bounds as generic
-use Rattle.dhcp_history.specs.Bounds.{HoldsAtEntries, EndsAfter, Halved, HasAtMost, attempts_of, taken_count, IsKept, Distant, IsTakenDistant}
+use Rattle.dhcp_history.specs.BoundLease.{after}
+use Rattle.dhcp_history.specs.Bounds.{HoldsAtEntries, EndsAfter, HasAtMost, IsSparse, attempts_of, taken_count, IsKept, Distant, IsTakenDistant, KeepsDistance}
+use Rattle.dhcp_history.proofs.Traffic.{keeps_distance}
 use Rattle.dhcp4_lease.specs.Config.{Config}
 use Rattle.dhcp4_lease.specs.Lease.{Lease}
 use Rattle.dhcp4_client.specs.declared.client_state.ClientState.{ClientState}
 use Rattle.dhcp4_client.specs.declared.client_state.ClientState.TheVariants.{InitReboot, Selecting, Rebooting, Done, Renewing, Rebinding}
 use Rattle.dhcp4_client.specs.declared.client_state.Exchange.{Exchange}
-use Rattle.dhcp4_client.specs.BoundLease.{renewal, rebinding, expiry}
-use Rattle.dhcp4_client.specs.Bounds.{HalvesIn, HalvesFor, GetsRarer, FourFor, HasFourRequests, distance, AreFarApart}
+use Rattle.dhcp4_client.specs.Bounds.{HalvesIn, GetsRarer, distance}
 use Rattle.dhcp4_client.specs.Client.{first_state}
 use Rattle.dhcp4_client.specs.Rules.{protocol}
 use Rattle.dhcp4_client.proofs.Lawful.{discovery_wait_long}
@@ -27,8 +28,8 @@ is_due InitReboot now = true
 is_due (Selecting offer) now = true
 is_due (Rebooting held) now = true
 is_due (Done bound) now = true
-is_due (Renewing bound) now = nat_le (renewal bound) now
-is_due (Rebinding bound) now = nat_le (rebinding bound) now
+is_due (Renewing bound) now = nat_le (after bound bound.lease.t1_sec) now
+is_due (Rebinding bound) now = nat_le (after bound bound.lease.t2_sec) now
 
 due_at_entries : (config : Config) → HoldsAtEntries (protocol config) is_due
 due_at_entries config = record {
@@ -43,18 +44,17 @@ seconds count since first last entered h due two = go (2 ^ (count - 2)) (h two)
     go : (power : ℕ) → 60000 * power < since + 1000 * last - entered → 60 * power < last - first
     go power e = omega (arith, e, due)
 
-rarer_by : (config : Config) (state : ClientState) (entered count : ℕ) → is_due state entered ≡ true →
-    ((end : ℕ) → Halved (protocol config) state end → generic.Halves count (end - entered)) → HalvesFor state count
-rarer_by config InitReboot entered count due h = tt
-rarer_by config (Selecting offer) entered count due h = tt
-rarer_by config (Rebooting held) entered count due h = tt
-rarer_by config (Done bound) entered count due h = tt
-rarer_by config (Renewing bound) entered count due h =
-    seconds count bound.since bound.lease.t1_sec bound.lease.t2_sec entered
-    (h (rebinding bound) (record { ends = refl; waits = λ exchange start words. refl })) (leb-true (renewal bound) entered due)
-rarer_by config (Rebinding bound) entered count due h =
-    seconds count bound.since bound.lease.t2_sec bound.lease.lease_time_sec entered
-    (h (expiry bound) (record { ends = refl; waits = λ exchange start words. refl })) (leb-true (rebinding bound) entered due)
+rarer_by : (config : Config) (stay : Stay ClientState Handed) → is_due stay.setting.state stay.setting.entered ≡ true → IsSparse (protocol config) stay → GetsRarer stay
+rarer_by config stay due sparse = record {
+  renewing = λ bound e.
+      seconds (taken_count (attempts_of stay.acts)) bound.since bound.lease.t1_sec bound.lease.t2_sec stay.setting.entered
+      (sparse (after bound bound.lease.t2_sec) (rw e (record { ends = refl; waits = λ exchange start words. refl })))
+      (leb-true (after bound bound.lease.t1_sec) stay.setting.entered (subst (λ (state : ClientState). is_due state stay.setting.entered ≡ true) e due));
+  rebinding = λ bound e.
+      seconds (taken_count (attempts_of stay.acts)) bound.since bound.lease.t2_sec bound.lease.lease_time_sec stay.setting.entered
+      (sparse (after bound bound.lease.lease_time_sec) (rw e (record { ends = refl; waits = λ exchange start words. refl })))
+      (leb-true (after bound bound.lease.t2_sec) stay.setting.entered (subst (λ (state : ClientState). is_due state stay.setting.entered ≡ true) e due));
+}
 
 first_due : (lease : Option Lease) (now : ℕ) → is_due (first_state lease) now ≡ true
 first_due lease now = grind arith
@@ -62,40 +62,26 @@ first_due lease now = grind arith
 pub rarer_history : (config : Config) →
     ((holds : ClientState → ℕ → Bool) → HoldsAtEntries (protocol config) holds → (script : Script Packet ClientState Exchange) → ((now : ℕ) → holds script.state now ≡ true) →
     All (λ stay. holds stay.setting.state stay.setting.entered ≡ true) (history (protocol config) script)) →
-    ((script : Script Packet ClientState Exchange) → All (generic.IsSparse (protocol config)) (history (protocol config) script)) →
+    ((script : Script Packet ClientState Exchange) → All (IsSparse (protocol config)) (history (protocol config) script)) →
     (lease : Option Lease) (script : Script Packet ClientState Exchange) → script.state ≡ first_state lease → All GetsRarer (history (protocol config) script)
 rarer_history config entries halves lease script begins =
     let stays : List (Stay ClientState Handed) = history (protocol config) script in
     let begun : (now : ℕ) → is_due script.state now ≡ true = λ now. rw begins (first_due lease now) in
     All-weaker (Contains stays) GetsRarer
-    (λ stay at. rarer_by config stay.setting.state stay.setting.entered (taken_count (attempts_of stay.acts))
+    (λ stay at. rarer_by config stay
     (All-contains (λ (stay : Stay ClientState Handed). is_due stay.setting.state stay.setting.entered ≡ true) stays stay (entries is_due (due_at_entries config) script begun) at)
-    (All-contains (generic.IsSparse (protocol config)) stays stay (halves script) at))
+    (All-contains (IsSparse (protocol config)) stays stay (halves script) at))
     stays (All-contains_itself stays)
 
 -- a lease that was held before is requested four times
-four : (config : Config) (lease : Lease) → EndsAfter (protocol config) (Rebooting lease) 4
-four config lease = record {
+pub four : (config : Config) (held : Lease) → EndsAfter (protocol config) (Rebooting held) 4
+four config held = record {
   some = omega arith;
   count = λ exchange. exchange.retry_count;
   last = λ exchange h. le-leb 3 exchange.retry_count (omega (arith, h));
   rises = λ exchange h. omega (arith, h);
   keeps = λ exchange start words. omega arith;
 }
-
-four_by : (config : Config) (state : ClientState) (count : ℕ) → ((n : ℕ) → EndsAfter (protocol config) state n → count ≤ n) → FourFor state count
-four_by config InitReboot count h = tt
-four_by config (Selecting offer) count h = tt
-four_by config (Rebooting held) count h = h 4 (four config held)
-four_by config (Done bound) count h = tt
-four_by config (Renewing bound) count h = tt
-four_by config (Rebinding bound) count h = tt
-
-pub four_history : (config : Config) (script : Script Packet ClientState Exchange) → All (HasAtMost (protocol config)) (history (protocol config) script) →
-    All HasFourRequests (history (protocol config) script)
-four_history config script h =
-    let stays : List (Stay ClientState Handed) = history (protocol config) script in
-    All-weaker (HasAtMost (protocol config)) HasFourRequests (λ stay few. four_by config stay.setting.state (taken_count (attempts_of stay.acts)) few) stays h
 
 -- each exchange will do
 always : Exchange → Bool
@@ -113,9 +99,8 @@ distant config state = record { far = λ exchange start words g h. grind (arith,
 pub far_history : (config : Config) →
     ((good : Exchange → Bool) → IsKept (protocol config) good → (script : Script Packet ClientState Exchange) → good script.exchange ≡ true →
     All (IsTakenDistant (protocol config) good) (history (protocol config) script)) →
-    (script : Script Packet ClientState Exchange) → All AreFarApart (history (protocol config) script)
+    (script : Script Packet ClientState Exchange) → All (KeepsDistance distance) (history (protocol config) script)
 unfolding always
 far_history config law script =
-    let stays : List (Stay ClientState Handed) = history (protocol config) script in
-    All-weaker (IsTakenDistant (protocol config) always) AreFarApart (λ stay far. far (distance stay.setting.state) (distant config stay.setting.state)) stays
-    (law always (kept config) script refl)
+    keeps_distance (protocol config) (λ least. always) distance (distant config) (history (protocol config) script)
+    (λ least. law always (kept config) script refl)

@@ -5,6 +5,7 @@ use Rattle.dhcp_clock.specs.declared.link.Handed.{Handed}
 use Rattle.dhcp_clock.specs.Wait.{draw, discovery_wait, half_wait}
 use Rattle.dhcp_clock.specs.Words.{Drawn, next_of, undrawn}
 use Rattle.dhcp_history.specs.declared.rules.AttemptStart.{AttemptStart}
+use Rattle.dhcp_history.specs.BoundLease.{after}
 use Rattle.dhcp_history.specs.declared.rules.NewAttempt.{NewAttempt}
 use Rattle.dhcp_history.specs.Protocol.{Protocol, NextState}
 use Rattle.dhcp4_lease.specs.Config.{Config}
@@ -15,9 +16,8 @@ use Rattle.dhcp4_client.specs.declared.client_state.ClientState.{ClientState}
 use Rattle.dhcp4_client.specs.declared.client_state.ClientState.TheVariants.{InitReboot, Selecting, Rebooting, Done, Renewing, Rebinding}
 use Rattle.dhcp4_client.specs.declared.client_state.Exchange.{Exchange}
 use Rattle.dhcp4_client.specs.Answer.{awaited, message_for, reading_of}
-use Rattle.dhcp4_client.specs.BoundLease.{renewal, rebinding, expiry}
 use Rattle.dhcp4_client.specs.Message.{attempt_message, held_release}
-use Rattle.dhcp4_client.specs.State.{PlainState, done, init_reboot, selecting, renewing, rebinding as rebinds}
+use Rattle.dhcp4_client.specs.State.{PlainState, done, init_reboot, selecting, renewing, rebinding}
 
 -- what the client reports of a state
 abbrev pub public_state : ClientState → PlainState
@@ -26,7 +26,7 @@ public_state (Selecting offer) = selecting
 public_state (Rebooting held) = selecting
 public_state (Done bound) = done bound.lease
 public_state (Renewing bound) = renewing
-public_state (Rebinding bound) = rebinds
+public_state (Rebinding bound) = rebinding
 
 -- whether it sends; there its time limit counts
 abbrev pub has_attempts : ClientState → Bool
@@ -42,9 +42,9 @@ abbrev pub ending_moment : ClientState → Option ℕ
 ending_moment InitReboot = None
 ending_moment (Selecting offer) = None
 ending_moment (Rebooting held) = None
-ending_moment (Done bound) = Some (renewal bound)
-ending_moment (Renewing bound) = Some (rebinding bound)
-ending_moment (Rebinding bound) = Some (expiry bound)
+ending_moment (Done bound) = Some (after bound bound.lease.t1_sec)
+ending_moment (Renewing bound) = Some (after bound bound.lease.t2_sec)
+ending_moment (Rebinding bound) = Some (after bound bound.lease.lease_time_sec)
 
 -- Before its first Discover a client waits less than 200 milliseconds, so that clients that start
 -- at once do not send at once (RFC 2131, section 4.4.1, asks for 1 to 10 seconds). One that has
@@ -78,9 +78,12 @@ abbrev pub wait : ClientState → Exchange → ℕ → List ℕ → Drawn ℕ
 wait InitReboot exchange now words = growing_wait exchange words
 wait (Selecting offer) exchange now words = growing_wait exchange words
 wait (Rebooting held) exchange now words = growing_wait exchange words
-wait (Done bound) exchange now words = undrawn (half_wait (renewal bound - now)) words
-wait (Renewing bound) exchange now words = undrawn (half_wait (rebinding bound - now)) words
-wait (Rebinding bound) exchange now words = undrawn (half_wait (expiry bound - now)) words
+wait (Done bound) exchange now words =
+    undrawn (half_wait (after bound bound.lease.t1_sec - now)) words
+wait (Renewing bound) exchange now words =
+    undrawn (half_wait (after bound bound.lease.t2_sec - now)) words
+wait (Rebinding bound) exchange now words =
+    undrawn (half_wait (after bound bound.lease.lease_time_sec - now)) words
 
 -- an attempt: its wait is drawn, and its message is that of the state
 abbrev pub attempt : Config → ClientState → Exchange → AttemptStart → List ℕ →

@@ -2,7 +2,8 @@
 //! was received in: its carrier and its port, its transaction id, its type; only a packet that may
 //! answer is copied.
 
-ghost use Rattle.std.specs.Prelude.{◌≡◌, IfOk, None, Ok, Some, false, is_some};
+ghost use Rattle.std.specs.Prelude.{◌≡◌, IfErr, IfOk, None, Ok, Some, false, is_some};
+ghost use Rattle.dhcp_wire.specs.Error.{no_memory};
 ghost use Rattle.dhcp_wire.specs.Outcome.{Finds};
 ghost use Rattle.dhcp_history.specs.Rules.{GivesDrawn};
 ghost use Rattle.dhcp4_lease.specs.Lease.{read_lease};
@@ -80,6 +81,7 @@ pub fn read_answer<W: Words>(
     ensures drawn { IfOk result (λ answer. GivesDrawn
         (answers.reading_of (Some awaited) (answers.message_for (Some awaited) xid packet.now))
         (W.left words.old) answer (W.left words.new)) }
+    ensures error { IfErr result (λ error. error ≡ no_memory) }
     ensures free { is_some (answers.message_for (Some awaited) xid packet.now) ≡ false →
         result ≡ Ok None }
 {
@@ -144,8 +146,9 @@ fn answer_of<W: Words>(
     message: &DhcpV4View,
     words: &mut W,
 ) -> Result<Option<Answer>, DhcpError>
-    ensures { IfOk result (λ answer. GivesDrawn (answers.answer_of awaited message.now)
+    ensures drawn { IfOk result (λ answer. GivesDrawn (answers.answer_of awaited message.now)
         (W.left words.old) answer (W.left words.new)) }
+    ensures error { IfErr result (λ error. error ≡ no_memory) }
 {
     if !is_of_type(awaited.grant, message) {
         return Ok(Some(Answer::Refused));
@@ -160,8 +163,9 @@ fn lease_of<W: Words>(
     message: &DhcpV4View,
     words: &mut W,
 ) -> Result<Option<DhcpV4Lease>, DhcpError>
-    ensures { IfOk result (λ lease. GivesDrawn (read_lease message.now)
+    ensures drawn { IfOk result (λ lease. GivesDrawn (read_lease message.now)
         (W.left words.old) lease (W.left words.new)) }
+    ensures error { IfErr result (λ error. error ≡ no_memory) }
 {
     let message = message.to_message(alloc)?;
     none_if_refused(DhcpV4Lease::from_message(alloc, message, words))

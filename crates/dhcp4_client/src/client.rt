@@ -17,7 +17,7 @@ use crate::client_state::{ClientState, Exchange};
 use crate::rules::{ClientRules, restarted};
 use crate::state::ReportedState;
 use dhcp_clock::{DhcpLink, Words};
-use dhcp_history::{BoundLease, Client, RunError, clean_up, next_poll, run};
+use dhcp_history::{BoundLease, Client, clean_up, next_poll, run};
 use dhcp_wire::{DhcpError, ErrorKind, FixedText};
 use dhcp4_lease::{DhcpV4Config, DhcpV4Lease};
 use std::alloc::Global;
@@ -71,9 +71,7 @@ impl DhcpV4Client {
         ensures refused { IfErr result (λ error. error.kind ≡ ErrorKind.InvalidArgument) }
         ensures undrawn { OnErr result (W.left words.new ≡ W.left words.old) }
     {
-        if !can_begin(&config, &lease) {
-            return Err(refused_start(&lease));
-        }
+        check_start(&config, &lease)?;
         let exchange = Exchange {
             xid: words.next_word(),
             retry_count: 0,
@@ -100,7 +98,8 @@ impl DhcpV4Client {
             (W.left words.old) (W.left words.new) (L.shown link.old) (L.shown link.new)
             (L.faults link.old) (L.faults link.new) }
     {
-        answer_of(run(&self.rules, &mut self.client, now, words, link))
+        let reported = run(&self.rules, &mut self.client, now, words, link)?;
+        Ok(reported.map(ReportedState::into_state))
     }
 
     /// Drops the lease, the offer, the attempt and a kept error: the client searches anew, with its
@@ -149,27 +148,18 @@ impl DhcpV4Client {
     }
 }
 
-// Whether a client can begin with this configuration and this lease.
-fn can_begin(config: &DhcpV4Config, lease: &Option<DhcpV4Lease>) -> bool
-    ensures { result ≡ clients.can_begin config.now lease.now }
+// Whether a client can begin with this lease and this configuration; the error names the first of
+// them that it cannot begin with.
+fn check_start(config: &DhcpV4Config, lease: &Option<DhcpV4Lease>) -> Result<(), DhcpError>
+    ensures begins { is_ok result ≡ clients.can_begin config.now lease.now }
+    ensures refused { IfErr result (λ error. error.kind ≡ ErrorKind.InvalidArgument) }
 {
-    let is_in_order = match lease {
-        Some(lease) => lease.are_times_in_order(),
-        None => true,
-    };
-    config.iface_index != 0 && config.is_within_limits() && is_in_order
-}
-
-// The error of a client that cannot begin: its lease is out of order, or else its configuration is
-// outside its limits.
-fn refused_start(lease: &Option<DhcpV4Lease>) -> DhcpError
-    ensures { result.kind ≡ ErrorKind.InvalidArgument }
-{
-    let text = match lease {
+    let refused = match lease {
         Some(lease) if !lease.are_times_in_order() => FixedText::Times,
-        _ => FixedText::Config,
+        _ if config.iface_index == 0 || !config.is_within_limits() => FixedText::Config,
+        _ => return Ok(()),
     };
-    DhcpError::new_fixed(ErrorKind::InvalidArgument, text)
+    Err(DhcpError::new_fixed(ErrorKind::InvalidArgument, refused))
 }
 
 // The state in which it begins.
@@ -179,18 +169,5 @@ fn first_state(lease: Option<DhcpV4Lease>) -> ClientState
     match lease {
         Some(lease) => ClientState::Rebooting(lease),
         None => ClientState::InitReboot,
-    }
-}
-
-// The answer of a poll of the rules, as the client's own.
-fn answer_of(
-    answer: Result<Option<ReportedState>, RunError>,
-) -> Result<Option<DhcpV4State>, DhcpError>
-    ensures same { run_answer plain_state result ≡ answer }
-    ensures errors { IfErr result (λ error. (error ≡ timed_out) ⊎ (error ≡ no_memory)) }
-{
-    match answer? {
-        Some(reported) => Ok(Some(reported.into_state())),
-        None => Ok(None),
     }
 }

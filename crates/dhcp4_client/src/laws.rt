@@ -3,6 +3,7 @@
 
 ghost use Rattle.std.specs.Prelude.{◌≡◌, ◌≤◌, ℕ, All, Option};
 ghost use Rattle.dhcp_clock.specs.declared.link.Packet.{Packet};
+ghost use Rattle.dhcp_history.specs.Bounds.{KeepsDistance};
 ghost use Rattle.dhcp_history.specs.History.{history};
 ghost use Rattle.dhcp_history.specs.Laws.{KeepsLaws};
 ghost use Rattle.dhcp_history.specs.Protocol.{Lawful};
@@ -11,7 +12,7 @@ ghost use Rattle.dhcp4_lease.specs.Config.{Config};
 ghost use Rattle.dhcp4_client.specs.declared.client_state.ClientState.{ClientState};
 ghost use Rattle.dhcp4_client.specs.declared.client_state.Exchange.{Exchange};
 ghost use Rattle.dhcp4_lease.specs.Lease.{Lease};
-ghost use Rattle.dhcp4_client.specs.Bounds.{AreFarApart, GetsRarer, HasFourRequests};
+ghost use Rattle.dhcp4_client.specs.Bounds.{GetsRarer, HasFourRequests, distance};
 ghost use Rattle.dhcp4_client.specs.Client.{first_state};
 ghost use Rattle.dhcp4_client.specs.Rules.{protocol};
 
@@ -59,7 +60,7 @@ pub fn four_requests_of_a_lease(client: &DhcpV4Client)
 /// and those in RENEWING and in REBINDING a minute.
 pub fn messages_are_far_apart(client: &DhcpV4Client)
     ensures { (script : Script Packet ClientState Exchange) →
-        All AreFarApart (history (protocol client.now.config) script) }
+        All (KeepsDistance distance) (history (protocol client.now.config) script) }
 {
     laws::messages_are_far_apart(&client.rules);
 }

@@ -1,8 +1,9 @@
 //! The table of states, RFC 2131 section 4.4, as rules of dhcp_history: one method for each column,
 //! every state named.
 
-ghost use Rattle.std.specs.Prelude.{◌≡◌, ◌<◌, ◌^◌, IfOk, IsTrue, OnErr, OnOk, None, Ok, Some, Option};
+ghost use Rattle.std.specs.Prelude.{◌≡◌, ◌<◌, ◌-◌, ◌^◌, IfOk, IsTrue, OnErr, OnOk, None, Ok, Some, Option};
 ghost use Rattle.dhcp_wire.specs.Outcome.{Makes};
+ghost use Rattle.dhcp_clock.specs.Wait as waits;
 ghost use Rattle.dhcp_history.specs.Rules.{GivesDrawn, IsNext};
 ghost use Rattle.dhcp4_lease.specs.Config.{is_within_limits};
 ghost use Rattle.dhcp4_client.specs.Message as messages;
@@ -10,7 +11,6 @@ ghost use Rattle.dhcp4_client.specs.Rules as table;
 
 use crate::DhcpV4State;
 use crate::answer::{Answer, Awaited, read_answer};
-use crate::bound_lease::{expiry, rebinding, renewal};
 use crate::client_state::{ClientState, Exchange};
 use crate::message::{attempt_message, release_message};
 use crate::state::ReportedState;
@@ -60,9 +60,9 @@ impl Rules for ClientRules {
             ClientState::InitReboot => None,
             ClientState::Selecting(_) => None,
             ClientState::Rebooting(_) => None,
-            ClientState::Done(bound) => Some(renewal(bound)),
-            ClientState::Renewing(bound) => Some(rebinding(bound)),
-            ClientState::Rebinding(bound) => Some(expiry(bound)),
+            ClientState::Done(bound) => Some(bound.after(bound.lease().t1_sec)),
+            ClientState::Renewing(bound) => Some(bound.after(bound.lease().t2_sec)),
+            ClientState::Rebinding(bound) => Some(bound.after(bound.lease().lease_time_sec)),
         }
     }
 
@@ -136,7 +136,11 @@ impl Rules for ClientRules {
         let Some(awaited) = Awaited::in_state(state) else {
             return Ok(None);
         };
-        read_answer(self.alloc, awaited, exchange.xid, &packet, words).map_err(|_| AllocError)
+        // not by map_err, which copies a lease that is answered
+        match read_answer(self.alloc, awaited, exchange.xid, &packet, words) {
+            Ok(answer) => Ok(answer),
+            Err(_) => Err(AllocError),
+        }
     }
 
     fn after_answer(
@@ -278,10 +282,19 @@ fn wait<W: Words>(state: &ClientState, exchange: Exchange, now: u64, words: &mut
         ClientState::InitReboot => growing_wait(exchange, words),
         ClientState::Selecting(_) => growing_wait(exchange, words),
         ClientState::Rebooting(_) => growing_wait(exchange, words),
-        ClientState::Done(bound) => half_wait(renewal(bound).saturating_sub(now)),
-        ClientState::Renewing(bound) => half_wait(rebinding(bound).saturating_sub(now)),
-        ClientState::Rebinding(bound) => half_wait(expiry(bound).saturating_sub(now)),
+        ClientState::Done(bound) => half_until(bound.after(bound.lease().t1_sec), now),
+        ClientState::Renewing(bound) => half_until(bound.after(bound.lease().t2_sec), now),
+        ClientState::Rebinding(bound) => half_until(bound.after(bound.lease().lease_time_sec), now),
     }
+}
+
+// Half of the time until this moment, at least a minute, and never past it; in milliseconds.
+fn half_until(moment: u64, now: u64) -> u64
+    requires { moment < 2 ^ 61 }
+    ensures wait { result ≡ waits.half_wait (moment - now) }
+    ensures below { result < 2 ^ 62 }
+{
+    half_wait(moment.saturating_sub(now))
 }
 
 // The wait in INIT, REQUESTING and REBOOTING, in milliseconds: about 4, 8, 16, 32 and then 64

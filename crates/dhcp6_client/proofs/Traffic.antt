@@ -1,26 +1,24 @@
 -- The traffic of a client's history: its waits, by the laws of histories.
 use Rattle.std.proofs.Common.{◌≡◌, ℕ, suc, zero, ◌*◌, ◌≤◌, List, refl, Bool, true, arith, ◌⊎◌, inl, inr}
 use Rattle.std.specs.Prelude.{All, nat_le}
-use Rattle.std.specs.List.{Contains}
 use Rattle.std.proofs.lemmas.Bool.{leb-true, le-leb}
-use Rattle.std.proofs.lemmas.List.Elements.{All-contains, All-contains_itself, All-weaker}
-use Rattle.dhcp_clock.specs.declared.link.Handed.{Handed}
 use Rattle.dhcp_clock.specs.declared.link.Packet.{Packet}
 use Rattle.dhcp_clock.specs.Wait.{retransmit_wait}
 use Rattle.dhcp_clock.proofs.Waits.{retransmit_far}
 use Rattle.dhcp_history.specs.Script.{Script}
-use Rattle.dhcp_history.specs.History.{Stay, history}
-use Rattle.dhcp_history.specs.Bounds.{EndsAfter, FarApart, HasAtMost, attempts_of, taken_of, taken_count, IsKept, Distant, IsTakenDistant}
+use Rattle.dhcp_history.specs.History.{history}
+use Rattle.dhcp_history.specs.Bounds.{EndsAfter, IsKept, Distant, IsTakenDistant, KeepsDistance}
+use Rattle.dhcp_history.proofs.Traffic.{keeps_distance}
 use Rattle.dhcp6_msg.specs.Config.{Config}
 use Rattle.dhcp6_msg.specs.Lease.{Lease}
 use Rattle.dhcp6_client.specs.declared.client_state.ClientState.{ClientState}
-use Rattle.dhcp6_client.specs.declared.client_state.ClientState.TheVariants.{Solicit, Request, Done, Temporary, Renew, Rebind}
+use Rattle.dhcp6_client.specs.declared.client_state.ClientState.TheVariants.{Request}
 use Rattle.dhcp6_client.specs.declared.client_state.Exchange.{Exchange}
-use Rattle.dhcp6_client.specs.Bounds.{ElevenFor, HasElevenRequests, distance, AreFarApart}
+use Rattle.dhcp6_client.specs.Bounds.{distance}
 use Rattle.dhcp6_client.specs.Rules.{protocol, wait}
 
 -- an offer is requested eleven times
-eleven : (config : Config) (offer : Lease) → EndsAfter (protocol config) (Request offer) 11
+pub eleven : (config : Config) (offer : Lease) → EndsAfter (protocol config) (Request offer) 11
 eleven config offer = record {
   some = omega arith;
   count = λ exchange. exchange.retransmit_count;
@@ -28,20 +26,6 @@ eleven config offer = record {
   rises = λ exchange h. omega (arith, h);
   keeps = λ exchange start words. omega arith;
 }
-
-eleven_by : (config : Config) (state : ClientState) (count : ℕ) → ((n : ℕ) → EndsAfter (protocol config) state n → count ≤ n) → ElevenFor state count
-eleven_by config Solicit count h = tt
-eleven_by config (Request offer) count h = h 11 (eleven config offer)
-eleven_by config (Done bound) count h = tt
-eleven_by config (Temporary bound) count h = tt
-eleven_by config (Renew bound) count h = tt
-eleven_by config (Rebind bound) count h = tt
-
-pub eleven_history : (config : Config) (script : Script Packet ClientState Exchange) → All (HasAtMost (protocol config)) (history (protocol config) script) →
-    All HasElevenRequests (history (protocol config) script)
-eleven_history config script h =
-    let stays : List (Stay ClientState Handed) = history (protocol config) script in
-    All-weaker (HasAtMost (protocol config)) HasElevenRequests (λ stay few. eleven_by config stay.setting.state (taken_count (attempts_of stay.acts)) few) stays h
 
 -- the previous wait is none, or so long at least
 abbrev is_long : ℕ → ℕ → Bool
@@ -78,24 +62,10 @@ kept config least = record {
 distant : (config : Config) (state : ClientState) → Distant (protocol config) (good (distance state)) state (distance state)
 distant config state = record { far = λ exchange start words g h. grind (arith, next_far, long) }
 
--- a state has one of two distances
-far_by : (config : Config) (state : ClientState) (P : ℕ → Type 0) → ((d : ℕ) → Distant (protocol config) (good 900) state d → P d) →
-    ((d : ℕ) → Distant (protocol config) (good 9000) state d → P d) → P (distance state)
-far_by config Solicit P short far = short 900 (distant config Solicit)
-far_by config (Request offer) P short far = short 900 (distant config (Request offer))
-far_by config (Done bound) P short far = far 9000 (distant config (Done bound))
-far_by config (Temporary bound) P short far = far 9000 (distant config (Temporary bound))
-far_by config (Renew bound) P short far = far 9000 (distant config (Renew bound))
-far_by config (Rebind bound) P short far = far 9000 (distant config (Rebind bound))
-
 pub far_history : (config : Config) →
     ((test : Exchange → Bool) → IsKept (protocol config) test → (script : Script Packet ClientState Exchange) → test script.exchange ≡ true →
     All (IsTakenDistant (protocol config) test) (history (protocol config) script)) →
-    (script : Script Packet ClientState Exchange) → script.exchange.previous_wait ≡ 0 → All AreFarApart (history (protocol config) script)
+    (script : Script Packet ClientState Exchange) → script.exchange.previous_wait ≡ 0 → All (KeepsDistance distance) (history (protocol config) script)
 far_history config law script e =
-    let stays : List (Stay ClientState Handed) = history (protocol config) script in
-    All-weaker (Contains stays) AreFarApart
-    (λ stay at. far_by config stay.setting.state (λ d. FarApart d stay.setting.entered (taken_of (attempts_of stay.acts)))
-    (All-contains (IsTakenDistant (protocol config) (good 900)) stays stay (law (good 900) (kept config 900) script (rw e refl)) at)
-    (All-contains (IsTakenDistant (protocol config) (good 9000)) stays stay (law (good 9000) (kept config 9000) script (rw e refl)) at))
-    stays (All-contains_itself stays)
+    keeps_distance (protocol config) good distance (distant config) (history (protocol config) script)
+    (λ least. law (good least) (kept config least) script (rw e refl))

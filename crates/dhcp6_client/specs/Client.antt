@@ -19,13 +19,18 @@ use Rattle.dhcp6_client.specs.Rules.{bound_state, new_id, restarted}
 abbrev pub ClientParts : Type 0
 ClientParts = calls.ClientParts Config ClientState Exchange
 
--- Whether a client can begin with this configuration and this lease: there is an interface and an
--- address to send from, the identifier is absent or can be sent, what it sends fits its options,
--- and the lease is within its limits.
+-- whether there is an interface and an address to send from, and the identifier is absent or can be
+-- sent
+abbrev pub has_source : Config → Bool
+has_source config =
+    not (config.iface_index == 0) && not (is_unspecified config.src_ip)
+    && (is_no_duid config.duid || is_duid config.duid)
+
+-- whether a client can begin with this configuration and this lease: it has where to send from,
+-- what it sends fits its options, and the lease is within its limits
 abbrev pub can_begin : Config → Option Lease → Bool
 can_begin config lease =
-    not (config.iface_index == 0) && not (is_unspecified config.src_ip)
-    && (is_no_duid config.duid || is_duid config.duid) && is_within_limits config
+    has_source config && is_within_limits config
     && option_map_or leases.is_within_limits lease true
 
 -- the state in which it begins: it renews a lease that it held before, whose times count from the

@@ -1,5 +1,4 @@
 pub mod Answer
-pub mod BoundLease
 pub mod Bounds
 pub mod Client
 pub mod Message

@@ -4,7 +4,7 @@ use Rattle.dhcp_clock.specs.declared.link.Packet.{Packet}
 use Rattle.dhcp_clock.specs.declared.link.Handed.{Handed}
 use Rattle.dhcp_clock.specs.Wait.{draw, retransmit_wait}
 use Rattle.dhcp_clock.specs.Words.{Drawn, undrawn, drawn_word, drawn_then}
-use Rattle.dhcp_history.specs.BoundLease.{Bound}
+use Rattle.dhcp_history.specs.BoundLease.{Bound, after}
 use Rattle.dhcp_history.specs.declared.rules.AttemptStart.{AttemptStart}
 use Rattle.dhcp_history.specs.declared.rules.NewAttempt.{NewAttempt}
 use Rattle.dhcp_history.specs.Protocol.{Protocol, NextState}
@@ -16,7 +16,6 @@ use Rattle.dhcp6_client.specs.declared.client_state.ClientState.{ClientState}
 use Rattle.dhcp6_client.specs.declared.client_state.ClientState.TheVariants.{Solicit, Request, Done, Temporary, Renew, Rebind}
 use Rattle.dhcp6_client.specs.declared.client_state.Exchange.{Exchange}
 use Rattle.dhcp6_client.specs.Answer.{answer_of, awaited_type, message_for}
-use Rattle.dhcp6_client.specs.BoundLease.{renewal, rebinding, expiry}
 use Rattle.dhcp6_client.specs.Message.{attempt_message, release_message}
 use Rattle.dhcp6_client.specs.State.{PlainState, done, solicit, request, renew, rebind}
 
@@ -43,10 +42,10 @@ has_attempts (Rebind bound) = true
 abbrev pub ending_moment : ClientState → Option ℕ
 ending_moment Solicit = None
 ending_moment (Request offer) = None
-ending_moment (Done bound) = Some (renewal bound)
-ending_moment (Temporary bound) = Some (expiry bound)
-ending_moment (Renew bound) = Some (rebinding bound)
-ending_moment (Rebind bound) = Some (expiry bound)
+ending_moment (Done bound) = Some (after bound bound.lease.t1_sec)
+ending_moment (Temporary bound) = Some (after bound bound.lease.valid_time_sec)
+ending_moment (Renew bound) = Some (after bound bound.lease.t2_sec)
+ending_moment (Rebind bound) = Some (after bound bound.lease.valid_time_sec)
 
 -- Before its first Solicit a client waits less than a second, SOL_MAX_DELAY (RFC 8415, section
 -- 18.2.1).
@@ -76,10 +75,14 @@ abbrev pub wait : ClientState → Exchange → ℕ → List ℕ → Drawn ℕ
 wait Solicit exchange now words = retransmit_wait exchange.previous_wait 1000 3600000 words
 wait (Request offer) exchange now words =
     retransmit_wait exchange.previous_wait 1000 30000 words
-wait (Done bound) exchange now words = wait_until (renewal bound) exchange now words
-wait (Temporary bound) exchange now words = wait_until (expiry bound) exchange now words
-wait (Renew bound) exchange now words = wait_until (rebinding bound) exchange now words
-wait (Rebind bound) exchange now words = wait_until (expiry bound) exchange now words
+wait (Done bound) exchange now words =
+    wait_until (after bound bound.lease.t1_sec) exchange now words
+wait (Temporary bound) exchange now words =
+    wait_until (after bound bound.lease.valid_time_sec) exchange now words
+wait (Renew bound) exchange now words =
+    wait_until (after bound bound.lease.t2_sec) exchange now words
+wait (Rebind bound) exchange now words =
+    wait_until (after bound bound.lease.valid_time_sec) exchange now words
 
 -- a new transaction id, of three bytes
 abbrev pub new_id : ℕ → ℕ

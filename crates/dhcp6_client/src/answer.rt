@@ -2,7 +2,8 @@
 //! bytes that it was received in: its carrier, its type, its transaction id; only a packet that may
 //! answer is copied.
 
-ghost use Rattle.std.specs.Prelude.{◌≡◌, ◌≤◌, IfOk, IfSome, None, Ok, Some, false, is_some, length};
+ghost use Rattle.std.specs.Prelude.{◌≡◌, ◌≤◌, IfErr, IfOk, IfSome, None, Ok, Some, false, is_some, length};
+ghost use Rattle.dhcp_wire.specs.Error.{no_memory};
 ghost use Rattle.dhcp_wire.specs.Outcome.{Finds};
 ghost use Rattle.dhcp6_opt.specs.Duid.{written_duid};
 ghost use Rattle.dhcp6_client.specs.Answer as answers;
@@ -38,6 +39,7 @@ pub fn read_answer(
 ) -> Result<Option<GrantedLease>, DhcpError>
     ensures answer { IfOk result (λ answer.
         answer ≡ answers.answer_of (answers.message_for (Some kind) xid packet.now)) }
+    ensures error { IfErr result (λ error. error ≡ no_memory) }
     ensures free { is_some (answers.message_for (Some kind) xid packet.now) ≡ false →
         result ≡ Ok None }
 {
@@ -74,7 +76,8 @@ fn concerns(kind: DhcpV6MessageType, xid: u32, message: &DhcpV6View) -> bool
 
 // The lease that a message grants, if it grants one.
 fn lease_of(alloc: Global, message: &DhcpV6View) -> Result<Option<GrantedLease>, DhcpError>
-    ensures { IfOk result (λ lease. lease ≡ answers.granted_by message.now) }
+    ensures lease { IfOk result (λ lease. lease ≡ answers.granted_by message.now) }
+    ensures error { IfErr result (λ error. error ≡ no_memory) }
 {
     let message = message.to_message(alloc)?;
     let lease = none_if_refused(DhcpV6Lease::from_message(alloc, message))?;

@@ -20,7 +20,7 @@ use crate::granted_lease::GrantedLease;
 use crate::rules::{ClientRules, bound_state};
 use crate::state::ReportedState;
 use dhcp_clock::{DhcpLink, Words};
-use dhcp_history::{BoundLease, Client, RunError, clean_up, next_poll, run};
+use dhcp_history::{BoundLease, Client, clean_up, next_poll, run};
 use dhcp_wire::{DhcpError, ErrorKind, FixedText};
 use dhcp6_msg::{DhcpV6Config, DhcpV6Lease, DhcpV6Mode, is_duid};
 use std::alloc::Global;
@@ -89,9 +89,7 @@ impl DhcpV6Client {
             (λ error. error ≡ no_memory) }
         ensures undrawn { can_begin config lease ≡ false → W.left words.new ≡ W.left words.old }
     {
-        if !can_begin(&config, &lease) {
-            return Err(refused_start(&lease));
-        }
+        check_start(&config, &lease)?;
         let mut config = config;
         config.init_duid(alloc, words)?;
         let exchange = first_exchange(new_id(words.next_word()));
@@ -118,7 +116,8 @@ impl DhcpV6Client {
             (W.left words.old) (W.left words.new) (L.shown link.old) (L.shown link.new)
             (L.faults link.old) (L.faults link.new) }
     {
-        answer_of(run(&self.rules, &mut self.client, now, words, link))
+        let reported = run(&self.rules, &mut self.client, now, words, link)?;
+        Ok(reported.map(ReportedState::into_state))
     }
 
     /// Drops the lease, the offer, the attempt and a kept error: the client searches anew, with its
@@ -181,31 +180,28 @@ impl DhcpV6Client {
     }
 }
 
-// Whether a client can begin with this configuration and this lease.
-fn can_begin(config: &DhcpV6Config, lease: &Option<DhcpV6Lease>) -> bool
-    ensures { result ≡ clients.can_begin config.now lease.now }
+// Whether a client can begin with this lease and this configuration; the error names the first of
+// them that it cannot begin with.
+fn check_start(config: &DhcpV6Config, lease: &Option<DhcpV6Lease>) -> Result<(), DhcpError>
+    ensures begins { is_ok result ≡ clients.can_begin config.now lease.now }
+    ensures refused { IfErr result (λ error. error.kind ≡ ErrorKind.InvalidArgument) }
 {
-    let is_held = match lease {
-        Some(lease) => lease.is_within_limits(),
-        None => true,
+    let refused = match lease {
+        Some(lease) if !lease.is_within_limits() => FixedText::Lease,
+        _ if !has_source(config) || !config.is_within_limits() => FixedText::Config,
+        _ => return Ok(()),
     };
+    Err(DhcpError::new_fixed(ErrorKind::InvalidArgument, refused))
+}
+
+// Whether a configuration says where a client sends from, and with an identifier that can be sent,
+// or with none yet.
+fn has_source(config: &DhcpV6Config) -> bool
+    ensures { result ≡ clients.has_source config.now }
+{
     config.iface_index != 0
         && !config.src_ip.is_unspecified()
         && (config.duid.is_empty() || is_duid(&config.duid))
-        && config.is_within_limits()
-        && is_held
-}
-
-// The error of a client that cannot begin: its lease is outside its limits, or else its
-// configuration is.
-fn refused_start(lease: &Option<DhcpV6Lease>) -> DhcpError
-    ensures { result.kind ≡ ErrorKind.InvalidArgument }
-{
-    let text = match lease {
-        Some(lease) if !lease.is_within_limits() => FixedText::Lease,
-        _ => FixedText::Config,
-    };
-    DhcpError::new_fixed(ErrorKind::InvalidArgument, text)
 }
 
 // A lease that is within its limits, from this moment on.
@@ -240,18 +236,5 @@ fn first_exchange(xid: u32) -> Exchange
         retransmit_count: 0,
         previous_wait: 0,
         counted_from: 0,
-    }
-}
-
-// The answer of a poll of the rules, as the client's own.
-fn answer_of(
-    answer: Result<Option<ReportedState>, RunError>,
-) -> Result<Option<DhcpV6State>, DhcpError>
-    ensures same { run_answer plain_state result ≡ answer }
-    ensures errors { IfErr result (λ error. (error ≡ timed_out) ⊎ (error ≡ no_memory)) }
-{
-    match answer? {
-        Some(reported) => Ok(Some(reported.into_state())),
-        None => Ok(None),
     }
 }

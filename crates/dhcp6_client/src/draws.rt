@@ -5,8 +5,8 @@ ghost use Rattle.dhcp_clock.specs.Wait as retransmit;
 ghost use Rattle.dhcp_history.specs.Rules.{GivesDrawn};
 ghost use Rattle.dhcp6_client.specs.Rules as table;
 
-use crate::bound_lease::{expiry, rebinding, renewal};
 use crate::client_state::{ClientState, Exchange};
+use crate::granted_lease::{expiry, rebinding, renewal};
 use dhcp_clock::{Words, retransmit_wait};
 
 /// About how long the first Solicit of a stay awaits an answer, in milliseconds. RFC 8415 section

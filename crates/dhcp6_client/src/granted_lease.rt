@@ -1,8 +1,11 @@
-//! A lease that a server offered or granted, or that a client held before.
+//! A lease that a server offered or granted, or that a client held before, and the moments of its
+//! times, RFC 8415 sections 14.2 and 18.2.10.1.
 
-ghost use Rattle.std.specs.Prelude.{◌≡◌, ◌≤◌, length};
+ghost use Rattle.std.specs.Prelude.{◌≡◌, ◌≤◌, ◌<◌, ◌^◌, length};
+ghost use Rattle.dhcp_history.specs.BoundLease.{after};
 ghost use Rattle.dhcp6_opt.specs.Duid.{written_duid};
 
+use dhcp_history::BoundLease;
 use dhcp6_msg::DhcpV6Lease;
 use std::marker::Model;
 
@@ -45,4 +48,28 @@ impl GrantedLease {
     {
         &self.lease
     }
+}
+
+/// The moment of T1, in milliseconds.
+pub fn renewal(bound: &BoundLease<GrantedLease>) -> u64
+    ensures moment { result ≡ after bound.now bound.now.lease.t1_sec }
+    ensures small { result < 2 ^ 61 }
+{
+    bound.after(bound.lease().lease().t1_sec)
+}
+
+/// The moment of T2, in milliseconds.
+pub fn rebinding(bound: &BoundLease<GrantedLease>) -> u64
+    ensures moment { result ≡ after bound.now bound.now.lease.t2_sec }
+    ensures small { result < 2 ^ 61 }
+{
+    bound.after(bound.lease().lease().t2_sec)
+}
+
+/// The moment at which its address or prefix is no longer valid, in milliseconds.
+pub fn expiry(bound: &BoundLease<GrantedLease>) -> u64
+    ensures moment { result ≡ after bound.now bound.now.lease.valid_time_sec }
+    ensures small { result < 2 ^ 61 }
+{
+    bound.after(bound.lease().lease().valid_time_sec)
 }

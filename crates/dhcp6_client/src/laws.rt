@@ -3,6 +3,7 @@
 
 ghost use Rattle.std.specs.Prelude.{◌≡◌, ◌≤◌, ℕ, All};
 ghost use Rattle.dhcp_clock.specs.declared.link.Packet.{Packet};
+ghost use Rattle.dhcp_history.specs.Bounds.{KeepsDistance};
 ghost use Rattle.dhcp_history.specs.History.{history};
 ghost use Rattle.dhcp_history.specs.Laws.{KeepsLaws};
 ghost use Rattle.dhcp_history.specs.Protocol.{Lawful};
@@ -10,7 +11,7 @@ ghost use Rattle.dhcp_history.specs.Script.{Script};
 ghost use Rattle.dhcp6_msg.specs.Config.{Config};
 ghost use Rattle.dhcp6_client.specs.declared.client_state.ClientState.{ClientState};
 ghost use Rattle.dhcp6_client.specs.declared.client_state.Exchange.{Exchange};
-ghost use Rattle.dhcp6_client.specs.Bounds.{AreFarApart, HasElevenRequests};
+ghost use Rattle.dhcp6_client.specs.Bounds.{HasElevenRequests, distance};
 ghost use Rattle.dhcp6_client.specs.Rules.{protocol};
 
 use crate::DhcpV6Client;
@@ -47,7 +48,7 @@ pub fn eleven_requests_of_an_offer(client: &DhcpV6Client)
 pub fn messages_are_far_apart(client: &DhcpV6Client)
     ensures { (script : Script Packet ClientState Exchange) →
         script.exchange.previous_wait ≡ 0 →
-        All AreFarApart (history (protocol client.now.config) script) }
+        All (KeepsDistance distance) (history (protocol client.now.config) script) }
 {
     laws::messages_are_far_apart(&client.rules);
 }

@@ -3,7 +3,6 @@
 #![tactic(auto)]
 
 mod answer;
-mod bound_lease;
 mod client;
 mod client_state;
 mod draws;

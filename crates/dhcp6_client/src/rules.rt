@@ -10,10 +10,9 @@ ghost use Rattle.dhcp6_client.specs.declared.client_state.Exchange.{Exchange};
 
 use crate::DhcpV6State;
 use crate::answer::{awaited_type, read_answer};
-use crate::bound_lease::{expiry, rebinding, renewal};
 use crate::client_state::{ClientState, Exchange};
 use crate::draws::{association_id, restarted, transaction_id, wait};
-use crate::granted_lease::GrantedLease;
+use crate::granted_lease::{GrantedLease, expiry, rebinding, renewal};
 use crate::message::{attempt_message, release_message};
 use crate::state::ReportedState;
 use dhcp_clock::{Handed, Packet, Words, draw};

@@ -1,6 +1,12 @@
 -- By the count of attempts that went without an answer.
-use Rattle.dhcp4_client.proofs.Traffic.{four_history}
+use Rattle.dhcp_history.specs.History.{history}
+use Rattle.dhcp_history.proofs.Traffic.{takes_at_most}
+use Rattle.dhcp4_client.specs.declared.client_state.ClientState.TheVariants.{Rebooting}
+use Rattle.dhcp4_client.specs.Rules.{protocol}
+use Rattle.dhcp4_client.proofs.Traffic.{four}
 use Rattle.dhcp4_client.proofs.laws.four_requests_of_a_lease.Goals as goal
 
 pub returns : goal.returns
-returns c = rw (← c.client.view_is) (λ script. four_history c.client.inside.rules.config script (c.attempts_run_out.ensures script))
+returns c = rw (← c.client.view_is) (λ script.
+    takes_at_most (protocol c.client.inside.rules.config) 4 Rebooting (four c.client.inside.rules.config)
+    (history (protocol c.client.inside.rules.config) script) (c.attempts_run_out.ensures script))
