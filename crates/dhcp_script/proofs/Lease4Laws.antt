@@ -158,28 +158,28 @@ codec_names : IsCodec names_print NamesFit names_at
 unfolding names_at names_parts names_print NamesFit
 codec_names = IsCodec-made_of (IsCodec-both name_field (IsCodec-both name_field routes_field)) names_of names_parts (λ x. refl) (λ y. refl)
 
-later_parts : Version2Fields → LeaseLink × (LeaseServers × LeaseNames)
-later_parts x = (x.link, (x.servers, x.names))
+version2_parts : Version2Fields → LeaseLink × (LeaseServers × LeaseNames)
+version2_parts x = (x.link, (x.servers, x.names))
 
-later_print : Version → Version2Fields → List ℕ
-later_print One x = []
-later_print Two x = link_print x.link ++ (servers_print x.servers ++ names_print x.names)
+version2_print : Version → Version2Fields → List ℕ
+version2_print One x = []
+version2_print Two x = link_print x.link ++ (servers_print x.servers ++ names_print x.names)
 
-LaterFits : Version → Version2Fields → Type 0
-LaterFits One x = x ≡ no_version2_fields
-LaterFits Two x = LinkFits x.link × (ServersFit x.servers × NamesFit x.names)
+Version2Fits : Version → Version2Fields → Type 0
+Version2Fits One x = x ≡ no_version2_fields
+Version2Fits Two x = LinkFits x.link × (ServersFit x.servers × NamesFit x.names)
 
-codec_later : (version : Version) → IsCodec (later_print version) (LaterFits version) (version2_fields_at version)
-unfolding version2_fields_at later_parts later_print LaterFits
-codec_later One = record {
+codec_version2 : (version : Version) → IsCodec (version2_print version) (Version2Fits version) (version2_fields_at version)
+unfolding version2_fields_at version2_parts version2_print Version2Fits
+codec_version2 One = record {
   sound = λ text x rest h. let parts = same_read no_version2_fields x text rest h in (parts.1, sym parts.0);
-  complete = λ x rest fits. ap (λ (later : Version2Fields). Some (later, rest)) (sym fits);
+  complete = λ x rest fits. ap (λ (fields : Version2Fields). Some (fields, rest)) (sym fits);
 }
-codec_later Two = IsCodec-made_of (IsCodec-both codec_link (IsCodec-both codec_servers codec_names)) version2_fields_of later_parts (λ x. refl) (λ y. refl)
+codec_version2 Two = IsCodec-made_of (IsCodec-both codec_link (IsCodec-both codec_servers codec_names)) version2_fields_of version2_parts (λ x. refl) (λ y. refl)
 
 -- what a lease has of them
-later_in : Lease4 → Version2Fields
-later_in lease = record {
+version2_in : Lease4 → Version2Fields
+version2_in lease = record {
   link = record { subnet_mask = lease.subnet_mask; broadcast_addr = lease.broadcast_addr; mtu = lease.mtu };
   servers = record { dns_srvs = lease.dns_srvs; gateways = lease.gateways; ntp_srvs = lease.ntp_srvs };
   names = record { host_name = lease.host_name; domain_name = lease.domain_name; classless_routes = lease.classless_routes };
@@ -188,7 +188,7 @@ later_in lease = record {
 lease_parts : Lease4 → LeaseAddresses × (LeaseTimes × Version2Fields)
 lease_parts lease = (
   record { yiaddr = lease.yiaddr; siaddr = lease.siaddr; srv_id = lease.srv_id },
-  (record { t1_sec = lease.t1_sec; t2_sec = lease.t2_sec; lease_time_sec = lease.lease_time_sec }, later_in lease),
+  (record { t1_sec = lease.t1_sec; t2_sec = lease.t2_sec; lease_time_sec = lease.lease_time_sec }, version2_in lease),
 )
 
 -- an MTU of 16 bits, either way
@@ -203,10 +203,10 @@ mtu_from (Some n) fits = omega arith
 -- the line of a lease, by its parts
 lease_line : (version : Version) (lease : Lease4) → List ℕ
 lease_line version lease =
-    addresses_print (lease_parts lease).0 ++ (times_print version (lease_parts lease).1.0 ++ later_print version (later_in lease))
+    addresses_print (lease_parts lease).0 ++ (times_print version (lease_parts lease).1.0 ++ version2_print version (version2_in lease))
 
 lease_line-is : (version : Version) (lease : Lease4) → lease_line version lease ≡ versioned_lease_text version lease ++ 10 ∷ []
-unfolding lease_line lease_text lease_parts later_in addresses_print times_print later_print link_print servers_print names_print
+unfolding lease_line lease_text lease_parts version2_in addresses_print times_print version2_print link_print servers_print names_print
 lease_line-is One lease = simp append_assoc
 lease_line-is Two lease = simp append_assoc
 
@@ -252,12 +252,12 @@ first_alone-fits lease fits = record {
 }
 
 PartsFit : Version → Lease4 → Type 0
-PartsFit version lease = AddressesFit (lease_parts lease).0 × (TimesFit (lease_parts lease).1.0 × LaterFits version (later_in lease))
+PartsFit version lease = AddressesFit (lease_parts lease).0 × (TimesFit (lease_parts lease).1.0 × Version2Fits version (version2_in lease))
 
 fits_to : (version : Version) (lease : Lease4) → PartsFit version lease → HasLeaseText version lease
-unfolding PartsFit FirstFits LaterFits lease_parts later_in AddressesFit TimesFit LinkFits ServersFit NamesFit empty_lease
+unfolding PartsFit FirstFits Version2Fits lease_parts version2_in AddressesFit TimesFit LinkFits ServersFit NamesFit empty_lease
 fits_to One lease fits =
-    let same : lease ≡ first_alone lease = ap (λ (later : Version2Fields). lease4_of ((lease_parts lease).0, ((lease_parts lease).1.0, later))) fits.1.1 in
+    let same : lease ≡ first_alone lease = ap (λ (fields : Version2Fields). lease4_of ((lease_parts lease).0, ((lease_parts lease).1.0, fields))) fits.1.1 in
     (subst (λ (l : Lease4). IsLease4 l) (sym same) (first_alone-fits lease (fits.0, fits.1.0)), same)
 fits_to Two lease fits = record {
   yiaddr = fits.0.0;
@@ -278,8 +278,8 @@ fits_to Two lease fits = record {
 }
 
 fits_from : (version : Version) (lease : Lease4) → HasLeaseText version lease → PartsFit version lease
-unfolding PartsFit FirstFits LaterFits later_in LinkFits ServersFit NamesFit empty_lease
-fits_from One lease fits = let first = first_from lease fits.0 in (first.0, (first.1, ap later_in fits.1))
+unfolding PartsFit FirstFits Version2Fits version2_in LinkFits ServersFit NamesFit empty_lease
+fits_from One lease fits = let first = first_from lease fits.0 in (first.0, (first.1, ap version2_in fits.1))
 fits_from Two lease fits =
     let first = first_from lease fits in (
       first.0,
@@ -294,9 +294,9 @@ fits_from Two lease fits =
 
 -- the line of a lease
 pub IsCodec-lease : (version : Version) → IsCodec (λ lease. versioned_lease_text version lease ++ 10 ∷ []) (HasLeaseText version) (lease4_at version)
-unfolding lease4_at lease_parts later_in lease_line PartsFit
+unfolding lease4_at lease_parts version2_in lease_line PartsFit
 IsCodec-lease version =
-    IsCodec-as (IsCodec-made_of (IsCodec-both codec_addresses (IsCodec-both (codec_times version) (codec_later version))) lease4_of lease_parts (λ x. refl) (λ y. refl))
+    IsCodec-as (IsCodec-made_of (IsCodec-both codec_addresses (IsCodec-both (codec_times version) (codec_version2 version))) lease4_of lease_parts (λ x. refl) (λ y. refl))
     (lease_line-is version) (fits_to version) (fits_from version)
 
 -- a lease that has a text is one

@@ -119,42 +119,42 @@ codec_times version =
     let spaced = u32_field 32 (omega arith) in
     IsCodec-made_of (IsCodec-both spaced (IsCodec-both spaced (IsCodec-both spaced (u32_field (end_of_times version) (end_of_times-below version))))) times_of times_parts (λ x. refl) (λ y. refl)
 
-later_parts : Version2Fields → ℕ × (List ℕ × Ipv6Addr)
-later_parts x = (x.xid, (x.cli_duid, x.srv_ip))
+version2_parts : Version2Fields → ℕ × (List ℕ × Ipv6Addr)
+version2_parts x = (x.xid, (x.cli_duid, x.srv_ip))
 
-later_print : Version → Version2Fields → List ℕ
-later_print One x = []
-later_print Two x = (decimal x.xid ++ 32 ∷ []) ++ ((hex_text x.cli_duid ++ 32 ∷ []) ++ (address6_text x.srv_ip ++ 10 ∷ []))
+version2_print : Version → Version2Fields → List ℕ
+version2_print One x = []
+version2_print Two x = (decimal x.xid ++ 32 ∷ []) ++ ((hex_text x.cli_duid ++ 32 ∷ []) ++ (address6_text x.srv_ip ++ 10 ∷ []))
 
-LaterFits : Version → Version2Fields → Type 0
-LaterFits One x = x ≡ no_version2_fields
-LaterFits Two x = (x.xid ≤ 4294967295) × (IsBytes x.cli_duid × IsIpv6Addr x.srv_ip)
+Version2Fits : Version → Version2Fields → Type 0
+Version2Fits One x = x ≡ no_version2_fields
+Version2Fits Two x = (x.xid ≤ 4294967295) × (IsBytes x.cli_duid × IsIpv6Addr x.srv_ip)
 
-codec_later : (version : Version) → IsCodec (later_print version) (LaterFits version) (version2_fields_at version)
-unfolding version2_fields_at later_parts later_print LaterFits
-codec_later One = record {
+codec_version2 : (version : Version) → IsCodec (version2_print version) (Version2Fits version) (version2_fields_at version)
+unfolding version2_fields_at version2_parts version2_print Version2Fits
+codec_version2 One = record {
   sound = λ text x rest h. let parts = same_read no_version2_fields x text rest h in (parts.1, sym parts.0);
-  complete = λ x rest fits. ap (λ (later : Version2Fields). Some (later, rest)) (sym fits);
+  complete = λ x rest fits. ap (λ (fields : Version2Fields). Some (fields, rest)) (sym fits);
 }
-codec_later Two = IsCodec-made_of (IsCodec-both (u32_field 32 (omega arith)) (IsCodec-both hex_field (address6_field 10 (omega arith)))) version2_fields_of later_parts (λ x. refl) (λ y. refl)
+codec_version2 Two = IsCodec-made_of (IsCodec-both (u32_field 32 (omega arith)) (IsCodec-both hex_field (address6_field 10 (omega arith)))) version2_fields_of version2_parts (λ x. refl) (λ y. refl)
 
 -- what a lease has of them
-later_in : Lease6 → Version2Fields
-later_in lease = record { xid = lease.xid; cli_duid = lease.cli_duid; srv_ip = lease.srv_ip }
+version2_in : Lease6 → Version2Fields
+version2_in lease = record { xid = lease.xid; cli_duid = lease.cli_duid; srv_ip = lease.srv_ip }
 
 lease_parts : Lease6 → LeaseAssociation × (LeaseTimes × Version2Fields)
 lease_parts lease = (
   record { ia_type = lease.ia_type; iaid = lease.iaid; address = lease.address; prefix_len = lease.prefix_len; srv_duid = lease.srv_duid },
-  (record { t1_sec = lease.t1_sec; t2_sec = lease.t2_sec; preferred_time_sec = lease.preferred_time_sec; valid_time_sec = lease.valid_time_sec }, later_in lease),
+  (record { t1_sec = lease.t1_sec; t2_sec = lease.t2_sec; preferred_time_sec = lease.preferred_time_sec; valid_time_sec = lease.valid_time_sec }, version2_in lease),
 )
 
 -- the line of a lease, by its parts
 lease_line : (version : Version) (lease : Lease6) → List ℕ
 lease_line version lease =
-    association_print (lease_parts lease).0 ++ (times_print version (lease_parts lease).1.0 ++ later_print version (later_in lease))
+    association_print (lease_parts lease).0 ++ (times_print version (lease_parts lease).1.0 ++ version2_print version (version2_in lease))
 
 lease_line-is : (version : Version) (lease : Lease6) → lease_line version lease ≡ versioned_lease_text version lease ++ 10 ∷ []
-unfolding lease_line lease_text lease_parts later_in association_print times_print later_print
+unfolding lease_line lease_text lease_parts version2_in association_print times_print version2_print
 lease_line-is One lease = simp append_assoc
 lease_line-is Two lease = simp append_assoc
 
@@ -178,7 +178,7 @@ none-fits : IsBytes []
 none-fits i = omega arith
 
 PartsFit : Version → Lease6 → Type 0
-PartsFit version lease = AssociationFits (lease_parts lease).0 × (TimesFit (lease_parts lease).1.0 × LaterFits version (later_in lease))
+PartsFit version lease = AssociationFits (lease_parts lease).0 × (TimesFit (lease_parts lease).1.0 × Version2Fits version (version2_in lease))
 
 -- a lease whose last fields fit too
 made_fit : (lease : Lease6) → AssociationFits (lease_parts lease).0 → TimesFit (lease_parts lease).1.0 → lease.xid < 2 ^ 32 → IsBytes lease.cli_duid → IsIpv6Addr lease.srv_ip
@@ -199,9 +199,9 @@ made_fit lease association times xid cli_duid srv_ip = record {
 }
 
 fits_to : (version : Version) (lease : Lease6) → PartsFit version lease → HasLeaseText version lease
-unfolding PartsFit LaterFits lease_parts later_in empty_lease written_duid
+unfolding PartsFit Version2Fits lease_parts version2_in empty_lease written_duid
 fits_to One lease fits =
-    let same : lease ≡ first_alone lease = ap (λ (later : Version2Fields). lease6_of ((lease_parts lease).0, ((lease_parts lease).1.0, later))) fits.1.1 in
+    let same : lease ≡ first_alone lease = ap (λ (fields : Version2Fields). lease6_of ((lease_parts lease).0, ((lease_parts lease).1.0, fields))) fits.1.1 in
     (subst (λ (l : Lease6). IsLease6 l) (sym same) (made_fit (first_alone lease) fits.0 fits.1.0 (omega arith) none-fits unspecified-fits), same)
 fits_to Two lease fits = made_fit lease fits.0 fits.1.0 (let small = fits.1.1.0 in omega arith) fits.1.1.1.0 fits.1.1.1.1
 
@@ -219,15 +219,15 @@ first_from lease fits = (
 )
 
 fits_from : (version : Version) (lease : Lease6) → HasLeaseText version lease → PartsFit version lease
-unfolding PartsFit FirstFits LaterFits later_in empty_lease written_duid
-fits_from One lease fits = let first = first_from lease fits.0 in (first.0, (first.1, ap later_in fits.1))
+unfolding PartsFit FirstFits Version2Fits version2_in empty_lease written_duid
+fits_from One lease fits = let first = first_from lease fits.0 in (first.0, (first.1, ap version2_in fits.1))
 fits_from Two lease fits = let first = first_from lease fits in (first.0, (first.1, ((let small = fits.xid in omega arith), (fits.cli_duid, fits.srv_ip))))
 
 -- the line of a lease
 pub IsCodec-lease : (version : Version) → IsCodec (λ lease. versioned_lease_text version lease ++ 10 ∷ []) (HasLeaseText version) (lease6_at version)
-unfolding lease6_at lease_parts later_in lease_line PartsFit
+unfolding lease6_at lease_parts version2_in lease_line PartsFit
 IsCodec-lease version =
-    IsCodec-as (IsCodec-made_of (IsCodec-both codec_association (IsCodec-both (codec_times version) (codec_later version))) lease6_of lease_parts (λ x. refl) (λ y. refl))
+    IsCodec-as (IsCodec-made_of (IsCodec-both codec_association (IsCodec-both (codec_times version) (codec_version2 version))) lease6_of lease_parts (λ x. refl) (λ y. refl))
     (lease_line-is version) (fits_to version) (fits_from version)
 
 -- the text of a lease begins with the type of its association
