@@ -1,4 +1,4 @@
--- A client, what it answers, and how it begins, RFC 8415 sections 16.1 and 18.2.
+-- A client, and how it begins, RFC 8415 sections 16.1 and 18.2.
 use Rattle.std.specs.Prelude.{◌≡◌, ◌==◌, ◌&&◌, ◌||◌, ℕ, List, Bool, true, not, Option, Some, None}
 use Rattle.std.specs.Option.{option_map_or}
 use Rattle.dhcp_clock.specs.Words.{Drawn, undrawn, drawn_word, drawn_then}

@@ -1,5 +1,5 @@
 -- What a release of a client leaves, and its errors, RFC 8415 section 18.2.7. It is sent once, and
--- no answer is awaited, where the RFC has it sent again until a Reply comes.
+-- no answer is awaited, where the RFC has it sent again until a Reply comes, four times at most.
 use Rattle.std.specs.Prelude.{◌≡◌, ◌⊎◌, ℕ, true, false, Option, Result, Err, IfErr}
 use Rattle.dhcp_wire.specs.Error.{ErrorParts, error_of, fixed_text, no_memory}
 use Rattle.dhcp_wire.specs.declared.error.ErrorKind.TheVariants as kinds

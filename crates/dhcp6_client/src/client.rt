@@ -103,8 +103,8 @@ impl DhcpV6Client {
     /// One poll at a moment, in milliseconds: a kept error, the time limit, the end of the state,
     /// the pause, an attempt, the wait of a refused attempt, the packet. Returns the new state, or
     /// none if it has not changed. `Timeout` if and only if the time limit of the state is over,
-    /// and from then on until a clean-up or a release. When out of memory the client is as it was,
-    /// or as it was right after its message was sent.
+    /// and from then on until a clean-up, or a release that the link takes. When out of memory the
+    /// client is as it was, or as it was right after its message was sent.
     pub fn run<W: Words, L: DhcpLink>(
         &mut self,
         now: u64,
@@ -141,9 +141,10 @@ impl DhcpV6Client {
         self.client.last_moment = now;
     }
 
-    /// The moment, in milliseconds, at which a poll next does something without a packet: before it
-    /// such a poll does nothing; at or after it a poll returns a change or `Timeout`, sends, or
-    /// begins a pause. None if and only if an error is kept. Does not allocate.
+    /// The moment, in milliseconds, at which a poll next does something without a packet: before
+    /// it, but not before the last moment of the client, such a poll does nothing; at or after it a
+    /// poll returns a change or `Timeout`, sends, or begins a pause. None if and only if an error is
+    /// kept. Does not allocate.
     pub fn next_poll(&self) -> Option<u64>
         ensures { IsNextPoll protocol result self.now }
     {

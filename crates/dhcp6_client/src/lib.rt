@@ -1,5 +1,5 @@
-//! A DHCPv6 client, RFC 8415. Its configuration, its lease and its messages are those of dhcp6_msg,
-//! and are named here too.
+//! A DHCPv6 client, RFC 8415. Its configuration, its lease and the builders of its messages are
+//! those of dhcp6_msg, and are named here too.
 #![tactic(auto)]
 
 mod answer;

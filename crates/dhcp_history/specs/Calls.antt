@@ -75,10 +75,10 @@ module _ {PublicState State Exchange Answer Lease : Type 0}
     pub armed : HasNextAttempt p.has_attempts new
 
   -- What every release keeps: a client whose lease was not released is as it was but for its last
-  -- moment, and that too when out of memory.
+  -- moment, of which nothing is said when out of memory.
   pub record KeepsUnreleased {Returned : Type 0} (now : ℕ) (result : Result Returned ErrorParts)
       (old new : Client State Exchange) (failed failed' : ℕ) : Type 0 where
-    -- the link failed once more if it refused the message, and only then
+    -- the link refused the message only if its count of faults rose
     pub faults : HasCause (sent_of result ≡ sent.Refused) failed failed'
     pub timeout : new.timeout_sec ≡ old.timeout_sec
     pub state : OnErr result (new.state ≡ old.state)

@@ -179,7 +179,7 @@ module _ {PublicState State Exchange Answer Lease : Type 0}
     pub link : IfSome before (λ shown. IsSomeAnd after (λ later. HasHanded Taken shown later))
 
 -- What stands after a poll that returns no change: the state is as it was; and nothing is due yet,
--- or an attempt is open, or the link refused the message of this poll and failed.
+-- or an attempt is open, or the link's count of faults rose.
 pub record IsStill {State Exchange : Type 0} (now : ℕ) (old new : Client State Exchange)
     (failed failed' : ℕ) : Type 0 where
   pub state : new.state ≡ old.state

@@ -13,7 +13,8 @@ pub enum Phase {
     Listening,
     /// The link refused its last message: no packet is taken until it takes one.
     Resting,
-    /// Its time limit is over: it keeps that error until a clean-up or a release.
+    /// Its time limit is over: it keeps that error until a clean-up, or a release that the link
+    /// takes.
     Stopped,
 }
 
@@ -41,8 +42,8 @@ pub struct Client<S, X> {
     pub timeout_sec: u32,
     /// Where it stands in its state.
     pub standing: Standing<X>,
-    /// The last moment that was given to it, in milliseconds; 0 where there was none. A call that
-    /// is out of memory leaves it.
+    /// The last moment that was given to it, in milliseconds; 0 where there was none. A poll that
+    /// is out of memory leaves it, unless it has sent its message.
     pub last_moment: u64,
     ghost entered_in: { standing.entered < 2 ^ 60 },
 }

@@ -311,8 +311,9 @@ fn run_events<R: Rules, W: Words>(
     Ok(outputs)
 }
 
-/// What the events report: the outputs of the history of their script, where the client begins as
-/// the script says. Out of memory is the only error.
+/// What the events report. If the words are known, the rules are lawful and the client begins as a
+/// script says that has these events, it is what the history of that script reports. Out of memory
+/// is the only error.
 pub fn replay<R: Rules, W: Words>(
     alloc: Global,
     rules: &R,

@@ -1,5 +1,5 @@
-//! The laws of histories, over all rules and every script. Each is the clause of a function that
-//! does nothing.
+//! The laws of histories, over all rules and every script; most ask that the rules are lawful. Each
+//! is the clause of a function that does nothing.
 
 ghost use Rattle.std.specs.Prelude.{◌≡◌, ◌≤◌, ℕ, List, All, Bool, true};
 ghost use Rattle.dhcp_clock.specs.declared.link.Packet.{Packet};
@@ -130,7 +130,7 @@ pub fn messages_halve<R: Rules>(rules: &R)
 }
 
 /// Successive attempts of a stay keep the least distance, in milliseconds, that the waits of its
-/// state have.
+/// state have over exchanges that pass a test, which the first one passes and every step keeps.
 pub fn attempts_are_far_apart<R: Rules>(rules: &R)
     ensures { (good : R.Exchange → Bool) → IsKept (R.protocol rules.now) good →
         (script : Script Packet R.State R.Exchange) → good script.exchange ≡ true →
@@ -139,7 +139,7 @@ pub fn attempts_are_far_apart<R: Rules>(rules: &R)
     let _rules = rules;
 }
 
-/// The messages of a stay that the link took keep the same least distance.
+/// The messages of a stay that the link took keep the same least distance, by the same test.
 pub fn messages_are_far_apart<R: Rules>(rules: &R)
     ensures { (good : R.Exchange → Bool) → IsKept (R.protocol rules.now) good →
         (script : Script Packet R.State R.Exchange) → good script.exchange ≡ true →

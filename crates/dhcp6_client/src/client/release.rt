@@ -13,11 +13,11 @@ impl DhcpV6Client {
     ghost use Rattle.dhcp6_client.specs.Rules.{protocol};
 
     /// Releases a lease at a moment, in milliseconds, and cleans up. The message is sent once, and
-    /// no answer is awaited; by RFC 8415 section 18.2.7 it is sent again until a Reply comes. Ok if
-    /// and only if the link took the message. `InvalidArgument` if and only if the server's
-    /// identifier of the lease is not 2 to 65,535 bytes; nothing is sent then, and the client is
-    /// unchanged. `IoError` if and only if the link refused the message; the client is then
-    /// unchanged but for its last moment.
+    /// no answer is awaited; by RFC 8415 section 18.2.7 it is sent again until a Reply comes, four
+    /// times in all at most. Ok if and only if the link took the message. `InvalidArgument` if and
+    /// only if the server's identifier of the lease is not 2 to 65,535 bytes; nothing is sent then,
+    /// and the client is unchanged. `IoError` if and only if the link refused the message; the
+    /// client is then unchanged but for its last moment.
     pub fn release<L: DhcpLink>(
         &mut self,
         lease: &DhcpV6Lease,
