@@ -45,7 +45,8 @@ fn next_moment<R: Rules>(rules: &R, client: &Client<R::State, R::Exchange>) -> O
 
 /// The moment at which a poll next does something without a packet, in milliseconds. Before it, but
 /// not before the last moment of the client, a poll without a packet does nothing; at or after it a
-/// poll answers a change or the error, sends, or begins a pause. It is none where the client has stopped, or nothing lies ahead in its state.
+/// poll answers a change or the error, sends, or begins a pause. It is none where the client has
+/// stopped, or nothing lies ahead in its state.
 pub fn next_poll<R: Rules>(rules: &R, client: &Client<R::State, R::Exchange>) -> Option<u64>
     ensures { HasNextPoll (R.protocol rules.now) result client.now }
 {
