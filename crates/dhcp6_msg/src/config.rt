@@ -241,7 +241,8 @@ impl DhcpV6Config {
         Ok(())
     }
 
-    /// The client's identifier, after `init_duid`.
+    /// The client's identifier, after `init_duid`. No clause says what else the configuration has
+    /// then.
     pub fn get_duid_or_init<W: Words>(
         &mut self,
         alloc: Global,

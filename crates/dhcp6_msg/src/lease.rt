@@ -37,19 +37,22 @@ use std::net::Ipv6Addr;
 /// A lease, RFC 8415 section 18.2.10.1. Contracts see it as the record of its fields.
 #[derive(Debug, PartialEq, Eq, Drop)]
 pub struct DhcpV6Lease {
-    /// T1: when it is renewed, in seconds (RFC 8415, section 14.2).
+    /// T1: when it is renewed, in seconds (RFC 8415, sections 21.4 and 21.21).
     pub t1_sec: u32,
-    /// T2: when it is rebound, in seconds; not before T1 (RFC 8415, section 14.2).
+    /// T2: when it is rebound, in seconds; not before T1 where a message granted it (RFC 8415,
+    /// sections 21.4 and 21.21).
     pub t2_sec: u32,
-    /// For how many seconds the address is preferred; not longer than it is valid.
+    /// For how many seconds the address is preferred; not longer than it is valid where a message
+    /// granted it.
     pub preferred_time_sec: u32,
-    /// For how many seconds it is valid; not before T2.
+    /// For how many seconds it is valid; not before T2 where a message granted it.
     pub valid_time_sec: u32,
     /// The transaction id of the message that granted it.
     pub xid: u32,
     /// The identifier of its identity association.
     pub iaid: u32,
-    /// The type of its identity association, if it is known.
+    /// The type of its identity association, if it is known: of IA_NA, IA_TA and IA_PD the last that
+    /// the message has, also one that grants nothing.
     pub ia_type: Option<DhcpV6IaType>,
     /// The address or the prefix that is leased.
     pub address: Ipv6Addr,
@@ -140,7 +143,7 @@ impl DhcpV6Lease {
     /// grants, then its first IA_TA, then its first IA_PD, each over those before. `NoLease` if and
     /// only if the first readable status is not `Success`. Else `InvalidDhcpMessage` if and only if
     /// T1 is after T2, T2 or the preferred lifetime after the valid one, there is no server
-    /// identifier, or nothing is granted.
+    /// identifier, or the address is ::, as it is if nothing is granted.
     pub fn new_from_msg(alloc: Global, msg: &DhcpV6Message) -> Result<Self, DhcpError>
         ensures reads { Gives (λ lease. lease) result (read_lease msg.now) }
         ensures in_order { IfOk result (λ lease. IsTrue (are_times_in_order lease)) }
@@ -195,7 +198,7 @@ impl DhcpV6Lease {
     }
 
     /// Whether a client may hold it: its times are in order, its address is not ::, its `ia_type`
-    /// is there, and its server's identifier has 2 to 65,535 bytes (RFC 8415, section 11.1).
+    /// is there, and its server's identifier can be sent.
     #[tactic(auto, unfolding(crate::specs::Lease::is_within_limits))]
     pub fn is_within_limits(&self) -> bool
         ensures { result ≡ is_within_limits self.now }
@@ -249,7 +252,8 @@ impl TryClone for DhcpV6Lease {
     }
 }
 
-/// Whether an identifier can be sent: it has 2 to 65,535 bytes (RFC 8415, section 11.1).
+/// Whether an identifier can be sent: it has 2 to 65,535 bytes, its type and as many as an option
+/// holds. RFC 8415 section 11.1 asks for 3 to 130.
 pub fn is_duid(duid: &DhcpV6Duid) -> bool
     ensures { result ≡ Lease.is_duid duid.now }
 {

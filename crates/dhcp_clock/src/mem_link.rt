@@ -55,7 +55,8 @@ impl MemLink {
         self.waiting = packet;
     }
 
-    /// Sets whether the link refuses each message from now on, and counts a fault for each.
+    /// Sets whether the link refuses each message from now on, unless out of memory, and counts a
+    /// fault for each that it refuses.
     pub fn set_refuse(&mut self, refuse: bool)
         ensures { self.new ≡ refusing refuse self.old }
     {

@@ -54,7 +54,8 @@ abbrev pub IsMessageOf : Config → ℕ → ClientState → Handed → Type 0
 IsMessageOf config xid state message = message ≡ attempt_message xid config state
 
 -- What is promised of a client with this configuration, and with a lease that it held before or
--- none, over these words and events. A message counts if the link took it.
+-- none, over these words and events. In the bounds of a stay a message counts if the link took it;
+-- in those of an event a refused one counts too.
 pub record KeepsPromises (config : Config) (lease : Option Lease) (words : List ℕ)
     (events : List Event) : Type 0 where
   -- k requests in a stay, k at least 2, come in RENEWING only if T2 - T1, and in REBINDING only if

@@ -59,7 +59,8 @@ pub record IsMessageOf (config : Config) (state : ClientState) (message : Handed
   pub is : message ≡ attempt_message xid config elapsed iaid state
 
 -- What is promised of a client with this configuration, and with a lease that it held before or
--- none, over this life. A message counts if the link took it.
+-- none, over this life. In the bounds of a stay a message counts if the link took it; in those of an
+-- event a refused one counts too.
 pub record KeepsPromisesOver (config : Config) (lease : Option Lease)
     (life : Script Packet ClientState Exchange) : Type 0 where
   -- an offer is requested at most eleven times in a stay
@@ -75,9 +76,9 @@ pub record KeepsPromisesOver (config : Config) (lease : Option Lease)
   pub names_its_basis :
       All (NamesItsBasis (HasBasis lease life.events) (IsMessageOf config))
       (history (protocol config) life)
-  -- Each event has at most seven polls. After them a client without a kept error does not hold a
-  -- lease at or past its T1, or its end if it is of temporary addresses, is not in Renew at or past
-  -- T2, and not in Rebind at or past the end of its lease.
+  -- Each event has at most seven polls. After them a client without a kept error is not in Done at
+  -- or past T1, or at or past the end of its lease if it asks for temporary addresses, not in Renew
+  -- at or past T2, and not in Rebind at or past the end of its lease.
   pub settles : SettlesAtEach (protocol config) (first_view life) life.events
 
 -- the same of a client that begins with this configuration and this lease at this start, over these

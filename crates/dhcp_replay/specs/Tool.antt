@@ -212,7 +212,8 @@ pub record Moved : Type 0 where
 
 -- What each status says where these texts are read.
 pub record EndsReading {S : Type 0} (texts : Texts S) (status : ℕ) (moved : Moved) : Type 0 where
-  -- the text of a valid script is answered, unless out of memory or the source or the sink fails
+  -- the text of a valid script, if it is not too long, is answered, unless out of memory or the
+  -- source or the sink fails
   pub complete : (script : S) → texts.IsOne script
       → texts.is_valid script ≡ true
       → moved.left ≡ Some (texts.text script)

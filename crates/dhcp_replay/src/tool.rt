@@ -95,8 +95,8 @@ pub fn replay_tool<S: Source, K: Sink>(
     source: &mut S,
     sink: &mut K,
 ) -> u8
-    // The headline: the text of a valid script is answered by the text of what is reported of its
-    // client, unless out of memory.
+    // The headline: the text of a valid script, of at most 16 MiB, is answered by the text of what
+    // is reported of its client, unless out of memory or the source or the sink fails.
     ensures headline { (script : Script) → AsksForRun (map string_bytes words.now)
         → IsScript script
         → is_valid script ≡ true

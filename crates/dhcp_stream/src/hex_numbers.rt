@@ -16,16 +16,16 @@ use crate::hex_field;
 use dhcp_wire::{DhcpError, Sequence};
 use std::alloc::Global;
 
-/// The words of a field in lower-case hex, eight digits for each; the field `-` is no words. None
-/// if and only if the field is neither.
+/// The words, one or more, of a field in lower-case hex, eight digits for each; the field `-` is no
+/// words. None if and only if the field is neither.
 pub fn words_field(alloc: Global, field: &[u8]) -> Result<Option<Sequence<u32>>, DhcpError>
     ensures { GivesReading words_text AreWords result field.now }
 {
     numbers_field(alloc, field)
 }
 
-/// The option codes of a field in lower-case hex, four digits for each; the field `-` is no codes.
-/// None if and only if the field is neither.
+/// The option codes, one or more, of a field in lower-case hex, four digits for each; the field `-`
+/// is no codes. None if and only if the field is neither.
 pub fn codes_field(alloc: Global, field: &[u8]) -> Result<Option<Sequence<u16>>, DhcpError>
     ensures { GivesReading (numbers_text w16) (AreOfWidth w16) result field.now }
 {

@@ -18,8 +18,8 @@ use hex::{FromHex, FromHexError};
 use std::alloc::{AllocError, Global};
 use std::net::Ipv6Addr;
 
-/// The bytes of a field in lower-case hex, two digits for each byte; the field `-` is no bytes.
-/// None if and only if the field is neither.
+/// The bytes, one or more, of a field in lower-case hex, two digits for each byte; the field `-` is
+/// no bytes. None if and only if the field is neither.
 pub fn hex_field(alloc: Global, field: &[u8]) -> Result<Option<Bytes>, DhcpError>
     ensures { GivesReading hex_text IsBytes result field.now }
 {

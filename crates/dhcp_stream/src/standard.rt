@@ -1,5 +1,5 @@
 //! Sources and sinks over the readers and writers of std, such as standard input and output.
-//! Contracts do not know their bytes; each error is counted.
+//! Contracts do not know their bytes, nor which calls fail; each that answers a failure is counted.
 
 ghost use Rattle.std.specs.Prelude.{◌≡◌, ◌≤◌, ◌<◌, [], None, length, take};
 ghost use Rattle.dhcp_wire.specs.Fault.{HasCause};
@@ -17,7 +17,8 @@ use crate::{ReadOutcome, Sink, Source, WriteOutcome};
 use std::io::{Read, Write};
 use std::marker::Model;
 
-/// A source over a reader: each error of the reader is a fault. Contracts see the number of faults.
+/// A source over a reader: each error of the reader is a fault, which is only tested. Contracts see
+/// the number of faults.
 #[derive(Debug, Drop)]
 pub struct StdSource<R> {
     reader: R,
@@ -25,7 +26,8 @@ pub struct StdSource<R> {
 }
 
 /// A sink over a writer: each error of the writer is a fault, and so is a write that took nothing
-/// of a piece that is not empty. Contracts see the number of faults.
+/// of a piece that is not empty; that errors are faults is only tested. Contracts see the number of
+/// faults.
 #[derive(Debug, Drop)]
 pub struct StdSink<W> {
     writer: W,
@@ -71,8 +73,8 @@ impl<R: Read> Source for StdSource<R> {
 
     ghost faults = { λ source. source };
 
-    /// As the trait says. The count of faults rises by one at an error of the reader, and at no
-    /// other read.
+    /// As the trait says. The count of faults rises by one where this answers `Failed`, as it does
+    /// at an error of the reader, and stays at every other read.
     #[tactic(auto, unfolding(crate::specs::Stream::in_front))]
     fn read(&mut self, into: &mut [u8]) -> ReadOutcome
         ensures within { read_count result ≤ length into.new }
@@ -97,8 +99,9 @@ impl<W: Write> Sink for StdSink<W> {
 
     ghost faults = { λ sink. sink };
 
-    /// As the trait says. The count of faults rises by one at an error of the writer and if it
-    /// takes nothing of a piece that is not empty, and at no other write.
+    /// As the trait says. The count of faults rises by one where this answers `Failed`, as it does
+    /// at an error of the writer and if it takes nothing of a piece that is not empty, and stays at
+    /// every other write.
     #[tactic(auto, unfolding(crate::specs::Stream::behind))]
     fn write(&mut self, bytes: &[u8]) -> WriteOutcome
         ensures within { write_count result ≤ length bytes.now }

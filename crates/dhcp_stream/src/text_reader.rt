@@ -52,8 +52,8 @@ impl<T: Drop> From<AllocFailed<T>> for ReadError {
     }
 }
 
-/// Reads a text from its front. Contracts see it as the bytes that are left. Where nothing is read,
-/// the position is free.
+/// Reads a text from its front. Contracts see it as the bytes that are left. After an error no
+/// clause says what these are.
 #[derive(Debug, Drop)]
 pub struct TextReader<'a> {
     left: &'a [u8],
@@ -198,8 +198,8 @@ fn first(text: &[u8], end: u8) -> Option<usize>
     text.iter().position(|byte| *byte == end)
 }
 
-/// What a field gave, where that may need memory: none is `Malformed`, and an error, which is out
-/// of memory, stays one.
+/// What a field gave, where that may need memory: none is `Malformed`, and any error is out of
+/// memory.
 pub fn found<T>(read: Result<Option<T>, DhcpError>) -> Result<T, ReadError>
     ensures { values.IsFound read result }
 {

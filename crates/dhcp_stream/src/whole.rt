@@ -9,7 +9,8 @@ use crate::{ReadOutcome, Sink, Source, WriteOutcome};
 use dhcp_wire::{Bytes, DhcpError};
 use std::alloc::Global;
 
-/// How many bytes are read at most: 16 MiB.
+/// How many bytes a source that is read whole may have: 16 MiB. One more is read to tell that there
+/// are more.
 pub const MAX_INPUT: usize = 16_777_216;
 
 /// What reading a source to its end found.
