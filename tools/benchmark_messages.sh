@@ -18,7 +18,7 @@ fi
 input=$(mktemp)
 trap 'rm -f "$input"' EXIT
 
-# A line of hex: a message with these options, or a frame with so many bytes of payload.
+# A line of hex: a message with these options, or a frame of so many bytes in all.
 message() { # options in hex, bytes in all
     awk -v options="$1" -v size="$2" 'BEGIN {
         text = "0201060012345678" "00000000" "00000000" "c000020a" "c0000201" "00000000"
@@ -42,7 +42,7 @@ frame() { # bytes in all
     }' >"$input"
 }
 
-# A message with 239 options of four bytes, one of them the message type.
+# A message with 239 options, 238 of them of four bytes; the other is the message type.
 many_options() {
     awk 'BEGIN {
         text = "0201060012345678" "00000000" "00000000" "c000020a" "c0000201" "00000000"

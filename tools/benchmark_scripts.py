@@ -77,6 +77,8 @@ def renewed6(count, advertise, reply):
         start = 50_010 * number + 50_000
         yield f"at {start} ok none"
         yield f"at {start + 10} ok payload {reply}"
+    if count % 2 == 0:
+        yield f"at {50_010 * ((count - 3) // 2)} ok none"
 
 
 def foreign6(count, advertise, _):

@@ -55,7 +55,7 @@ fn config(alloc: Global) -> Result<DhcpV6Config, DhcpError> {
     Ok(config)
 }
 
-// A lease without an end, of 2001:db8::10.
+// The longest lease, of 4,294,967,295 seconds, of 2001:db8::10.
 fn long_lease(alloc: Global) -> Result<DhcpV6Lease, DhcpError> {
     let mut lease = DhcpV6Lease::empty(alloc);
     lease.t1_sec = u32::MAX;

@@ -9,7 +9,7 @@ pub trait Client: Drop {
     /// A client that holds no lease and was not polled yet, and the words that it draws later.
     fn begin(alloc: Global) -> Result<(Self, WordList), DhcpError>;
 
-    /// Gives it a lease without an end, at the moment 0.
+    /// Gives it the longest lease, of 4,294,967,295 seconds, at the moment 0.
     fn hold_long_lease(&mut self, alloc: Global) -> Result<(), DhcpError>;
 
     /// One poll at a moment.

@@ -10,7 +10,8 @@
 //! whose Discover is open, each time with the frame of the line, and `life` has it live from its
 //! Discover to its release, with the frames of an Offer and of an Ack as two lines; `idle6`,
 //! `foreign6` and `life6` do so with an IPv6 client, and payloads. These print how many polls or
-//! lives there were. With other words or another input it prints nothing, and fails.
+//! lives there were. A task that is done at least once prints nothing, and fails, if a line that it
+//! reads is missing, is not hex or does not read.
 #![tactic(auto)]
 
 mod client4;
@@ -36,7 +37,7 @@ use std::{env, io};
 enum Failure {
     /// The words are not a name of the list above and a number below 2^32.
     Words,
-    /// A line is not hex, or there are not as many lines as the task reads.
+    /// A line is not hex, or there are fewer lines than the task reads.
     Hex,
     /// The bytes do not read, or out of memory.
     Message(DhcpError),

@@ -1,5 +1,6 @@
 -- What a network manager does with what its client reports.
-use Rattle.std.specs.Prelude.{◌≡◌, ◌≤◌, ℕ, Bool, false, List, Option, Some, None}
+use Rattle.std.specs.Prelude.{◌≡◌, ◌≤◌, ℕ, Bool, false, List, Option, Some, None, count_ones}
+use Rattle.std.specs.Net.Addr.{ipv4_bits}
 use Rattle.std.specs.declared.net.Ipv4Addr.{Ipv4Addr}
 use Rattle.std.specs.declared.net.Ipv6Addr.{Ipv6Addr}
 use Rattle.dhcp_history.specs.Client.{view_of}
@@ -20,6 +21,14 @@ address_after states4.selecting address = None
 address_after states4.renewing address = address
 address_after states4.rebinding address = address
 
+-- how many bits of it are those of its network: those of the mask of the lease that came last
+abbrev pub prefix_length_after : states4.PlainState → ℕ → ℕ
+prefix_length_after (states4.done lease) length = count_ones (ipv4_bits lease.subnet_mask)
+prefix_length_after states4.init_reboot length = length
+prefix_length_after states4.selecting length = length
+prefix_length_after states4.renewing length = length
+prefix_length_after states4.rebinding length = length
+
 -- and its IPv6 address
 abbrev pub address_after6 : states6.PlainState → Option Ipv6Addr → Option Ipv6Addr
 address_after6 (states6.done lease) address = Some lease.address
@@ -29,7 +38,8 @@ address_after6 states6.renew address = address
 address_after6 states6.rebind address = address
 
 -- A client that keeps no error has nothing to do before a moment: until a packet comes, a poll at
--- any moment before it returns nothing, sends nothing and draws nothing.
+-- any moment before it, but not before its last one, returns nothing, sends nothing and draws
+-- nothing.
 abbrev pub SleepsUntil : {PublicState Packet Message State Exchange Answer Lease : Type 0} →
     Protocol PublicState Packet Message State Exchange Answer Lease → Option ℕ →
     Client State Exchange → Type 0

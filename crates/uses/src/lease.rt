@@ -13,16 +13,17 @@ use dhcp4_msg::{DhcpV4Message, DhcpV4MessageType};
 use std::alloc::Global;
 use std::net::Ipv4Addr;
 
-/// The lease that an Ack grants; none only if the payload is a message of another type.
+/// The lease that an Ack grants; none only if the payload is a message of another type, and refused
+/// only if it is no message, or an Ack.
 pub fn lease_of_ack<W: Words>(
     alloc: Global,
     payload: &[u8],
     words: &mut W,
 ) -> Result<Option<DhcpV4Lease>, DhcpError>
     ensures fields { IfOk result (λ found. IfSome found (λ lease.
-        IfSome (read_message payload.now) (λ message. HasFieldsOf message lease))) }
+        IsSomeAnd (read_message payload.now) (λ message. HasFieldsOf message lease))) }
     ensures acknowledged { IfOk result (λ found. IfSome found (λ lease.
-        IfSome (read_message payload.now) (λ message.
+        IsSomeAnd (read_message payload.now) (λ message.
         message_type message.options ≡ Some DhcpV4MessageType.Ack))) }
     ensures other { result ≡ Ok None → IsSomeAnd (read_message payload.now) (λ message.
         message_type message.options ≡ Some DhcpV4MessageType.Ack → ⊥) }
@@ -30,6 +31,9 @@ pub fn lease_of_ack<W: Words>(
         IsTrue (are_times_in_order lease))) }
     ensures error { IfErr result (λ e.
         (e ≡ no_memory) ⊎ (e.kind ≡ ErrorKind.InvalidDhcpMessage)) }
+    ensures refused { IfErr result (λ e. e.kind ≡ ErrorKind.InvalidDhcpMessage →
+        IfSome (read_message payload.now) (λ message.
+        message_type message.options ≡ Some DhcpV4MessageType.Ack)) }
 {
     let message = DhcpV4Message::parse(alloc, payload)?;
     if message.message_type() != Some(DhcpV4MessageType::Ack) {

@@ -1,7 +1,8 @@
 //! Building a message, writing it and reading it.
 
-ghost use Rattle.std.specs.Prelude.{◌≡◌, ◌↔◌, None, IfOk, IfSome, IsTrue, codes, is_some};
+ghost use Rattle.std.specs.Prelude.{◌≡◌, ◌↔◌, None, IfErr, IfOk, IfSome, IsTrue, codes, is_some};
 ghost use Rattle.std.specs.FinMap as map;
+ghost use Rattle.dhcp_wire.specs.Error.{no_memory};
 ghost use Rattle.dhcp_wire.specs.Outcome.{Makes};
 ghost use Rattle.dhcp4_msg.specs.Laws.{MessageIsInRange, read_back};
 ghost use Rattle.dhcp4_msg.specs.Message.{written_message};
@@ -39,6 +40,7 @@ pub fn discover_payload(
     ensures bytes { IfOk result (λ found. IfSome found (λ payload.
         payload ≡ written_message (table_message xid config.now discover))) }
     ensures made { IfOk result (λ found. is_some found ≡ is_within_limits config.now) }
+    ensures error { IfErr result (λ e. e ≡ no_memory) }
 {
     if !config.is_within_limits() {
         return Ok(None);

@@ -1,6 +1,6 @@
 //! Messages of a DHCPv6 client: the search for servers, and the lease of an answer.
 
-ghost use Rattle.std.specs.Prelude.{◌≡◌, ◌⊎◌, Err, IfErr, IfOk, IfSome, IsTrue, None, Ok, is_some};
+ghost use Rattle.std.specs.Prelude.{◌≡◌, ◌⊎◌, Err, IfErr, IfOk, IfSome, IsSomeAnd, IsTrue, None, Ok, is_some};
 ghost use Rattle.dhcp_wire.specs.Error.{no_memory};
 ghost use Rattle.dhcp6_msg.specs.Config.{is_within_limits};
 ghost use Rattle.dhcp6_msg.specs.Lease.{Lease, are_times_in_order, read_lease};
@@ -33,6 +33,7 @@ pub fn solicit_payload(
         payload ≡ written_message
         (table_message xid config.now (solicit config.now.mode iaid 0)))) }
     ensures made { IfOk result (λ found. is_some found ≡ is_within_limits config.now) }
+    ensures error { IfErr result (λ e. e ≡ no_memory) }
 {
     if !config.is_within_limits() {
         return Ok(None);
@@ -49,16 +50,17 @@ pub fn lease_of_reply(
     xid: u32,
 ) -> Result<Option<DhcpV6Lease>, DhcpError>
     ensures granted { IfOk result (λ found. IfSome found (λ lease.
-        IfSome (read_message payload.now) (λ message. read_lease message ≡ Ok lease))) }
+        IsSomeAnd (read_message payload.now) (λ message. read_lease message ≡ Ok lease))) }
     ensures addressed { IfOk result (λ found. IfSome found (λ lease.
-        IfSome (read_message payload.now) (λ message. (id_number message.xid ≡ xid)
+        IsSomeAnd (read_message payload.now) (λ message. (id_number message.xid ≡ xid)
         × (message.msg_type ≡ DhcpV6MessageType.Reply)))) }
     ensures other { result ≡ Ok None → IfSome (read_message payload.now) (λ message.
         id_number message.xid ≡ xid → message.msg_type ≡ DhcpV6MessageType.Reply → ⊥) }
     ensures in_order { IfOk result (λ found. IfSome found (λ lease.
         IsTrue (are_times_in_order lease))) }
     ensures error { IfErr result (λ e. (e ≡ no_memory)
-        ⊎ IfSome (read_message payload.now) (λ message. read_lease message ≡ Err e.kind)) }
+        ⊎ IsSomeAnd (read_message payload.now) (λ message. (id_number message.xid ≡ xid)
+        × ((message.msg_type ≡ DhcpV6MessageType.Reply) × (read_lease message ≡ Err e.kind)))) }
 {
     let Some(view) = DhcpV6View::new(payload) else {
         return Ok(None);

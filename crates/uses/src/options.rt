@@ -1,6 +1,6 @@
 //! The options of a message.
 
-ghost use Rattle.std.specs.Prelude.{◌≡◌, IfErr, IfOk, IfSome, MatchOption, None};
+ghost use Rattle.std.specs.Prelude.{◌≡◌, ◌⊎◌, IfErr, IfOk, IfSome, IsSomeAnd, MatchOption, None, OnErr, OnOk, Some};
 ghost use Rattle.std.specs.FinMap as map;
 ghost use Rattle.dhcp_wire.specs.Error.{no_memory};
 ghost use Rattle.dhcp4_msg.specs.OptionCode.{number_of};
@@ -33,8 +33,10 @@ pub fn copy_option(
 
 /// Reads an option and puts it among others: what was read can be inserted.
 pub fn insert_parsed(alloc: Global, bytes: &[u8], to: &mut DhcpV4Options) -> Result<(), DhcpError>
-    ensures { IfOk result (λ _. IfSome (option_at bytes.now).0
+    ensures inserted { OnOk result (IsSomeAnd (option_at bytes.now).0
         (λ option. to.new ≡ map.insert to.old (option_number option) option)) }
+    ensures refused { IfErr result (λ e. (e ≡ no_memory) ⊎ ((option_at bytes.now).0 ≡ None)) }
+    ensures unchanged { OnErr result (to.new ≡ to.old) }
 {
     let option = DhcpV4Option::parse(alloc, &mut Buffer::new(bytes))?;
     to.insert(option)
@@ -42,7 +44,10 @@ pub fn insert_parsed(alloc: Global, bytes: &[u8], to: &mut DhcpV4Options) -> Res
 
 /// The subnet mask of some options: what stands under its code is a subnet mask.
 pub fn subnet_mask(options: &DhcpV4Options) -> Option<Ipv4Addr>
-    ensures { result ≡ None
+    ensures mask { IfSome result (λ mask.
+        map.get options.now (number_of DhcpV4OptionCode.SubnetMask)
+        ≡ Some (DhcpV4Option.SubnetMask mask)) }
+    ensures none { result ≡ None
         → map.get options.now (number_of DhcpV4OptionCode.SubnetMask) ≡ None }
 {
     match options.get(DhcpV4OptionCode::SubnetMask) {

@@ -1,11 +1,12 @@
 //! Options of DHCPv6.
 
-ghost use Rattle.std.specs.Prelude.{◌≡◌, IfErr, IfOk, IsTrue, None, Some};
+ghost use Rattle.std.specs.Prelude.{◌≡◌, IfErr, IfOk, None, Some, if◌then◌else◌};
 ghost use Rattle.dhcp_wire.specs.Error.{no_memory};
-ghost use Rattle.dhcp6_opt.specs.Ia as ia;
 ghost use Rattle.dhcp6_opt.specs.OptionCode.{number_of};
 ghost use Rattle.dhcp6_opt.specs.Options.{first_of, with_option};
+ghost use Rattle.dhcp6_opt.specs.Value.{fits};
 ghost use Rattle.dhcp6_opt.specs.declared.status.DhcpV6OptionStatus.{DhcpV6OptionStatus};
+ghost use Rattle.uses.specs.Options6.{prefix_request};
 
 use dhcp_wire::DhcpError;
 use dhcp6_opt::{
@@ -19,14 +20,9 @@ pub fn ask_for_prefix(
     prefix_len: u8,
     iaid: u32,
 ) -> Result<bool, DhcpError>
-    ensures asked { IfOk result (λ asked. IsTrue asked
-        → options.new ≡ with_option options.old (DhcpV6Option.IAPD record {
-          iaid = iaid;
-          t1_sec = 0;
-          t2_sec = 0;
-          prefix = Some (ia.plain_prefix ia.unspecified prefix_len 0 0);
-          status = None;
-        })) }
+    ensures asked { IfOk result (λ asked. options.new ≡ (if asked
+        then with_option options.old (prefix_request prefix_len iaid) else options.old)) }
+    ensures fits { IfOk result (λ asked. asked ≡ fits (prefix_request prefix_len iaid)) }
     ensures error { IfErr result (λ e. (e ≡ no_memory) × (options.new ≡ options.old)) }
 {
     let option = DhcpV6Option::IAPD(DhcpV6OptionIaPd::new_with_hint(prefix_len, iaid));
@@ -39,10 +35,12 @@ pub fn ask_for_prefix(
 
 /// What a server says of the whole message: the code of its first status option.
 pub fn status_of(options: &DhcpV6Options) -> Option<DhcpV6OptionStatusCode>
-    ensures { (status : DhcpV6OptionStatus)
+    ensures status { (status : DhcpV6OptionStatus)
         → first_of options.now (number_of DhcpV6OptionCode.StatusCode)
         ≡ Some (DhcpV6Option.StatusCode status)
         → result ≡ Some status.status }
+    ensures none { first_of options.now (number_of DhcpV6OptionCode.StatusCode) ≡ None
+        → result ≡ None }
 {
     match options.get_first(DhcpV6OptionCode::StatusCode) {
         Some(DhcpV6Option::StatusCode(status)) => Some(status.status),

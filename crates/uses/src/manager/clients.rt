@@ -81,7 +81,9 @@ pub fn new_client6<W: Words>(
     link_local: Ipv6Addr,
     words: &mut W,
 ) -> Result<DhcpV6Client, DhcpError>
-    ensures { IfOk result (λ client. client.client.state ≡ Solicit) }
+    ensures state { IfOk result (λ client. client.client.state ≡ Solicit) }
+    ensures index { IfOk result (λ client. client.config.iface_index ≡ 3) }
+    ensures source { IfOk result (λ client. client.config.src_ip ≡ link_local) }
 {
     let mut config = DhcpV6Config::new(alloc, "eth0", DhcpV6Mode::NonTemporaryAddresses)?;
     config

@@ -3,7 +3,7 @@
 ghost use Rattle.std.specs.Prelude.{◌≡◌};
 ghost use Rattle.dhcp4_client.specs.State as states4;
 ghost use Rattle.dhcp6_client.specs.State as states6;
-ghost use Rattle.uses.specs.Manager.{address_after, address_after6};
+ghost use Rattle.uses.specs.Manager.{address_after, address_after6, prefix_length_after};
 
 use super::Follow;
 use dhcp4_client::DhcpV4State;
@@ -25,6 +25,8 @@ impl Follow<DhcpV4State> for Interface {
     fn follow(&mut self, state: &DhcpV4State)
         ensures address { self.new.address ≡ address_after (states4.plain_state state.now)
             self.old.address }
+        ensures network { self.new.prefix_length
+            ≡ prefix_length_after (states4.plain_state state.now) self.old.prefix_length }
         ensures other { self.new.address6 ≡ self.old.address6 }
     {
         match state {
@@ -43,6 +45,7 @@ impl Follow<DhcpV6State> for Interface {
         ensures address { self.new.address6 ≡ address_after6 (states6.plain_state state.now)
             self.old.address6 }
         ensures other { self.new.address ≡ self.old.address }
+        ensures network { self.new.prefix_length ≡ self.old.prefix_length }
     {
         match state {
             DhcpV6State::Done(lease) => self.address6 = Some(lease.address),
