@@ -112,8 +112,8 @@ impl DhcpV4Client {
 
     /// The moment, in milliseconds, at which a poll next does something without a packet: before
     /// it, but not before the last moment of the client, such a poll does nothing; at or after it a
-    /// poll returns a change or `Timeout`, sends, or begins a pause. None if and only if an error is
-    /// kept. Does not allocate.
+    /// poll returns a change or `Timeout`, sends, or begins a pause. None if and only if an error
+    /// is kept. Does not allocate.
     pub fn next_poll(&self) -> Option<u64>
         ensures { IsNextPoll protocol result self.now }
     {

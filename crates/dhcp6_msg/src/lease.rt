@@ -51,8 +51,8 @@ pub struct DhcpV6Lease {
     pub xid: u32,
     /// The identifier of its identity association.
     pub iaid: u32,
-    /// The type of its identity association, if it is known: of IA_NA, IA_TA and IA_PD the last that
-    /// the message has, also one that grants nothing.
+    /// The type of its identity association, if it is known: of IA_NA, IA_TA and IA_PD the last
+    /// that the message has, also one that grants nothing.
     pub ia_type: Option<DhcpV6IaType>,
     /// The address or the prefix that is leased.
     pub address: Ipv6Addr,

@@ -59,8 +59,8 @@ pub record IsMessageOf (config : Config) (state : ClientState) (message : Handed
   pub is : message ≡ attempt_message xid config elapsed iaid state
 
 -- What is promised of a client with this configuration, and with a lease that it held before or
--- none, over this life. In the bounds of a stay a message counts if the link took it; in those of an
--- event a refused one counts too.
+-- none, over this life. In the bounds of a stay a message counts if the link took it; in those of
+-- an event a refused one counts too.
 pub record KeepsPromisesOver (config : Config) (lease : Option Lease)
     (life : Script Packet ClientState Exchange) : Type 0 where
   -- an offer is requested at most eleven times in a stay

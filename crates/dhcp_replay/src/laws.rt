@@ -34,8 +34,8 @@ pub fn promises_are_kept(client: &DhcpV4Client)
 /// Over all words and events, and with whatever configuration and lease it begins, a client of IPv6
 /// requests an offer at most eleven times in a stay, and its messages of a stay are at least 0.9
 /// seconds apart, in Renew and Rebind nine, counting those that the link took. An event has at most
-/// two messages besides a release; each message names the offer or the lease of its state; and after
-/// the polls of an event a client without a kept error is in no state whose end has come.
+/// two messages besides a release; each message names the offer or the lease of its state; and
+/// after the polls of an event a client without a kept error is in no state whose end has come.
 pub fn promises6_are_kept(client: &DhcpV6Client)
     ensures { (given : configs6.Config) (lease : Option leases6.Lease) (start : ℕ)
         (words : List ℕ) (events : List Event) →

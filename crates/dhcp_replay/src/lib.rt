@@ -1,6 +1,6 @@
 //! Scripts of a client, played: the client's history, and the call behind the program. Scripts and
-//! their texts are those of dhcp_script, streams those of dhcp_stream; what most callers need of both
-//! is exported here too.
+//! their texts are those of dhcp_script, streams those of dhcp_stream; what most callers need of
+//! both is exported here too.
 #![tactic(auto)]
 
 pub mod laws;
