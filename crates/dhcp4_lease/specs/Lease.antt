@@ -58,12 +58,14 @@ times_of options lease_time words =
       left = t2.left;
     }
 
--- whether a lease of these times is renewed before it is rebound, and that before it ends
+-- whether a lease of these times is not rebound before it is renewed, and does not end before it is
+-- rebound: T1 <= T2 <= the end
 abbrev pub are_in_order : LeaseTimes → Bool
 are_in_order times =
     nat_le times.t1_sec times.t2_sec && nat_le times.t2_sec times.lease_time_sec
 
--- the times of a message whose option 51 says its lease time: none if they are out of order
+-- the times of a message with this lease time, which option 51 says: none if there is none, or if
+-- they are out of order
 abbrev pub ordered_times : OptionMap → List ℕ → Option ℕ → Drawn (Option LeaseTimes)
 ordered_times options words None = record { value = None; left = words }
 ordered_times options words (Some lease_time) =
@@ -79,7 +81,8 @@ read_times options words = ordered_times options words (said_by seconds_said opt
 
 -- ---- the lease
 
--- every address and time zero, and nothing else
+-- each IP address that a lease must have 0.0.0.0, each time zero, the MAC address of the server the
+-- broadcast address, and nothing else
 unfoldable pub empty_lease : Lease
 empty_lease = record {
   siaddr = no_address;
@@ -150,7 +153,7 @@ times_in lease = record {
   lease_time_sec = lease.lease_time_sec;
 }
 
--- whether a lease is renewed before it is rebound, and that before it ends
+-- whether the times of a lease are in this order
 abbrev pub are_times_in_order : Lease → Bool
 are_times_in_order lease = are_in_order (times_in lease)
 

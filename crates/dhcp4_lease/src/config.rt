@@ -107,8 +107,9 @@ impl DhcpV4Config {
     }
 
     /// A configuration that obtains a lease for another host, of this MAC address, on the interface
-    /// of this name. `InvalidArgument` if and only if the text is not bytes in hex with colons
-    /// between them, `NotSupported` if and only if they are not six.
+    /// of this name. `InvalidArgument` if and only if a part of the text between colons is not an
+    /// optional `+` and one or more hex digits, of value at most 255; else `NotSupported` if and
+    /// only if there are not six parts.
     #[tactic(auto, unfolding(crate::specs::Config::with_mac))]
     pub fn new_proxy(
         alloc: Global,
@@ -179,8 +180,9 @@ impl DhcpV4Config {
     }
 
     /// Sets the MAC address from a text such as `01:02:2a:2c:f7:04`. `InvalidArgument` if and only
-    /// if it is not bytes in hex with colons between them, `NotSupported` if and only if they are
-    /// not six. After an error nothing has changed.
+    /// if a part of it between colons is not an optional `+` and one or more hex digits, of value
+    /// at most 255; else `NotSupported` if and only if there are not six parts. After an error
+    /// nothing has changed.
     pub fn set_iface_mac(&mut self, alloc: Global, mac: &str) -> Result<&mut Self, DhcpError>
         ensures set { Gives (λ config. config.now) result
             (with_mac self.old (mac_of_text mac.now)) }

@@ -30,9 +30,10 @@ pub struct DhcpV4Lease {
     pub yiaddr: Ipv4Addr,
     /// T1: when it is renewed, in seconds (RFC 2132, section 9.11).
     pub t1_sec: u32,
-    /// T2: when it is rebound, in seconds; not before T1 (RFC 2132, section 9.12).
+    /// T2: when it is rebound, in seconds; not before T1 where a message granted it (RFC 2132,
+    /// section 9.12).
     pub t2_sec: u32,
-    /// When it ends, in seconds; not before T2 (RFC 2132, section 9.2).
+    /// When it ends, in seconds; not before T2 where a message granted it (RFC 2132, section 9.2).
     pub lease_time_sec: u32,
     /// The server identifier, option 54; 0.0.0.0 if it is absent (RFC 2132, section 9.7).
     pub srv_id: Ipv4Addr,
@@ -54,7 +55,8 @@ pub struct DhcpV4Lease {
     pub domain_name: Option<Text>,
     /// The routes of option 121, or of option 249 if that is absent (RFC 3442).
     pub classless_routes: Option<Sequence<DhcpV4ClasslessRoute>>,
-    /// The MAC address of the server: always ff:ff:ff:ff:ff:ff, the broadcast address.
+    /// The MAC address of the server: ff:ff:ff:ff:ff:ff, the broadcast address, where a message
+    /// granted it.
     pub srv_mac: [u8; 6],
     options: DhcpV4Options,
 }
@@ -110,7 +112,8 @@ impl Model for DhcpV4Lease {
 }
 
 impl DhcpV4Lease {
-    /// A lease with every address 0.0.0.0, every time zero and no option. Does not allocate.
+    /// A lease with 0.0.0.0 for each IP address that it must have, ff:ff:ff:ff:ff:ff for the MAC
+    /// address of its server, every time zero, and nothing else. Does not allocate.
     #[tactic(auto, unfolding(crate::specs::Lease::empty_lease))]
     pub fn empty(alloc: Global) -> Self
         ensures { result ≡ empty_lease }
@@ -197,9 +200,9 @@ impl DhcpV4Lease {
         }
     }
 
-    /// The option of this code, written again: its code, the length of its value, and the value; a
-    /// text gains its zero byte, and a value of fixed size is cut to it. Out of memory is the only
-    /// error.
+    /// The option of this code, if there is one, written again: its code, the length of its value,
+    /// and the value; of Pad and End the code alone, of a text at most 254 bytes and a zero byte. A
+    /// value of fixed size is cut to it. Out of memory is the only error.
     pub fn get_option_raw(&self, alloc: Global, code: u8) -> Result<Option<Vec<u8>>, DhcpError>
         ensures { Makes (option_map vec_items) result
             (option_map written_option (map.get self.now.options code)) }

@@ -104,7 +104,8 @@ pub fn new_release(
 pub struct Row {
     /// The type of the message, option 53.
     pub message_type: DhcpV4MessageType,
-    /// The client's own address, 0.0.0.0 if it may not be used yet.
+    /// The client's own address, in a Request that renews or rebinds; 0.0.0.0 in any other message,
+    /// also in a Release.
     pub ciaddr: Ipv4Addr,
     /// The address that is requested or released, option 50.
     pub requested: Option<Ipv4Addr>,

@@ -69,7 +69,8 @@ with_names (ParameterRequestList requested) =
     ParameterRequestList (map (λ code. code_of (number_of code)) requested)
 with_names option = option
 
--- an option that reads back under a number: it is its own and a byte, and the option fits
+-- an option that reads back under a number: it is its own and a byte, and the option fits and has
+-- a value that reads back
 pub record ReadsBackUnder (number : ℕ) (option : DhcpV4Option) : Type 0 where
   pub is_byte : number < 2 ^ 8
   pub is_own : option_number option ≡ number

@@ -52,7 +52,7 @@ value_of (codes.Other number) value = Some (Unknown (record { code = number; raw
 abbrev pub written_addresses : List Ipv4Addr → List ℕ
 written_addresses addresses = flat_map (λ address. ipv4_octets address) addresses
 
--- a text of at most 254 bytes, and a zero byte
+-- at most 254 bytes of a text, from the first on, and a zero byte
 abbrev pub written_text : List ℕ → List ℕ
 written_text text = take 254 text ++ 0 ∷ []
 
@@ -126,7 +126,8 @@ abbrev pub has_own_code : DhcpV4Option → Bool
 has_own_code (Unknown option) = is_nameless (code_of option.code)
 has_own_code _ = true
 
--- whether an option can be written: its value has at most 255 bytes
+-- whether an option can be written: its value has at most 255 bytes, and an unknown option has a
+-- number that has no name
 unfoldable pub fits : DhcpV4Option → Bool
 fits option = nat_le (length (written_value option)) 255 && has_own_code option
 

@@ -39,8 +39,8 @@ pub fn codes_read_back()
     ensures { (number : ℕ) → number_of (code_of number) ≡ number }
 {}
 
-/// A route whose octets that its width does not cover are zero reads back, whatever follows it; and
-/// what reads as a route is written as the same bytes.
+/// A route whose addresses have four octets, and whose octets that its width does not cover are
+/// zero, reads back, whatever follows it; and what reads as a route is written as the same bytes.
 pub fn routes_read_back()
     ensures back { (route : DhcpV4ClasslessRoute) (rest : List ℕ) → IsExact route
         → route_at (written_route route ++ rest) ≡ Some (route, rest) }
@@ -49,8 +49,9 @@ pub fn routes_read_back()
         → bytes ≡ written_route route ++ rest }
 {}
 
-/// An option that fits reads back, whatever follows it, if its texts have at most 254 bytes and no
-/// zero byte, and its routes no octets beyond their lengths.
+/// An option that fits reads back, whatever follows it, if its numbers have their widths and its
+/// addresses four octets, its text is UTF-8 of at most 254 bytes without a zero byte, and its
+/// routes have no octets beyond their lengths. The codes that it requests read under their names.
 pub fn options_read_back()
     ensures { (option : DhcpV4Option) (rest : List ℕ) → IsTrue (fits option) → ReadsBack option
         → option_at (written_option option ++ rest) ≡ (Some (with_names option), rest) }
@@ -70,9 +71,10 @@ pub fn fields_are_at_offsets()
         → read_message bytes ≡ Some message → IsAtOffsets bytes message }
 {}
 
-/// A message reads back: its numbers within their widths, its texts within their fields, and each
-/// option under its own number. The codes that it requests read under their names, and End is added
-/// to its options.
+/// A message reads back if its numbers have their widths, its addresses four octets and its
+/// hardware address sixteen bytes, its texts fit their fields, and each of its options is under its
+/// own number, a byte, fits and has a value that reads back. The codes that it requests read under
+/// their names, and End is added to its options.
 pub fn messages_read_back()
     ensures { (message : DhcpV4Message) → MessageReadsBack message
         → read_message (written_message message) ≡ Some (read_back message) }

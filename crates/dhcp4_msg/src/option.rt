@@ -51,15 +51,15 @@ pub enum DhcpV4Option {
     ParameterRequestList(Sequence<DhcpV4OptionCode>),
     /// Option 56: what went wrong, for a person to read. RFC 2132 section 9.9.
     Message(Text),
-    /// Option 58: T1, when a client renews, in seconds from the acknowledgement. RFC 2132 section
-    /// 9.11.
+    /// Option 58: T1, when a client renews, in seconds from the assignment of the address. RFC 2132
+    /// section 9.11.
     RenewalTime(u32),
-    /// Option 59: T2, when a client rebinds, in seconds from the acknowledgement. RFC 2132 section
-    /// 9.12.
+    /// Option 59: T2, when a client rebinds, in seconds from the assignment of the address. RFC
+    /// 2132 section 9.12.
     RebindingTime(u32),
     /// Option 61: the client's identifier: a type byte, and the identifier. RFC 2132 section 9.14.
     ClientIdentifier(Bytes),
-    /// Option 121: routes, in order of preference. RFC 3442.
+    /// Option 121: classless static routes. RFC 3442.
     ClasslessStaticRoute(Sequence<DhcpV4ClasslessRoute>),
     /// Option 255: ends the options; a code alone. RFC 2132 section 3.2.
     End,

@@ -275,7 +275,7 @@ impl DhcpV4Options {
     }
 
     /// The bytes that the option of this code is written as, if it is kept: its code, the length of
-    /// its value, and the value. Out of memory is the only error.
+    /// its value, and the value; of Pad and End the code alone. Out of memory is the only error.
     pub fn get_data_raw(&self, alloc: Global, code: u8) -> Result<Option<Vec<u8>>, DhcpError>
         ensures { Makes (option_map vec_items) result
             (option_map written_option (map.get self.now code)) }

@@ -114,7 +114,7 @@ fn codes_of(alloc: Global, value: &[u8]) -> Result<Sequence<DhcpV4OptionCode>, D
 /// The most bytes of a text that an option holds, beside its zero byte.
 pub(crate) const TEXT_MAX: usize = 254;
 
-// Writes a text of at most 254 bytes, and a zero byte.
+// Writes at most 254 bytes of a text, from the first on, and a zero byte.
 pub(crate) fn emit_text(text: &str, buf: &mut BufferMut) -> Result<(), DhcpError>
     ensures { Emits result buf.old buf.new (written_text text.now) }
 {

@@ -45,8 +45,8 @@ pub fn identifiers_are_written_as_read()
         → written_duid duid ≡ bytes }
 {}
 
-/// An identifier of two bytes or more reads back, and as the same bytes; one that is not kept as
-/// its bytes alone reads back as it is.
+/// An identifier of two bytes or more, whose numbers have their widths, reads back, and as the same
+/// bytes; one that is not kept as its bytes alone reads back as it is.
 pub fn identifiers_read_back()
     ensures read { (duid : DhcpV6Duid)
         → DuidHasWidths duid
@@ -57,7 +57,9 @@ pub fn identifiers_read_back()
         → written_duid (duid_read_back duid) ≡ written_duid duid }
 {}
 
-/// An association whose written value is short enough for an option reads back.
+/// An association reads back if its numbers have their widths and its address or prefix is whole,
+/// the messages of its statuses are UTF-8, its status codes without a name have numbers without a
+/// name, and its written value is short enough for an option.
 pub fn associations_read_back()
     ensures na { (ia : DhcpV6OptionIaNa)
         → IaNaHasWidths ia
@@ -84,7 +86,9 @@ pub fn names_read_back()
         → names_in (flat_map written_name names) ≡ Some names }
 {}
 
-/// Time servers whose written values are short enough for an option read back.
+/// Time servers read back if their addresses are whole, their names are UTF-8 and can be written,
+/// any other suboption has a type of two bytes that has no name, and their written values together
+/// are short enough for an option.
 pub fn time_servers_read_back()
     ensures { (servers : List DhcpV6OptionNtpServer)
         → AllByRecursion NtpServerHasWidths servers
@@ -94,7 +98,8 @@ pub fn time_servers_read_back()
         → ntp_servers_in (flat_map written_ntp_server servers) ≡ Some servers }
 {}
 
-/// An option that fits and is in range reads back, whatever follows it.
+/// An option that fits, has the widths of its types and is in range reads back, whatever follows
+/// it.
 pub fn options_read_back()
     ensures { (option : DhcpV6Option) (rest : List ℕ)
         → IsTrue (fits option)
@@ -127,8 +132,8 @@ pub fn identifier_reads_back(duid: &DhcpV6Duid)
     duid.widths();
 }
 
-/// An association that a caller holds reads back, if it is in range and its written value is short
-/// enough for an option; so do the other two kinds, and time servers.
+/// An IA_NA that a caller holds reads back, if its status codes without a name, also that of its
+/// address, have numbers without a name, and its written value is short enough for an option.
 pub fn ia_na_reads_back(ia: &DhcpV6OptionIaNa)
     ensures { AddressIsInRange ia.now.address ia.now.status
         → length (written_ia_na ia.now) < 2 ^ 16
@@ -137,7 +142,8 @@ pub fn ia_na_reads_back(ia: &DhcpV6OptionIaNa)
     ia.widths();
 }
 
-/// An IA_TA reads back.
+/// An IA_TA that a caller holds reads back, if its status codes without a name, also that of its
+/// address, have numbers without a name, and its written value is short enough for an option.
 pub fn ia_ta_reads_back(ia: &DhcpV6OptionIaTa)
     ensures { AddressIsInRange ia.now.address ia.now.status
         → length (written_ia_ta ia.now) < 2 ^ 16
@@ -146,7 +152,8 @@ pub fn ia_ta_reads_back(ia: &DhcpV6OptionIaTa)
     ia.widths();
 }
 
-/// An IA_PD reads back.
+/// An IA_PD that a caller holds reads back, if its status codes without a name, also that of its
+/// prefix, have numbers without a name, and its written value is short enough for an option.
 pub fn ia_pd_reads_back(ia: &DhcpV6OptionIaPd)
     ensures { PrefixIsInRange ia.now.prefix ia.now.status
         → length (written_ia_pd ia.now) < 2 ^ 16
@@ -155,7 +162,8 @@ pub fn ia_pd_reads_back(ia: &DhcpV6OptionIaPd)
     ia.widths();
 }
 
-/// Time servers read back; their names can be written.
+/// Time servers that a caller holds read back, if their names can be written, any other suboption
+/// has a type that has no name, and their written values together are short enough for an option.
 pub fn time_server_list_reads_back(servers: &[DhcpV6OptionNtpServer])
     ensures { IsTrue (list_all ntp_server_fits servers.now)
         → AllByRecursion HasOwnType servers.now

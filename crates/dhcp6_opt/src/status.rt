@@ -165,7 +165,7 @@ pub(crate) fn status_after(
     }
 }
 
-// How many bytes the option of a status is written in, if there is one.
+// How many bytes the option of a status is written in; 0 if there is no status.
 #[tactic(auto, using(crate::proofs::option_len))]
 pub(crate) fn status_len(status: &Option<DhcpV6OptionStatus>) -> usize
     ensures value { result ≡ length (written_status_option status.now) }

@@ -90,7 +90,7 @@ fn low_two_bytes(len: usize) -> u16
     (len & 0xffff) as u16
 }
 
-// The same if there is a value.
+// Writes a value as the option of this code, if there is a value.
 pub(crate) fn emit_if_some<T: Written>(
     code: u16,
     value: &Option<T>,
@@ -104,7 +104,7 @@ pub(crate) fn emit_if_some<T: Written>(
     }
 }
 
-// How many bytes the option of a value is written in, if there is one.
+// How many bytes the option of a value is written in; 0 if there is no value.
 #[tactic(auto, using(crate::proofs::option_len))]
 pub(crate) fn len_if_some<T: Written>(value: &Option<T>) -> usize
     ensures value { (code : ℕ) → result ≡ length (if_some code T.written value.now) }

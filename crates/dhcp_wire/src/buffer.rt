@@ -169,9 +169,10 @@ impl<'a> Buffer<'a> {
         Ok(*bytes)
     }
 
-    /// The text in a field of `fix_size` bytes, before its first zero byte. `InvalidDhcpMessage` if
-    /// and only if fewer bytes are left, and then the position does not move, or the text is not
-    /// UTF-8, and then the field is skipped. Out of memory leaves the position.
+    /// The text in a field of `fix_size` bytes, up to its first zero byte, or all of it if there is
+    /// none. `InvalidDhcpMessage` if and only if fewer bytes are left, and then the position does
+    /// not move, or the text is not UTF-8, and then the field is skipped. Out of memory leaves the
+    /// position.
     pub fn get_string_with_null(
         &mut self,
         alloc: Global,
@@ -257,7 +258,7 @@ impl<'a> Buffer<'a> {
     }
 }
 
-// The bytes before the first zero byte.
+// The bytes before the first zero byte, or all of them if there is none.
 fn before_zero(field: &[u8]) -> &[u8]
     ensures { result.now ≡ Field.before_zero field.now }
 {
@@ -267,7 +268,7 @@ fn before_zero(field: &[u8]) -> &[u8]
     }
 }
 
-// Where the first zero byte is.
+// Where the first zero byte is, if there is one.
 fn first_zero(field: &[u8]) -> Option<usize>
     ensures { result ≡ position (λ byte. byte == 0) field.now }
 {

@@ -42,7 +42,7 @@ pub fn codes_of<C: OptionCode>(
     Ok(Sequence::from(codes))
 }
 
-/// The codes of these numbers in rising order, each once. Out of memory is the only error.
+/// The codes of these numbers in rising order, each number once. Out of memory is the only error.
 #[tactic(auto, unfolding(crate::specs::OptionCodes::rising_codes))]
 pub fn rising_codes<C: OptionCode>(
     alloc: Global,
@@ -54,8 +54,8 @@ pub fn rising_codes<C: OptionCode>(
     codes_of(alloc, rising.as_slice())
 }
 
-/// These codes and those of these numbers, in rising order, each once. Out of memory is the only
-/// error.
+/// The codes of the numbers of these codes and of these numbers, in rising order, each number once.
+/// Out of memory is the only error.
 pub fn rising_codes_with<C: OptionCode>(
     alloc: Global,
     codes: &[C],

@@ -19,7 +19,8 @@ pub struct LeaseTimes {
 }
 
 impl LeaseTimes {
-    /// Whether a lease of these times is renewed before it is rebound, and that before it ends.
+    /// Whether a lease of these times is not rebound before it is renewed, and does not end before
+    /// it is rebound: T1 <= T2 <= the end.
     pub fn are_in_order(&self) -> bool
         ensures { result ≡ leases.are_in_order self.now }
     {

@@ -53,7 +53,7 @@ impl DhcpV6OptionIaPrefix {
     }
 
     // The prefix of an option's value. `InvalidDhcpMessage` if and only if its fixed part is
-    // truncated, or what follows does not begin with a whole status option that reads.
+    // truncated, or something follows it that does not begin with a whole status option that reads.
     #[tactic(auto, unfolding(crate::specs::Ia::ia_prefix_in))]
     pub(crate) fn parse(alloc: Global, value: &[u8]) -> Result<Self, DhcpError>
         ensures { Gives (λ prefix. prefix) result
