@@ -97,11 +97,13 @@ no_terms = record {
   valid_time_sec = 0;
 }
 
--- T1, half of the preferred lifetime where the server leaves it to the client (section 21.4)
+-- T1; where the server leaves it to the client (section 21.4), half of the preferred lifetime,
+-- rounded down
 abbrev pub renewal_time : ℕ → ℕ → ℕ
 renewal_time t1 preferred = if t1 == 0 then preferred / 2 else t1
 
--- T2, three quarters of it, each quarter rounded down
+-- T2; where the server leaves it to the client, a half and a quarter of the preferred lifetime,
+-- each rounded down
 abbrev pub rebinding_time : ℕ → ℕ → ℕ
 rebinding_time t2 preferred = if t2 == 0 then preferred / 2 + preferred / 4 else t2
 
@@ -125,8 +127,8 @@ with_na terms (Some ia) =
     let typed = record terms { ia_type = Some NonTemporaryAddresses } in
     if is_granted ia.address ia.status then with_na_address typed ia ia.address else typed
 
--- the address of an IA_TA, if it has one: it is preferred for a day and valid for a week, and there
--- is no time at which it is renewed (section 21.5)
+-- the address of an IA_TA, if it has one: it is preferred for a day and valid for a week, which is
+-- this library's own choice. An IA_TA has no T1 and T2 (section 21.5): they stay as they are.
 abbrev pub with_ta_address :
     LeaseTerms → DhcpV6OptionIaTa → Option DhcpV6OptionIaAddr → LeaseTerms
 with_ta_address terms ia None = terms
@@ -137,7 +139,7 @@ with_ta_address terms ia (Some address) = record terms {
   valid_time_sec = 604800;
 }
 
--- the same of an IA_TA
+-- the same of an IA_TA, over these terms
 unfoldable pub with_ta : LeaseTerms → Option DhcpV6OptionIaTa → LeaseTerms
 with_ta terms None = terms
 with_ta terms (Some ia) =
@@ -158,7 +160,7 @@ with_pd_prefix terms ia (Some prefix) = record terms {
   valid_time_sec = prefix.valid_time_sec;
 }
 
--- the same of an IA_PD
+-- the same of an IA_PD, over these terms
 unfoldable pub with_pd : LeaseTerms → Option DhcpV6OptionIaPd → LeaseTerms
 with_pd terms None = terms
 with_pd terms (Some ia) =
@@ -203,7 +205,8 @@ abbrev pub lease_of : DhcpV6Message → Lease
 lease_of message =
     lease_with (id_number message.xid) message.options (terms_of message.options)
 
--- every time, number and address zero, and nothing else
+-- every time and number zero but the prefix length, which is 128, each address ::, each identifier
+-- without bytes, and nothing else
 unfoldable pub empty_lease : Lease
 empty_lease = record {
   t1_sec = 0;
@@ -226,8 +229,8 @@ empty_lease = record {
 abbrev pub is_unspecified : Ipv6Addr → Bool
 is_unspecified address = bytes_eq (ipv6_segments address) (ipv6_segments unspecified)
 
--- whether a lease is renewed before it is rebound and that before it ends, and is not preferred
--- after its end: T1 <= T2 <= valid, and preferred <= valid
+-- whether a lease is not rebound before it is renewed, does not end before it is rebound, and is
+-- not preferred after its end: T1 <= T2 <= valid, and preferred <= valid
 abbrev pub are_times_in_order : Lease → Bool
 are_times_in_order lease =
     nat_le lease.t1_sec lease.t2_sec && nat_le lease.t2_sec lease.valid_time_sec
@@ -238,7 +241,8 @@ abbrev pub is_no_duid : DhcpV6Duid → Bool
 is_no_duid (Raw []) = true
 is_no_duid _ = false
 
--- whether a lease grants something: its times are in order, a server gave it, and it has an address
+-- whether a lease grants something: its times are in order, its server's identifier has bytes, and
+-- its address is not ::
 abbrev pub is_grant : Lease → Bool
 is_grant lease =
     are_times_in_order lease && not (is_no_duid lease.srv_duid)
@@ -258,7 +262,8 @@ read_lease message =
 
 -- ---- a lease that a client may hold
 
--- whether an identifier can be sent: it has 2 to 65,535 bytes (section 11.1)
+-- whether an identifier can be sent: it has 2 to 65,535 bytes, its type of two bytes at least, and
+-- at most what an option can carry
 abbrev pub is_duid : DhcpV6Duid → Bool
 is_duid duid = nat_le 2 (length (written_duid duid)) && nat_le (length (written_duid duid)) 65535
 

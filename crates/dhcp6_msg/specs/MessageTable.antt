@@ -50,7 +50,8 @@ lease_prefix lease =
     plain_prefix
     lease.address lease.prefix_len lease.preferred_time_sec lease.valid_time_sec
 
--- the association of a lease, with its identifier, its times, and its address or prefix
+-- the association of a lease, with its identifier, its T1 and T2 unless it is an IA_TA, and its
+-- address or prefix
 unfoldable pub association_of_type : DhcpV6IaType → Lease → DhcpV6Option
 association_of_type types.NonTemporaryAddresses lease = IANA record {
   iaid = lease.iaid;

@@ -12,7 +12,7 @@ use Rattle.dhcp_script.specs.declared.version.Version.{Version}
 use Rattle.dhcp_script.specs.declared.version.Version.TheVariants.{One, Two}
 use Rattle.dhcp_script.specs.Field.{list_text, spaced, unless_none}
 
--- whether a lease is renewed before it is rebound, and that before it ends
+-- whether a lease is not rebound before it is renewed, and does not end before it is rebound
 abbrev pub are_times_in_order : Lease4 → Bool
 are_times_in_order lease =
     nat_le lease.t1_sec lease.t2_sec && nat_le lease.t2_sec lease.lease_time_sec

@@ -14,15 +14,15 @@ use Rattle.dhcp_script.specs.declared.version.Version.TheVariants.{One, Two}
 use Rattle.dhcp_script.specs.Duid.{duid_of, is_duid}
 use Rattle.dhcp_script.specs.Field.{spaced}
 
--- whether a lease is renewed before it is rebound and that before it ends, and is not preferred
--- after its end
+-- whether a lease is not rebound before it is renewed, does not end before it is rebound, and is
+-- not preferred after its end
 abbrev pub are_times_in_order : Lease6 → Bool
 are_times_in_order lease =
     nat_le lease.t1_sec lease.t2_sec && nat_le lease.t2_sec lease.valid_time_sec
     && nat_le lease.preferred_time_sec lease.valid_time_sec
 
--- whether a lease is within its limits: its times are in order, its address is not ::, and its
--- server has an identifier
+-- whether a lease is within its limits: its times are in order, its address is not ::, and the
+-- identifier of its server has 2 to 130 bytes
 abbrev pub is_within_limits : Lease6 → Bool
 is_within_limits lease =
     are_times_in_order lease && not (is_unspecified lease.address) && is_duid lease.srv_duid
@@ -94,7 +94,7 @@ abbrev pub versioned_lease_text : Version → Lease6 → List ℕ
 versioned_lease_text One lease = spaced (first_fields lease)
 versioned_lease_text Two lease = lease_text lease
 
--- a lease whose numbers fit their types
+-- a lease whose numbers, addresses and bytes fit their types
 pub record IsLease6 (lease : Lease6) : Type 0 where
   pub iaid : lease.iaid < 2 ^ 32
   pub address : IsIpv6Addr lease.address

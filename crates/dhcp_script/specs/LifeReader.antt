@@ -34,7 +34,7 @@ event_at text =
     made_of event_of (both (in_field (number_in 18446744073709551615) 32)
     (both (in_field (flag_in (codes "refuse") (codes "ok")) 32) what_at)) text
 
--- events, and the line `end` after them; at most so many
+-- events, and the line `end` after them; fewer events than this number
 unfoldable pub events_within : ℕ → List ℕ → Read (List Event)
 events_within zero text = None
 events_within (suc most) text =

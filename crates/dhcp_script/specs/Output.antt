@@ -55,7 +55,8 @@ HasStateText6 v6.request = Unit {0}
 HasStateText6 v6.renew = Unit {0}
 HasStateText6 v6.rebind = Unit {0}
 
--- what has a text: of failures those of two kinds
+-- what has a text: of failures those of two kinds, of IPv6 states those whose lease, if they hold
+-- one, has its type
 abbrev pub HasReportText : OutputWhat → Type 0
 HasReportText (what.Failed kind) = (kind ≡ kinds.Timeout) ⊎ (kind ≡ kinds.IoError)
 HasReportText (what.Handed message) = Unit {0}
@@ -67,7 +68,7 @@ HasReportText (what.Changed (V6 state)) = HasStateText6 (v6.plain_state state)
 abbrev pub HasFailureText : Output → Type 0
 HasFailureText output = HasReportText output.what
 
--- a message that was handed to the link
+-- a message that was handed to the link; of one over UDP and IPv6 the bytes alone
 abbrev pub message_text : Handed → List ℕ
 message_text (Frame bytes) = codes "frame " ++ hex_text bytes
 message_text (Udp4 from to bytes) =

@@ -29,7 +29,8 @@ HasTextIn version (V6 script) = IsScript6 version script
 abbrev pub script_text : Script → List ℕ
 script_text script = text_in Two script
 
--- a script whose numbers fit their types
+-- a script whose numbers, addresses and bytes fit their types, and the names of whose IPv4 lease,
+-- if it has one, are UTF-8
 abbrev pub IsScript : Script → Type 0
 IsScript script = HasTextIn Two script
 

@@ -88,7 +88,8 @@ script6_text version script =
     ++ line (codes "lease " ++ unless_none (versioned_lease_text version) script.lease)
     ++ life_text script.words script.start script.events
 
--- a script that has a text in a version: one whose numbers fit their types
+-- a script that has a text in a version: one whose numbers, addresses and bytes fit their types,
+-- and whose lease, if there is one, has a text in it
 pub record IsScript6 (version : Version) (script : Script6) : Type 0 where
   pub iface_index : script.iface_index < 2 ^ 32
   pub src_ip : IsIpv6Addr script.src_ip

@@ -24,9 +24,9 @@ pub enum EventWhat {
     Frame(Bytes),
     /// The payload of a UDP datagram comes in.
     Payload(Bytes),
-    /// The client releases the lease that it holds.
+    /// The client releases the lease that it holds, if it holds one.
     Release,
-    /// The client starts anew.
+    /// The client drops its lease, its offer, its attempt and a kept error, and searches anew.
     CleanUp,
 }
 

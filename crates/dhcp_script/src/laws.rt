@@ -22,8 +22,9 @@ pub fn no_text_is_of_both_families()
         → text_in version (V4 first) ≡ text_in other (V6 second) → ⊥ }
 {}
 
-/// The numbers of a script fit their types, its addresses are whole, and its texts are UTF-8. So
-/// `read_script` reads each script back from what `write_script` made of it.
+/// The numbers of a script fit their types, its addresses are whole, and the names of its IPv4
+/// lease, if it has one, are UTF-8. So `read_script` reads each script back from what
+/// `write_script` made of it.
 pub fn a_script_fits(script: &Script)
     ensures { IsScript script.now }
 {

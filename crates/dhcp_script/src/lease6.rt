@@ -41,7 +41,7 @@ pub struct Lease6 {
     pub preferred_time_sec: u32,
     /// For how many seconds it is valid: when the lease ends.
     pub valid_time_sec: u32,
-    /// The transaction id of the reply, of which the low 24 bits are sent (RFC 8415, section 8).
+    /// The transaction id of the reply (RFC 8415, section 8); the client does not send it.
     pub xid: u32,
     /// The identifier of the client, option 1, as its bytes; empty is none (RFC 8415, section
     /// 21.2).

@@ -31,7 +31,8 @@ pub struct Script4 {
     /// How long the client may be in a state other than done before it gives up, in seconds; it is
     /// counted anew in each state, and 0 is no limit.
     pub timeout_sec: u32,
-    /// The host name, option 12, in UTF-8; empty is none (RFC 2132, section 3.14).
+    /// The host name, option 12; it is UTF-8 in a valid script, and empty is none (RFC 2132,
+    /// section 3.14).
     pub host: Bytes,
     /// The client identifier, option 61: the byte of its type, then its bytes; empty is none
     /// (RFC 2132, section 9.14).

@@ -170,7 +170,7 @@ fn pd_terms(options: &DhcpV6Options, terms: LeaseTerms) -> LeaseTerms
     }
 }
 
-// T1, half of the preferred lifetime if it is left to the client.
+// T1; if it is left to the client, half of the preferred lifetime, rounded down.
 fn renewal_time(t1_sec: u32, preferred_time_sec: u32) -> u32
     ensures { result ≡ leases.renewal_time t1_sec preferred_time_sec }
 {
@@ -181,7 +181,8 @@ fn renewal_time(t1_sec: u32, preferred_time_sec: u32) -> u32
     }
 }
 
-// T2, three quarters of the preferred lifetime if it is left to the client.
+// T2; if it is left to the client, a half and a quarter of the preferred lifetime, each rounded
+// down.
 fn rebinding_time(t2_sec: u32, preferred_time_sec: u32) -> u32
     ensures { result ≡ leases.rebinding_time t2_sec preferred_time_sec }
 {
