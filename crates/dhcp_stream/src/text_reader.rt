@@ -12,6 +12,7 @@ ghost use Rattle.std.specs.Prelude.{
   length,
   ◌<◌,
   ◌≤◌,
+  IfErr,
   IfOk,
 };
 ghost use Rattle.dhcp_stream.specs.TextReader as values;
@@ -95,9 +96,11 @@ impl<'a> TextReader<'a> {
         }
     }
 
-    /// Skips these bytes.
+    /// Skips these bytes. `Malformed`, the only error, if and only if the text does not go on with
+    /// them.
     pub fn tag(&mut self, tag: &[u8]) -> Result<(), ReadError>
-        ensures { Takes result self.new (tag_at tag.now self.old) }
+        ensures takes { Takes result self.new (tag_at tag.now self.old) }
+        ensures err { IfErr result (λ error. error ≡ ReadError.Malformed) }
     {
         if self.skip(tag) {
             Ok(())
@@ -106,7 +109,8 @@ impl<'a> TextReader<'a> {
         }
     }
 
-    /// The field before the next such byte, which is skipped.
+    /// The field before the next such byte, which is skipped. `Malformed`, the only error, if and
+    /// only if there is no such byte.
     pub fn field(&mut self, end: u8) -> Result<&'a [u8], ReadError>
         ensures { values.TakesField result self.new (field_at end self.old) }
     {
@@ -117,40 +121,51 @@ impl<'a> TextReader<'a> {
         Ok(field)
     }
 
-    /// A decimal number without a leading zero, at most `max`.
+    /// A decimal number without a leading zero, at most `max`, before the next such byte, which is
+    /// skipped. `Malformed`, the only error, if and only if the text does not go on with one.
     pub fn number(&mut self, max: u64, end: u8) -> Result<u64, ReadError>
         ensures number { Takes result self.new (in_field (values.number_in max) end self.old) }
+        ensures err { IfErr result (λ error. error ≡ ReadError.Malformed) }
         ensures small { IfOk result (λ number. number ≤ max) }
     {
         let field = self.field(end)?;
         number_field(field, max).ok_or(ReadError::Malformed)
     }
 
-    /// A decimal number of 32 bits without a leading zero.
+    /// A decimal number of 32 bits without a leading zero, before the next such byte, which is
+    /// skipped. `Malformed`, the only error, if and only if the text does not go on with one.
     pub fn u32(&mut self, end: u8) -> Result<u32, ReadError>
-        ensures { Takes result self.new (in_field (values.number_in 4294967295) end self.old) }
+        ensures takes { Takes result self.new
+            (in_field (values.number_in 4294967295) end self.old) }
+        ensures err { IfErr result (λ error. error ≡ ReadError.Malformed) }
     {
         let number = self.number(u64::from(u32::MAX), end)?;
         Ok(number as u32)
     }
 
-    /// An IPv4 address.
+    /// An IPv4 address before the next such byte, which is skipped. `Malformed`, the only error, if
+    /// and only if the text does not go on with one.
     pub fn ipv4(&mut self, end: u8) -> Result<Ipv4Addr, ReadError>
-        ensures { Takes result self.new (in_field values.address_in end self.old) }
+        ensures takes { Takes result self.new (in_field values.address_in end self.old) }
+        ensures err { IfErr result (λ error. error ≡ ReadError.Malformed) }
     {
         let field = self.field(end)?;
         ipv4_field(field).ok_or(ReadError::Malformed)
     }
 
-    /// A MAC address of twelve lower-case hex digits.
+    /// A MAC address of twelve lower-case hex digits before the next such byte, which is skipped.
+    /// `Malformed`, the only error, if and only if the text does not go on with one.
     pub fn mac(&mut self, end: u8) -> Result<[u8; 6], ReadError>
-        ensures { Takes result self.new (in_field values.mac_in end self.old) }
+        ensures takes { Takes result self.new (in_field values.mac_in end self.old) }
+        ensures err { IfErr result (λ error. error ≡ ReadError.Malformed) }
     {
         let field = self.field(end)?;
         mac_field(field).ok_or(ReadError::Malformed)
     }
 
-    /// Bytes in lower-case hex; `-` is none.
+    /// Bytes in lower-case hex before the next such byte, which is skipped; `-` is no bytes.
+    /// `Malformed` only if the text does not go on with them; the only other error is out of
+    /// memory.
     pub fn hex(&mut self, alloc: Global, end: u8) -> Result<Bytes, ReadError>
         ensures { Takes result self.new (in_field values.hex_in end self.old) }
     {
@@ -158,7 +173,9 @@ impl<'a> TextReader<'a> {
         found(hex_field(alloc, field))
     }
 
-    /// Words of 32 bits in lower-case hex, eight digits each; `-` is none.
+    /// Words of 32 bits in lower-case hex, eight digits each, before the next such byte, which is
+    /// skipped; `-` is no words. `Malformed` only if the text does not go on with them; the only
+    /// other error is out of memory.
     pub fn words(&mut self, alloc: Global, end: u8) -> Result<Sequence<u32>, ReadError>
         ensures { Takes result self.new (in_field values.words_in end self.old) }
     {

@@ -24,11 +24,11 @@ pub returns-in_err-tag : goal.returns-in_err-tag
 returns-in_err-tag c =
     let exit = err_from_is_err_and c.from_residual-in_err-tag.result c.from_residual-in_err-tag.ensures.1 in
     let none = not_skipped _ _ _ _ c.skip.ensures c.lines-test.false in
-    let tag = rw none.1 at c.in_err-tag.ensures in
+    let tag = rw none.1 at c.in_err-tag.ensures.takes in
     rw (exit.1, exit.2) (takes_err _ _ _ _ _ tag (so_far-open _ _ _ c.lines.invariant none.0))
 
 pub returns : goal.returns
 returns c =
     let none = not_skipped _ _ _ _ c.skip.ensures c.lines-test.false in
-    let tag = rw none.1 at c.in_ok-tag.ensures in
+    let tag = rw none.1 at c.in_ok-tag.ensures.takes in
     rw c.from.ensures (so_far-all _ _ _ _ c.lines.invariant none.0 tag)
