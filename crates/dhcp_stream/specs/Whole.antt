@@ -10,13 +10,15 @@ use Rattle.dhcp_stream.specs.declared.whole.Whole.TheVariants.{All, Failed, TooL
 abbrev pub most_bytes : ℕ
 most_bytes = 16777216
 
--- at most so many bytes have gone from the front of what was left
+-- at most so many bytes have gone from the front of what was left, where this is known
 abbrev pub HasGone : ℕ → Option (List ℕ) → Option (List ℕ) → Type 0
 HasGone most before after = (n : ℕ) × (n ≤ most) × (after ≡ option_map (drop n) before)
 
 -- What reading a source to its end gives, by the bytes left before and after, where they are known,
--- and the counts of its faults: all the bytes that were left; a fault of the source, after at most
--- the bytes that are read; or that more were left than are read.
+-- and the counts of its faults. All: the bytes, at most the most that are read, are those that were
+-- left, and none is left. Failed: the count rose, and at most so many bytes have gone. TooLong: more
+-- were left, and one more than so many has gone. The only error is out of memory; nothing is said of
+-- the source then.
 abbrev pub ReadsWhole : Result Whole ErrorParts → Option (List ℕ) → Option (List ℕ) → ℕ → ℕ → Type 0
 ReadsWhole (Ok (All bytes)) before after faults faults_after =
     IfSome before (λ left. left ≡ bytes) × (length bytes ≤ most_bytes) × NoneLeft after
@@ -27,7 +29,13 @@ ReadsWhole (Ok TooLong) before after faults faults_after =
     × (after ≡ option_map (drop (most_bytes + 1)) before)
 ReadsWhole (Err e) before after faults faults_after = e ≡ no_memory
 
--- what was taken is a prefix of these bytes
+-- what was taken in addition, where it is known, is a prefix of these bytes
 abbrev pub TakesFront : Option (List ℕ) → Option (List ℕ) → List ℕ → Type 0
 TakesFront before after bytes =
     (n : ℕ) × (n ≤ length bytes) × (after ≡ behind before (take n bytes))
+
+-- There is at least one of these bytes, and what was taken in addition, where it is known, is a
+-- prefix of them that lacks at least one.
+abbrev pub TakesLess : Option (List ℕ) → Option (List ℕ) → List ℕ → Type 0
+TakesLess before after bytes =
+    (n : ℕ) × (n < length bytes) × (after ≡ behind before (take n bytes))

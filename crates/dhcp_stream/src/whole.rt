@@ -3,7 +3,7 @@
 ghost use Rattle.std.specs.Prelude.{◌≡◌, ◌≤◌, ◌+◌, true, false};
 ghost use Rattle.dhcp_wire.specs.Fault.{HasCause};
 ghost use Rattle.dhcp_stream.specs.Stream.{behind};
-ghost use Rattle.dhcp_stream.specs.Whole.{HasGone, ReadsWhole, TakesFront, most_bytes};
+ghost use Rattle.dhcp_stream.specs.Whole.{HasGone, ReadsWhole, TakesFront, TakesLess, most_bytes};
 
 use crate::{ReadOutcome, Sink, Source, WriteOutcome};
 use dhcp_wire::{Bytes, DhcpError};
@@ -18,7 +18,8 @@ pub const MAX_INPUT: usize = 16_777_216;
 pub enum Whole {
     /// All the bytes that were left, at most `MAX_INPUT`.
     All(Bytes),
-    /// The source failed, after at most `MAX_INPUT` bytes, which are dropped.
+    /// The source failed, after at most `MAX_INPUT` bytes, which are dropped: its count of faults
+    /// rose.
     Failed,
     /// More than `MAX_INPUT` bytes were left; reading stopped after one more than these.
     TooLong,
@@ -46,11 +47,12 @@ pub fn read_whole<S: Source>(alloc: Global, source: &mut S) -> Result<Whole, Dhc
 }
 
 /// Writes all the bytes, and returns whether the sink took them. Does not allocate. `false` only if
-/// the sink's count of faults rose; a prefix of the bytes was written then.
+/// the sink's count of faults rose; a prefix of the bytes, but not all of them, was written then.
 pub fn write_whole<K: Sink>(sink: &mut K, bytes: &[u8]) -> bool
     ensures done { result ≡ true → K.taken sink.new ≡ behind (K.taken sink.old) bytes.now }
     ensures fault { HasCause (result ≡ false) (K.faults sink.old) (K.faults sink.new) }
     ensures front { TakesFront (K.taken sink.old) (K.taken sink.new) bytes.now }
+    ensures less { result ≡ false → TakesLess (K.taken sink.old) (K.taken sink.new) bytes.now }
 {
     let mut done = 0;
     while done < bytes.len() {
