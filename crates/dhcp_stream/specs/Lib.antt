@@ -3,6 +3,7 @@ pub mod Line
 pub mod Memory
 pub mod Number
 pub mod Reading
+pub mod Standard
 pub mod Stream
 pub mod TextReader
 pub mod Whole

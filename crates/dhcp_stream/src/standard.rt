@@ -1,8 +1,12 @@
-//! Sources and sinks over the readers and writers of std, such as standard input and output.
-//! Contracts do not know their bytes, nor which calls fail; each that answers a failure is counted.
+//! Sources and sinks over the readers and writers of std, such as standard input and output. As
+//! those of a `Source` and a `Sink` their bytes are not known. The clauses `bytes` say what std
+//! promises of the bytes that the reader has left and the writer holds, where std knows them, which
+//! it does not of standard input and output. Std does not say which calls fail; each answer
+//! `Failed` is counted.
 
 ghost use Rattle.std.specs.Prelude.{◌≡◌, ◌≤◌, ◌<◌, [], None, length, take};
 ghost use Rattle.dhcp_wire.specs.Fault.{HasCause};
+ghost use Rattle.dhcp_stream.specs.Standard.{ReadsFrom, WritesTo};
 ghost use Rattle.dhcp_stream.specs.Stream.{
   NoneLeft,
   behind,
@@ -18,42 +22,50 @@ use std::io::{Read, Write};
 use std::marker::Model;
 
 /// A source over a reader: each error of the reader is a fault, which is only tested. Contracts see
-/// the number of faults.
+/// the number of faults, and the bytes that the reader will give, where std knows them: while there
+/// are such bytes, a read that takes none of them into a slice that is not empty is a fault.
 #[derive(Debug, Drop)]
-pub struct StdSource<R> {
+pub struct StdSource<R: Read> {
     reader: R,
     faults: u64,
 }
 
 /// A sink over a writer: each error of the writer is a fault, and so is a write that took nothing
 /// of a piece that is not empty; that errors are faults is only tested. Contracts see the number of
-/// faults.
+/// faults, and the bytes that the writer holds, where std knows them: a write that adds none of a
+/// piece that is not empty to them is a fault.
 #[derive(Debug, Drop)]
-pub struct StdSink<W> {
+pub struct StdSink<W: Write> {
     writer: W,
     faults: u64,
 }
 
-impl<R> Model for StdSource<R> {
-    ghost use Rattle.std.specs.Prelude.{ℕ};
+impl<R: Read> Model for StdSource<R> {
+    ghost use Rattle.dhcp_stream.specs.Standard.{StdSourceView};
 
-    ghost Value = { ℕ };
+    ghost Value = { StdSourceView };
 
-    ghost view = { λ source. source.faults };
+    ghost view = { λ source. record {
+      remaining = R.remaining source.reader;
+      faults = source.faults;
+    } };
 }
 
-impl<W> Model for StdSink<W> {
-    ghost use Rattle.std.specs.Prelude.{ℕ};
+impl<W: Write> Model for StdSink<W> {
+    ghost use Rattle.dhcp_stream.specs.Standard.{StdSinkView};
 
-    ghost Value = { ℕ };
+    ghost Value = { StdSinkView };
 
-    ghost view = { λ sink. sink.faults };
+    ghost view = { λ sink. record {
+      contents = W.contents sink.writer;
+      faults = sink.faults;
+    } };
 }
 
 impl<R: Read> StdSource<R> {
     /// Reads from this reader; no fault was counted yet.
     pub fn new(reader: R) -> Self
-        ensures { result ≡ 0 }
+        ensures { result ≡ record { remaining = R.remaining reader; faults = 0 } }
     {
         StdSource { reader, faults: 0 }
     }
@@ -62,7 +74,7 @@ impl<R: Read> StdSource<R> {
 impl<W: Write> StdSink<W> {
     /// Writes to this writer; no fault was counted yet.
     pub fn new(writer: W) -> Self
-        ensures { result ≡ 0 }
+        ensures { result ≡ record { contents = W.contents writer; faults = 0 } }
     {
         StdSink { writer, faults: 0 }
     }
@@ -71,18 +83,21 @@ impl<W: Write> StdSink<W> {
 impl<R: Read> Source for StdSource<R> {
     ghost left = { λ _. None };
 
-    ghost faults = { λ source. source };
+    ghost faults = { λ source. source.faults };
 
     /// As the trait says. The count of faults rises by one where this answers `Failed`, as it does
-    /// at an error of the reader, and stays at every other read.
+    /// at an error of the reader, and stays at every other read. Where std knows the bytes that the
+    /// reader has left, those that are read are taken from their front, `Read(0)` into a slice that
+    /// is not empty is their end, and `Failed` takes none.
     #[tactic(auto, unfolding(crate::specs::Stream::in_front))]
     fn read(&mut self, into: &mut [u8]) -> ReadOutcome
         ensures within { read_count result ≤ length into.new }
         ensures moved { None ≡ in_front (take (read_count result) into.new) None }
         ensures end { result ≡ ReadOutcome.Read 0 → 0 < length into.old → NoneLeft None }
-        ensures fault { HasCause (result ≡ ReadOutcome.Failed) self.old self.new }
+        ensures fault { HasCause (result ≡ ReadOutcome.Failed) self.old.faults self.new.faults }
 
-        ensures count { self.new ≡ faults_after_read result self.old }
+        ensures count { self.new.faults ≡ faults_after_read result self.old.faults }
+        ensures bytes { ReadsFrom self.old.remaining self.new.remaining result into.new }
     {
         match self.reader.read(into) {
             Ok(count) => ReadOutcome::Read(count),
@@ -97,19 +112,21 @@ impl<R: Read> Source for StdSource<R> {
 impl<W: Write> Sink for StdSink<W> {
     ghost taken = { λ _. None };
 
-    ghost faults = { λ sink. sink };
+    ghost faults = { λ sink. sink.faults };
 
     /// As the trait says. The count of faults rises by one where this answers `Failed`, as it does
     /// at an error of the writer and if it takes nothing of a piece that is not empty, and stays at
-    /// every other write.
+    /// every other write. Where std knows the bytes that the writer holds, those that are written
+    /// are added to them, and `Failed` adds none.
     #[tactic(auto, unfolding(crate::specs::Stream::behind))]
     fn write(&mut self, bytes: &[u8]) -> WriteOutcome
         ensures within { write_count result ≤ length bytes.now }
         ensures took { None ≡ behind None (take (write_count result) bytes.now) }
         ensures some { result ≡ WriteOutcome.Wrote 0 → bytes.now ≡ [] }
-        ensures fault { HasCause (result ≡ WriteOutcome.Failed) self.old self.new }
+        ensures fault { HasCause (result ≡ WriteOutcome.Failed) self.old.faults self.new.faults }
 
-        ensures count { self.new ≡ faults_after_write result self.old }
+        ensures count { self.new.faults ≡ faults_after_write result self.old.faults }
+        ensures bytes { WritesTo self.old.contents self.new.contents result bytes.now }
     {
         match self.writer.write(bytes) {
             Ok(count) if count > 0 || bytes.is_empty() => WriteOutcome::Wrote(count),
