@@ -29,13 +29,8 @@ ReadsWhole (Ok TooLong) before after faults faults_after =
     × (after ≡ option_map (drop (most_bytes + 1)) before)
 ReadsWhole (Err e) before after faults faults_after = e ≡ no_memory
 
--- what was taken in addition, where it is known, is a prefix of these bytes
+-- What was taken in addition, where it is known, is a prefix of these bytes that lacks at least one
+-- of them.
 abbrev pub TakesFront : Option (List ℕ) → Option (List ℕ) → List ℕ → Type 0
 TakesFront before after bytes =
-    (n : ℕ) × (n ≤ length bytes) × (after ≡ behind before (take n bytes))
-
--- There is at least one of these bytes, and what was taken in addition, where it is known, is a
--- prefix of them that lacks at least one.
-abbrev pub TakesLess : Option (List ℕ) → Option (List ℕ) → List ℕ → Type 0
-TakesLess before after bytes =
     (n : ℕ) × (n < length bytes) × (after ≡ behind before (take n bytes))

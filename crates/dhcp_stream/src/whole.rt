@@ -3,7 +3,7 @@
 ghost use Rattle.std.specs.Prelude.{◌≡◌, ◌≤◌, ◌+◌, true, false};
 ghost use Rattle.dhcp_wire.specs.Fault.{HasCause};
 ghost use Rattle.dhcp_stream.specs.Stream.{behind};
-ghost use Rattle.dhcp_stream.specs.Whole.{HasGone, ReadsWhole, TakesFront, TakesLess, most_bytes};
+ghost use Rattle.dhcp_stream.specs.Whole.{HasGone, ReadsWhole, TakesFront, most_bytes};
 
 use crate::{ReadOutcome, Sink, Source, WriteOutcome};
 use dhcp_wire::{Bytes, DhcpError};
@@ -51,8 +51,8 @@ pub fn read_whole<S: Source>(alloc: Global, source: &mut S) -> Result<Whole, Dhc
 pub fn write_whole<K: Sink>(sink: &mut K, bytes: &[u8]) -> bool
     ensures done { result ≡ true → K.taken sink.new ≡ behind (K.taken sink.old) bytes.now }
     ensures fault { HasCause (result ≡ false) (K.faults sink.old) (K.faults sink.new) }
-    ensures front { TakesFront (K.taken sink.old) (K.taken sink.new) bytes.now }
-    ensures less { result ≡ false → TakesLess (K.taken sink.old) (K.taken sink.new) bytes.now }
+    ensures front { result ≡ false →
+        TakesFront (K.taken sink.old) (K.taken sink.new) bytes.now }
 {
     let mut done = 0;
     while done < bytes.len() {

@@ -14,9 +14,5 @@ loop-done-preserved g c = record {
 }
 
 pub returns-in-Failed-clause-front : goal.returns-in-Failed-clause-front
-returns-in-Failed-clause-front g c =
-    (c.loop-done.done, c.loop-done.invariant.within, c.in-Failed.ensures.took ∙ behind-none _ ∙ c.loop-done.invariant.took)
-
-pub returns-in-Failed-clause-less : goal.returns-in-Failed-clause-less
-returns-in-Failed-clause-less g c = λ _.
+returns-in-Failed-clause-front g c = λ _.
     (c.loop-done.done, grind (arith, common_steps), c.in-Failed.ensures.took ∙ behind-none _ ∙ c.loop-done.invariant.took)
