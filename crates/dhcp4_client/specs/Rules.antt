@@ -17,16 +17,17 @@ use Rattle.dhcp4_client.specs.declared.client_state.ClientState.TheVariants.{Ini
 use Rattle.dhcp4_client.specs.declared.client_state.Exchange.{Exchange}
 use Rattle.dhcp4_client.specs.Answer.{awaited, message_for, reading_of}
 use Rattle.dhcp4_client.specs.Message.{attempt_message, held_release}
-use Rattle.dhcp4_client.specs.State.{PlainState, done, init_reboot, selecting, renewing, rebinding}
+use Rattle.dhcp4_client.specs.declared.state.PlainState.{PlainState}
+use Rattle.dhcp4_client.specs.declared.state.PlainState.TheVariants as plain
 
 -- what the client reports of a state
 abbrev pub public_state : ClientState → PlainState
-public_state InitReboot = init_reboot
-public_state (Selecting offer) = selecting
-public_state (Rebooting held) = selecting
-public_state (Done bound) = done bound.lease
-public_state (Renewing bound) = renewing
-public_state (Rebinding bound) = rebinding
+public_state InitReboot = plain.InitReboot
+public_state (Selecting offer) = plain.Selecting
+public_state (Rebooting held) = plain.Selecting
+public_state (Done bound) = plain.Done bound.lease
+public_state (Renewing bound) = plain.Renewing
+public_state (Rebinding bound) = plain.Rebinding
 
 -- whether it sends; there its time limit counts
 abbrev pub has_attempts : ClientState → Bool

@@ -2,22 +2,18 @@
 use Rattle.std.specs.Prelude.{ℕ, List, ◌++◌, codes, Bool, true, false}
 use Rattle.std.specs.Net.Addr.{ipv4_octets}
 use Rattle.std.specs.Net.Text.{ipv4_text}
-use Rattle.dhcp4_lease.specs.Lease.{Lease}
 use Rattle.dhcp4_client.specs.declared.state.DhcpV4State.{DhcpV4State}
 use Rattle.dhcp4_client.specs.declared.state.DhcpV4State.TheVariants.{Done, InitReboot, Selecting, Renewing, Rebinding}
+use Rattle.dhcp4_client.specs.declared.state.PlainState.{PlainState}
+use Rattle.dhcp4_client.specs.declared.state.PlainState.TheVariants as plain
 
--- the plain contents of a state: its lease, wherever that is kept
-pub data PlainState : Type 0 where
-  done : Lease → PlainState
-  init_reboot selecting renewing rebinding : PlainState
-
--- what a state holds
+-- what a state holds, wherever its lease is kept
 abbrev pub plain_state : DhcpV4State → PlainState
-plain_state (Done lease) = done lease.value
-plain_state InitReboot = init_reboot
-plain_state Selecting = selecting
-plain_state Renewing = renewing
-plain_state Rebinding = rebinding
+plain_state (Done lease) = plain.Done lease.value
+plain_state InitReboot = plain.InitReboot
+plain_state Selecting = plain.Selecting
+plain_state Renewing = plain.Renewing
+plain_state Rebinding = plain.Rebinding
 
 -- a state as it is printed: a lease with its address
 unfoldable pub state_text : DhcpV4State → List ℕ

@@ -15,9 +15,8 @@ ghost use Rattle.dhcp4_client.specs.State.{plain_state};
 use crate::DhcpV4State;
 use crate::client_state::{ClientState, Exchange};
 use crate::rules::{ClientRules, restarted};
-use crate::state::ReportedState;
 use dhcp_clock::{DhcpLink, Words};
-use dhcp_history::{BoundLease, Client, clean_up, next_poll, run};
+use dhcp_history::{BoundLease, Client, Reported, clean_up, next_poll, run};
 use dhcp_wire::{DhcpError, ErrorKind, FixedText};
 use dhcp4_lease::{DhcpV4Config, DhcpV4Lease};
 use std::alloc::Global;
@@ -99,7 +98,7 @@ impl DhcpV4Client {
             (L.faults link.old) (L.faults link.new) }
     {
         let reported = run(&self.rules, &mut self.client, now, words, link)?;
-        Ok(reported.map(ReportedState::into_state))
+        Ok(reported.map(Reported::into_state))
     }
 
     /// Drops the lease, the offer, the attempt and a kept error: the client searches anew, with its

@@ -16,4 +16,4 @@ pub use dhcp4_lease::{
     new_rebind, new_reboot_request, new_release, new_renew, new_request, requests_are_short,
     usual_times_are_in_order,
 };
-pub use state::{DhcpV4State, ReportedState};
+pub use state::{DhcpV4State, PlainState};

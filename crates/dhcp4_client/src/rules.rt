@@ -2,7 +2,6 @@
 //! every state named.
 
 ghost use Rattle.std.specs.Prelude.{◌≡◌, ◌<◌, ◌-◌, ◌^◌, IfOk, IsTrue, OnErr, OnOk, None, Ok, Some, Option};
-ghost use Rattle.dhcp_wire.specs.Outcome.{Makes};
 ghost use Rattle.dhcp_clock.specs.Wait as waits;
 ghost use Rattle.dhcp_history.specs.Rules.{GivesDrawn, IsNext};
 ghost use Rattle.dhcp4_lease.specs.Config.{is_within_limits};
@@ -13,9 +12,8 @@ use crate::DhcpV4State;
 use crate::answer::{Answer, Awaited, read_answer};
 use crate::client_state::{ClientState, Exchange};
 use crate::message::{attempt_message, release_message};
-use crate::state::ReportedState;
 use dhcp_clock::{Handed, Packet, Words, discovery_wait, draw, half_wait};
-use dhcp_history::{AttemptStart, BoundLease, NewAttempt, Rules};
+use dhcp_history::{AttemptStart, BoundLease, NewAttempt, Reported, Rules};
 use dhcp4_lease::{DhcpV4Config, DhcpV4Lease};
 use std::alloc::{AllocError, Global};
 use std::mem;
@@ -41,7 +39,7 @@ pub struct ClientRules {
 impl Rules for ClientRules {
     ghost use Rattle.dhcp4_client.specs.Rules as table;
 
-    type PublicState = ReportedState;
+    type PublicState = Reported<DhcpV4State>;
 
     type State = ClientState;
 
@@ -149,31 +147,31 @@ impl Rules for ClientRules {
         answer: Answer,
         now: u64,
         exchange: &mut Exchange,
-    ) -> Result<ReportedState, AllocError> {
+    ) -> Result<Reported<DhcpV4State>, AllocError> {
         match answer {
             Answer::Granted(lease) => self.after_grant(state, lease, now, exchange),
             Answer::Refused => {
                 *state = ClientState::InitReboot;
-                Ok(ReportedState::new(DhcpV4State::InitReboot))
+                Ok(Reported::new(DhcpV4State::InitReboot))
             }
         }
     }
 
-    fn after_end(&self, state: &mut ClientState, exchange: &mut Exchange) -> ReportedState {
+    fn after_end(&self, state: &mut ClientState, exchange: &mut Exchange) -> Reported<DhcpV4State> {
         match mem::replace(state, ClientState::InitReboot) {
-            ClientState::InitReboot => ReportedState::new(DhcpV4State::InitReboot),
-            ClientState::Selecting(_) => ReportedState::new(DhcpV4State::InitReboot),
-            ClientState::Rebooting(_) => ReportedState::new(DhcpV4State::InitReboot),
+            ClientState::InitReboot => Reported::new(DhcpV4State::InitReboot),
+            ClientState::Selecting(_) => Reported::new(DhcpV4State::InitReboot),
+            ClientState::Rebooting(_) => Reported::new(DhcpV4State::InitReboot),
             ClientState::Done(bound) => {
                 *state = ClientState::Renewing(bound);
-                ReportedState::new(DhcpV4State::Renewing)
+                Reported::new(DhcpV4State::Renewing)
             }
             ClientState::Renewing(bound) => {
                 *state = ClientState::Rebinding(bound);
                 *exchange = restarted(*exchange);
-                ReportedState::new(DhcpV4State::Rebinding)
+                Reported::new(DhcpV4State::Rebinding)
             }
-            ClientState::Rebinding(_) => ReportedState::new(DhcpV4State::InitReboot),
+            ClientState::Rebinding(_) => Reported::new(DhcpV4State::InitReboot),
         }
     }
 
@@ -203,7 +201,7 @@ impl ClientRules {
         lease: DhcpV4Lease,
         now: u64,
         exchange: &mut Exchange,
-    ) -> Result<ReportedState, AllocError>
+    ) -> Result<Reported<DhcpV4State>, AllocError>
         requires { now < 2 ^ 60 }
         ensures next { OnOk result (IsNext (table.after_grant state.old lease now exchange.old)
             state.new exchange.new) }
@@ -214,7 +212,7 @@ impl ClientRules {
         match state {
             ClientState::InitReboot => {
                 *state = ClientState::Selecting(lease);
-                Ok(ReportedState::new(DhcpV4State::Selecting))
+                Ok(Reported::new(DhcpV4State::Selecting))
             }
             ClientState::Selecting(_) => self.bind(state, lease, now, exchange),
             ClientState::Rebooting(_) => self.bind(state, lease, now, exchange),
@@ -231,7 +229,7 @@ impl ClientRules {
         lease: DhcpV4Lease,
         now: u64,
         exchange: &mut Exchange,
-    ) -> Result<ReportedState, AllocError>
+    ) -> Result<Reported<DhcpV4State>, AllocError>
         requires { now < 2 ^ 60 }
         ensures next { OnOk result (IsNext (table.bound_from now lease exchange.old)
             state.new exchange.new) }
@@ -239,10 +237,11 @@ impl ClientRules {
             reported ≡ table.public_state state.new) }
         ensures unchanged { OnErr result (state.new ≡ state.old) }
     {
-        let reported = ReportedState::done(self.alloc, &lease).map_err(|_| AllocError)?;
+        let copy = lease.try_clone(self.alloc).map_err(|_| AllocError)?;
+        let reported = DhcpV4State::Done(Box::new(self.alloc, copy)?);
         *state = ClientState::Done(BoundLease::new(lease, now));
         *exchange = restarted(*exchange);
-        Ok(reported)
+        Ok(Reported::new(reported))
     }
 }
 

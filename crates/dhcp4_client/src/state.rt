@@ -5,13 +5,13 @@ mod tests;
 
 ghost use Rattle.std.specs.Prelude.{◌≡◌, Some};
 ghost use Rattle.dhcp_wire.specs.Outcome.{Makes};
-ghost use Rattle.dhcp4_client.specs.State.{PlainState, done, is_done, plain_state, state_text};
+ghost use Rattle.dhcp4_client.specs.State.{is_done, plain_state, state_text};
 
+use dhcp_history::Plain;
 use dhcp_wire::DhcpError;
 use dhcp4_lease::DhcpV4Lease;
 use std::alloc::Global;
 use std::fmt;
-use std::marker::Model;
 
 /// The state of a client; each variant names its states of RFC 2131 figure 5. The default is
 /// `InitReboot`.
@@ -74,44 +74,26 @@ impl fmt::Display for DhcpV4State {
     }
 }
 
-/// A state as it is reported. Contracts see its plain contents.
+/// What contracts compare of a state: its lease itself, wherever the state keeps it. No program
+/// makes one.
 #[derive(Drop)]
-pub struct ReportedState {
-    state: DhcpV4State,
+pub enum PlainState {
+    /// BOUND, with its lease.
+    Done(DhcpV4Lease),
+    /// INIT and SELECTING.
+    InitReboot,
+    /// REQUESTING; INIT-REBOOT and REBOOTING.
+    Selecting,
+    /// RENEWING.
+    Renewing,
+    /// REBINDING.
+    Rebinding,
 }
 
-impl Model for ReportedState {
-    ghost use Rattle.std.specs.Coded.{codes};
-    ghost use Rattle.dhcp4_lease.specs.contracts.lease.DhcpV4Lease as lease_model;
-    ghost use Rattle.dhcp4_client.specs.State.{PlainState, plain_state};
+impl Plain for DhcpV4State {
+    ghost use Rattle.dhcp4_client.specs.State.{plain_state};
 
-    ghost Value = { PlainState };
+    type Contents = PlainState;
 
-    ghost coded = { Prim.hlevel (codes, lease_model.the_row.coded) };
-
-    ghost view = { λ reported. plain_state reported.state };
-}
-
-impl ReportedState {
-    /// Reports this state.
-    pub fn new(state: DhcpV4State) -> Self
-        ensures { result ≡ plain_state state }
-    {
-        ReportedState { state }
-    }
-
-    /// Reports a lease that is held, by a copy of it. Out of memory is the only error.
-    pub fn done(alloc: Global, lease: &DhcpV4Lease) -> Result<Self, DhcpError>
-        ensures { Makes (λ reported. reported) result (done lease.now) }
-    {
-        let copy = lease.try_clone(alloc)?;
-        Ok(ReportedState::new(DhcpV4State::Done(Box::new(alloc, copy)?)))
-    }
-
-    /// The state.
-    pub fn into_state(self) -> DhcpV4State
-        ensures { plain_state result ≡ self }
-    {
-        self.state
-    }
+    ghost contents = { plain_state };
 }

@@ -17,16 +17,17 @@ use Rattle.dhcp6_client.specs.declared.client_state.ClientState.TheVariants.{Sol
 use Rattle.dhcp6_client.specs.declared.client_state.Exchange.{Exchange}
 use Rattle.dhcp6_client.specs.Answer.{answer_of, awaited_type, message_for}
 use Rattle.dhcp6_client.specs.Message.{attempt_message, release_message}
-use Rattle.dhcp6_client.specs.State.{PlainState, done, solicit, request, renew, rebind}
+use Rattle.dhcp6_client.specs.declared.state.PlainState.{PlainState}
+use Rattle.dhcp6_client.specs.declared.state.PlainState.TheVariants as plain
 
 -- what the client reports of a state
 abbrev pub public_state : ClientState → PlainState
-public_state Solicit = solicit
-public_state (Request offer) = request
-public_state (Done bound) = done bound.lease
-public_state (Temporary bound) = done bound.lease
-public_state (Renew bound) = renew
-public_state (Rebind bound) = rebind
+public_state Solicit = plain.Solicit
+public_state (Request offer) = plain.Request
+public_state (Done bound) = plain.Done bound.lease
+public_state (Temporary bound) = plain.Done bound.lease
+public_state (Renew bound) = plain.Renew
+public_state (Rebind bound) = plain.Rebind
 
 -- whether it sends; there its time limit counts
 abbrev pub has_attempts : ClientState → Bool

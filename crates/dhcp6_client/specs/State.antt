@@ -2,22 +2,18 @@
 use Rattle.std.specs.Prelude.{ℕ, List, ◌++◌, codes, Bool, true, false}
 use Rattle.std.specs.Net.Addr.{ipv6_segments}
 use Rattle.std.specs.Net.Text.{ipv6_text}
-use Rattle.dhcp6_msg.specs.Lease.{Lease}
 use Rattle.dhcp6_client.specs.declared.state.DhcpV6State.{DhcpV6State}
 use Rattle.dhcp6_client.specs.declared.state.DhcpV6State.TheVariants.{Done, Solicit, Request, Renew, Rebind}
+use Rattle.dhcp6_client.specs.declared.state.PlainState.{PlainState}
+use Rattle.dhcp6_client.specs.declared.state.PlainState.TheVariants as plain
 
--- the plain contents of a state: its lease, wherever that is kept
-pub data PlainState : Type 0 where
-  done : Lease → PlainState
-  solicit request renew rebind : PlainState
-
--- what a state holds
+-- what a state holds, wherever its lease is kept
 abbrev pub plain_state : DhcpV6State → PlainState
-plain_state (Done lease) = done lease.value
-plain_state Solicit = solicit
-plain_state Request = request
-plain_state Renew = renew
-plain_state Rebind = rebind
+plain_state (Done lease) = plain.Done lease.value
+plain_state Solicit = plain.Solicit
+plain_state Request = plain.Request
+plain_state Renew = plain.Renew
+plain_state Rebind = plain.Rebind
 
 -- a state as it is printed: a lease with its address
 unfoldable pub state_text : DhcpV6State → List ℕ

@@ -18,9 +18,8 @@ use crate::client_state::{ClientState, Exchange};
 use crate::draws::{new_id, restarted};
 use crate::granted_lease::GrantedLease;
 use crate::rules::{ClientRules, bound_state};
-use crate::state::ReportedState;
 use dhcp_clock::{DhcpLink, Words};
-use dhcp_history::{BoundLease, Client, clean_up, next_poll, run};
+use dhcp_history::{BoundLease, Client, Reported, clean_up, next_poll, run};
 use dhcp_wire::{DhcpError, ErrorKind, FixedText};
 use dhcp6_msg::{DhcpV6Config, DhcpV6Lease, DhcpV6Mode, is_duid};
 use std::alloc::Global;
@@ -117,7 +116,7 @@ impl DhcpV6Client {
             (L.faults link.old) (L.faults link.new) }
     {
         let reported = run(&self.rules, &mut self.client, now, words, link)?;
-        Ok(reported.map(ReportedState::into_state))
+        Ok(reported.map(Reported::into_state))
     }
 
     /// Drops the lease, the offer, the attempt and a kept error: the client searches anew, with its

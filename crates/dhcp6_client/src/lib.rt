@@ -17,4 +17,4 @@ pub use dhcp6_msg::{
     DhcpV6Config, DhcpV6IaType, DhcpV6Lease, DhcpV6Mode, new_rebind_msg, new_release_msg,
     new_renew_msg, new_request_msg, new_solicit_msg,
 };
-pub use state::{DhcpV6State, ReportedState};
+pub use state::{DhcpV6State, PlainState};

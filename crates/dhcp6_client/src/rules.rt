@@ -5,8 +5,8 @@ ghost use Rattle.std.specs.Prelude.{◌≡◌, ◌<◌, ◌^◌, false, IfOk, Is
 ghost use Rattle.dhcp_history.specs.Rules.{GivesDrawn, IsNext};
 ghost use Rattle.dhcp6_msg.specs.Config.{is_within_limits};
 ghost use Rattle.dhcp6_client.specs.Rules as table;
-ghost use Rattle.dhcp6_client.specs.State.{done};
 ghost use Rattle.dhcp6_client.specs.declared.client_state.Exchange.{Exchange};
+ghost use Rattle.dhcp6_client.specs.declared.state.PlainState.TheVariants as plain;
 
 use crate::DhcpV6State;
 use crate::answer::{awaited_type, read_answer};
@@ -14,9 +14,8 @@ use crate::client_state::{ClientState, Exchange};
 use crate::draws::{association_id, restarted, transaction_id, wait};
 use crate::granted_lease::{GrantedLease, expiry, rebinding, renewal};
 use crate::message::{attempt_message, release_message};
-use crate::state::ReportedState;
 use dhcp_clock::{Handed, Packet, Words, draw};
-use dhcp_history::{AttemptStart, BoundLease, NewAttempt, Rules};
+use dhcp_history::{AttemptStart, BoundLease, NewAttempt, Reported, Rules};
 use dhcp6_msg::{DhcpV6Config, DhcpV6Lease, DhcpV6Mode};
 use std::alloc::{AllocError, Global};
 use std::mem;
@@ -41,7 +40,7 @@ pub struct ClientRules {
 impl Rules for ClientRules {
     ghost use Rattle.dhcp6_client.specs.Rules as table;
 
-    type PublicState = ReportedState;
+    type PublicState = Reported<DhcpV6State>;
 
     type State = ClientState;
 
@@ -155,12 +154,12 @@ impl Rules for ClientRules {
         answer: GrantedLease,
         now: u64,
         exchange: &mut Exchange,
-    ) -> Result<ReportedState, AllocError> {
+    ) -> Result<Reported<DhcpV6State>, AllocError> {
         match state {
             ClientState::Solicit => {
                 *state = ClientState::Request(answer);
                 *exchange = restarted(*exchange);
-                Ok(ReportedState::new(DhcpV6State::Request))
+                Ok(Reported::new(DhcpV6State::Request))
             }
             ClientState::Request(_) => self.bind(state, answer, now, exchange),
             ClientState::Done(_) => self.bind(state, answer, now, exchange),
@@ -170,7 +169,7 @@ impl Rules for ClientRules {
         }
     }
 
-    fn after_end(&self, state: &mut ClientState, exchange: &mut Exchange) -> ReportedState {
+    fn after_end(&self, state: &mut ClientState, exchange: &mut Exchange) -> Reported<DhcpV6State> {
         *exchange = restarted(*exchange);
         let reported = reported_after(state);
         let ended = mem::replace(state, ClientState::Solicit);
@@ -204,7 +203,7 @@ impl ClientRules {
         lease: GrantedLease,
         now: u64,
         exchange: &mut Exchange,
-    ) -> Result<ReportedState, AllocError>
+    ) -> Result<Reported<DhcpV6State>, AllocError>
         requires { now < 2 ^ 60 }
         ensures next { OnOk result (IsNext
             (table.bound_from self.now.config.mode now lease exchange.old)
@@ -213,10 +212,11 @@ impl ClientRules {
             reported ≡ table.public_state state.new) }
         ensures unchanged { OnErr result (state.new ≡ state.old) }
     {
-        let reported = ReportedState::done(self.alloc, lease.lease()).map_err(|_| AllocError)?;
+        let copy = lease.lease().try_clone(self.alloc).map_err(|_| AllocError)?;
+        let reported = DhcpV6State::Done(Box::new(self.alloc, copy)?);
         *state = bound_state(self.config.mode, BoundLease::new(lease, now));
         *exchange = restarted(*exchange);
-        Ok(reported)
+        Ok(Reported::new(reported))
     }
 }
 
@@ -235,24 +235,24 @@ fn state_after(state: ClientState) -> ClientState
 }
 
 // What is reported of that state.
-fn reported_after(state: &ClientState) -> ReportedState
+fn reported_after(state: &ClientState) -> Reported<DhcpV6State>
     ensures { (exchange : Exchange) → result ≡
         table.public_state (table.after_end state.now exchange).state }
 {
     match state {
-        ClientState::Solicit => ReportedState::new(DhcpV6State::Solicit),
-        ClientState::Request(_) => ReportedState::new(DhcpV6State::Solicit),
-        ClientState::Done(_) => ReportedState::new(DhcpV6State::Renew),
-        ClientState::Temporary(_) => ReportedState::new(DhcpV6State::Solicit),
-        ClientState::Renew(_) => ReportedState::new(DhcpV6State::Rebind),
-        ClientState::Rebind(_) => ReportedState::new(DhcpV6State::Solicit),
+        ClientState::Solicit => Reported::new(DhcpV6State::Solicit),
+        ClientState::Request(_) => Reported::new(DhcpV6State::Solicit),
+        ClientState::Done(_) => Reported::new(DhcpV6State::Renew),
+        ClientState::Temporary(_) => Reported::new(DhcpV6State::Solicit),
+        ClientState::Renew(_) => Reported::new(DhcpV6State::Rebind),
+        ClientState::Rebind(_) => Reported::new(DhcpV6State::Solicit),
     }
 }
 
 /// The state of a client that has this lease, by what it asks for.
 pub fn bound_state(mode: DhcpV6Mode, bound: BoundLease<GrantedLease>) -> ClientState
     ensures state { result ≡ table.bound_state mode bound }
-    ensures reported { table.public_state result ≡ done bound.lease }
+    ensures reported { table.public_state result ≡ plain.Done bound.lease }
     ensures silent { table.has_attempts result ≡ false }
 {
     match mode {

@@ -5,13 +5,13 @@ mod tests;
 
 ghost use Rattle.std.specs.Prelude.{◌≡◌, Some};
 ghost use Rattle.dhcp_wire.specs.Outcome.{Makes};
-ghost use Rattle.dhcp6_client.specs.State.{PlainState, done, is_done, plain_state, state_text};
+ghost use Rattle.dhcp6_client.specs.State.{is_done, plain_state, state_text};
 
+use dhcp_history::Plain;
 use dhcp_wire::DhcpError;
 use dhcp6_msg::DhcpV6Lease;
 use std::alloc::Global;
 use std::fmt;
-use std::marker::Model;
 
 /// The state of a client, RFC 8415 section 18.2. The default is `Solicit`.
 #[derive(Debug, Default, PartialEq, Eq, Drop)]
@@ -72,44 +72,26 @@ impl fmt::Display for DhcpV6State {
     }
 }
 
-/// A state as it is reported. Contracts see its plain contents.
+/// What contracts compare of a state: its lease itself, wherever the state keeps it. No program
+/// makes one.
 #[derive(Drop)]
-pub struct ReportedState {
-    state: DhcpV6State,
+pub enum PlainState {
+    /// It has this lease.
+    Done(DhcpV6Lease),
+    /// It searches for servers.
+    Solicit,
+    /// It requests the lease of an offer.
+    Request,
+    /// It asks the server of its lease to renew it.
+    Renew,
+    /// It asks any server to extend its lease.
+    Rebind,
 }
 
-impl Model for ReportedState {
-    ghost use Rattle.std.specs.Coded.{codes};
-    ghost use Rattle.dhcp6_msg.specs.contracts.lease.DhcpV6Lease as lease_model;
-    ghost use Rattle.dhcp6_client.specs.State.{PlainState, plain_state};
+impl Plain for DhcpV6State {
+    ghost use Rattle.dhcp6_client.specs.State.{plain_state};
 
-    ghost Value = { PlainState };
+    type Contents = PlainState;
 
-    ghost coded = { Prim.hlevel (codes, lease_model.the_row.coded) };
-
-    ghost view = { λ reported. plain_state reported.state };
-}
-
-impl ReportedState {
-    /// Reports this state.
-    pub fn new(state: DhcpV6State) -> Self
-        ensures { result ≡ plain_state state }
-    {
-        ReportedState { state }
-    }
-
-    /// Reports a lease that is held, by a copy of it. Out of memory is the only error.
-    pub fn done(alloc: Global, lease: &DhcpV6Lease) -> Result<Self, DhcpError>
-        ensures { Makes (λ reported. reported) result (done lease.now) }
-    {
-        let copy = lease.try_clone(alloc)?;
-        Ok(ReportedState::new(DhcpV6State::Done(Box::new(alloc, copy)?)))
-    }
-
-    /// The state.
-    pub fn into_state(self) -> DhcpV6State
-        ensures { plain_state result ≡ self }
-    {
-        self.state
-    }
+    ghost contents = { plain_state };
 }

@@ -15,7 +15,7 @@ use Rattle.dhcp4_lease.specs.Config.{Config}
 use Rattle.dhcp4_lease.specs.Lease.{Lease}
 use Rattle.dhcp4_client.specs.Client.{Begins, ClientParts, first_exchange, first_state}
 use Rattle.dhcp4_client.specs.Rules.{protocol}
-use Rattle.dhcp4_client.specs.State.{PlainState}
+use Rattle.dhcp4_client.specs.declared.state.PlainState.{PlainState}
 use Rattle.dhcp4_client.specs.declared.client_state.ClientState.{ClientState}
 use Rattle.dhcp4_client.specs.declared.client_state.Exchange.{Exchange}
 use Rattle.dhcp_script.specs.Output.{PlainOutput, changed_v4}

@@ -12,7 +12,7 @@ use Rattle.dhcp_history.specs.declared.script.Event.{Event as LifeEvent}
 use Rattle.dhcp_history.specs.declared.script.Output.{Output as LifeOutput}
 use Rattle.dhcp6_client.specs.Client.{ClientParts}
 use Rattle.dhcp6_client.specs.Rules.{protocol}
-use Rattle.dhcp6_client.specs.State.{PlainState}
+use Rattle.dhcp6_client.specs.declared.state.PlainState.{PlainState}
 use Rattle.dhcp6_client.specs.declared.client_state.ClientState.{ClientState}
 use Rattle.dhcp6_client.specs.declared.client_state.Exchange.{Exchange}
 use Rattle.dhcp_script.specs.Output.{changed_v6, plain_output}

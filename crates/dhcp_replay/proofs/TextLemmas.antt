@@ -16,7 +16,7 @@ use Rattle.dhcp_history.specs.declared.script.Failure.TheVariants as failures
 use Rattle.dhcp_history.specs.declared.script.Output.{Output as LifeOutput}
 use Rattle.dhcp_history.specs.declared.script.Report.{Report}
 use Rattle.dhcp_history.specs.declared.script.Report.TheVariants as reports
-use Rattle.dhcp4_client.specs.State as states4
+use Rattle.dhcp4_client.specs.declared.state.PlainState as states4
 use Rattle.dhcp6_msg.specs.Config.{Config}
 use Rattle.dhcp6_msg.specs.Lease.{Lease, is_duid, is_typed, is_within_limits, read_lease}
 use Rattle.dhcp6_msg.specs.Message.{read_message}
@@ -27,7 +27,7 @@ use Rattle.dhcp6_msg.specs.declared.mode.DhcpV6Mode.TheVariants.{NonTemporaryAdd
 use Rattle.dhcp6_msg.proofs.LimitLemmas.{within_limits}
 use Rattle.dhcp6_client.specs.Answer.{answer_of, awaited_type, concerns, lease_if_read, message_for, payload_in}
 use Rattle.dhcp6_client.specs.Rules.{after_answer, after_end, bound_state, protocol, public_state, reading}
-use Rattle.dhcp6_client.specs.State as states6
+use Rattle.dhcp6_client.specs.declared.state.PlainState as states6
 use Rattle.dhcp6_client.specs.declared.client_state.ClientState.{ClientState}
 use Rattle.dhcp6_client.specs.declared.client_state.ClientState.TheVariants.{Solicit, Request, Done, Temporary, Renew, Rebind}
 use Rattle.dhcp6_client.specs.declared.client_state.Exchange.{Exchange}

@@ -9,8 +9,8 @@ use dhcp_clock::{Handed, Packet, PacketKind};
 use dhcp_history::{Failure, Input, Report};
 use dhcp_script::{Event, EventWhat, Output, OutputWhat, Reported};
 use dhcp_wire::{Bytes, ErrorKind, Sequence};
-use dhcp4_client::ReportedState as ReportedState4;
-use dhcp6_client::ReportedState as ReportedState6;
+use dhcp4_client::DhcpV4State;
+use dhcp6_client::DhcpV6State;
 use std::alloc::{AllocError, Global};
 
 /// A state as the client of one family reports it.
@@ -27,7 +27,7 @@ pub trait FamilyState: Drop {
         ensures { plain_report (Changed result) ≡ changed self };
 }
 
-impl FamilyState for ReportedState4 {
+impl FamilyState for dhcp_history::Reported<DhcpV4State> {
     ghost use Rattle.dhcp_script.specs.Output.{changed_v4};
 
     ghost changed = { changed_v4 };
@@ -37,7 +37,7 @@ impl FamilyState for ReportedState4 {
     }
 }
 
-impl FamilyState for ReportedState6 {
+impl FamilyState for dhcp_history::Reported<DhcpV6State> {
     ghost use Rattle.dhcp_script.specs.Output.{changed_v6};
 
     ghost changed = { changed_v6 };

@@ -9,8 +9,12 @@ use Rattle.dhcp_wire.specs.declared.error.ErrorKind.{ErrorKind}
 use Rattle.dhcp_wire.specs.declared.error.ErrorKind.TheVariants as kinds
 use Rattle.dhcp_clock.specs.declared.link.Handed.{Handed}
 use Rattle.dhcp_clock.specs.declared.link.Handed.TheVariants.{Frame, Udp4, Udp6}
-use Rattle.dhcp4_client.specs.State.{PlainState, plain_state, done, init_reboot, selecting, renewing, rebinding}
-use Rattle.dhcp6_client.specs.State as v6
+use Rattle.dhcp4_client.specs.State.{plain_state}
+use Rattle.dhcp4_client.specs.declared.state.PlainState.{PlainState}
+use Rattle.dhcp4_client.specs.declared.state.PlainState.TheVariants as v4
+use Rattle.dhcp6_client.specs.State as states6
+use Rattle.dhcp6_client.specs.declared.state.PlainState as plain6
+use Rattle.dhcp6_client.specs.declared.state.PlainState.TheVariants as v6
 use Rattle.dhcp6_msg.specs.declared.mode.DhcpV6IaType.TheVariants.{NonTemporaryAddresses}
 use Rattle.dhcp6_msg.specs.Lease.{is_typed}
 use Rattle.dhcp_script.specs.declared.output.Reported.TheVariants.{V4, V6}
@@ -27,7 +31,7 @@ use Rattle.dhcp_script.specs.Lease6 as lease6
 pub data PlainReport : Type 0 where
   handed refused : Handed → PlainReport
   changed_v4 : PlainState → PlainReport
-  changed_v6 : v6.PlainState → PlainReport
+  changed_v6 : plain6.PlainState → PlainReport
   failed : ErrorKind → PlainReport
 
 -- the plain contents of an output
@@ -40,7 +44,7 @@ abbrev pub plain_report : OutputWhat → PlainReport
 plain_report (what.Handed message) = handed message
 plain_report (what.Refused message) = refused message
 plain_report (what.Changed (V4 state)) = changed_v4 (plain_state state)
-plain_report (what.Changed (V6 state)) = changed_v6 (v6.plain_state state)
+plain_report (what.Changed (V6 state)) = changed_v6 (states6.plain_state state)
 plain_report (what.Failed kind) = failed kind
 
 -- what an output holds
@@ -48,12 +52,12 @@ abbrev pub plain_output : Output → PlainOutput
 plain_output output = record { event = output.event; report = plain_report output.what }
 
 -- a state of an IPv6 client; the type of its lease, if it holds one, is known
-abbrev pub HasStateText6 : v6.PlainState → Type 0
-HasStateText6 (v6.done lease) = IsTrue (is_typed lease.ia_type)
-HasStateText6 v6.solicit = Unit {0}
-HasStateText6 v6.request = Unit {0}
-HasStateText6 v6.renew = Unit {0}
-HasStateText6 v6.rebind = Unit {0}
+abbrev pub HasStateText6 : plain6.PlainState → Type 0
+HasStateText6 (v6.Done lease) = IsTrue (is_typed lease.ia_type)
+HasStateText6 v6.Solicit = Unit {0}
+HasStateText6 v6.Request = Unit {0}
+HasStateText6 v6.Renew = Unit {0}
+HasStateText6 v6.Rebind = Unit {0}
 
 -- what has a text: of failures those of two kinds, of IPv6 states those whose lease, if they hold
 -- one, has its type
@@ -62,7 +66,7 @@ HasReportText (what.Failed kind) = (kind ≡ kinds.Timeout) ⊎ (kind ≡ kinds.
 HasReportText (what.Handed message) = Unit {0}
 HasReportText (what.Refused message) = Unit {0}
 HasReportText (what.Changed (V4 state)) = Unit {0}
-HasReportText (what.Changed (V6 state)) = HasStateText6 (v6.plain_state state)
+HasReportText (what.Changed (V6 state)) = HasStateText6 (states6.plain_state state)
 
 -- an output that has a text
 abbrev pub HasFailureText : Output → Type 0
@@ -77,21 +81,21 @@ message_text (Udp6 from index bytes) = codes "udp6 " ++ hex_text bytes
 
 -- a state of an IPv4 client
 abbrev pub state4_text : PlainState → List ℕ
-state4_text (done lease) = codes "done " ++ lease_text (fields_of lease)
-state4_text init_reboot = codes "init_reboot"
-state4_text selecting = codes "selecting"
-state4_text renewing = codes "renewing"
-state4_text rebinding = codes "rebinding"
+state4_text (v4.Done lease) = codes "done " ++ lease_text (fields_of lease)
+state4_text v4.InitReboot = codes "init_reboot"
+state4_text v4.Selecting = codes "selecting"
+state4_text v4.Renewing = codes "renewing"
+state4_text v4.Rebinding = codes "rebinding"
 
 -- a state of an IPv6 client; no lease without a type is printed
-abbrev pub state6_text : v6.PlainState → List ℕ
-state6_text (v6.done lease) =
+abbrev pub state6_text : plain6.PlainState → List ℕ
+state6_text (v6.Done lease) =
     codes "done "
     ++ lease6.lease_text (lease6.fields_of (unwrap_or lease.ia_type NonTemporaryAddresses) lease)
-state6_text v6.solicit = codes "solicit"
-state6_text v6.request = codes "request"
-state6_text v6.renew = codes "renew"
-state6_text v6.rebind = codes "rebind"
+state6_text v6.Solicit = codes "solicit"
+state6_text v6.Request = codes "request"
+state6_text v6.Renew = codes "renew"
+state6_text v6.Rebind = codes "rebind"
 
 -- a failure; no other kind is printed
 abbrev pub failure_text : ErrorKind → List ℕ

@@ -3,9 +3,9 @@
 ghost use Rattle.std.specs.Prelude.{◌<◌, ◌^◌, All};
 
 use super::DhcpV6Client;
-use crate::state::ReportedState;
+use crate::DhcpV6State;
 use dhcp_clock::{Handed, Packet, Words};
-use dhcp_history::{Event, Output, replay};
+use dhcp_history::{Event, Output, Reported, replay};
 use dhcp_wire::DhcpError;
 
 impl DhcpV6Client {
@@ -19,7 +19,7 @@ impl DhcpV6Client {
         &mut self,
         words: &mut W,
         events: Vec<Event<Packet>>,
-    ) -> Result<Vec<Output<ReportedState, Handed>>, DhcpError>
+    ) -> Result<Vec<Output<Reported<DhcpV6State>, Handed>>, DhcpError>
         requires { All (λ event. event.moment < 2 ^ 60) events.items }
         ensures { IsReplay protocol result (λ reported. reported.items) events.items
             self.old self.new (W.left words.old) (W.left words.new) }
