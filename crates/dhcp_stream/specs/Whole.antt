@@ -15,10 +15,9 @@ abbrev pub HasGone : ℕ → Option (List ℕ) → Option (List ℕ) → Type 0
 HasGone most before after = (n : ℕ) × (n ≤ most) × (after ≡ option_map (drop n) before)
 
 -- What reading a source to its end gives, by the bytes left before and after, where they are known,
--- and the counts of its faults. All: the bytes, at most the most that are read, are those that were
--- left, and none is left. Failed: the count rose, and at most so many bytes have gone. TooLong: more
--- were left, and one more than so many has gone. The only error is out of memory; nothing is said of
--- the source then.
+-- and the counts of its faults. All: the bytes that were left, at most the most that are read, and
+-- none is left. Failed: the count rose, and at most so many bytes have gone. TooLong: more were
+-- left, and one more than so many has gone. Out of memory says nothing of the source.
 abbrev pub ReadsWhole : Result Whole ErrorParts → Option (List ℕ) → Option (List ℕ) → ℕ → ℕ → Type 0
 ReadsWhole (Ok (All bytes)) before after faults faults_after =
     IfSome before (λ left. left ≡ bytes) × (length bytes ≤ most_bytes) × NoneLeft after
