@@ -5,9 +5,10 @@ mod interface;
 #[cfg(test)]
 mod tests;
 
-ghost use Rattle.std.specs.Prelude.{◌≡◌, ◌<◌, ◌^◌, ◌⊎◌, ℕ, Bool, Option, IfErr, IfOk, is_some, not};
-ghost use Rattle.dhcp_wire.specs.Error.{no_memory};
+ghost use Rattle.std.specs.Prelude.{◌≡◌, ◌<◌, ◌^◌, ◌⊎◌, ℕ, Bool, Option, Result, IfErr, IfOk, is_some, not};
+ghost use Rattle.dhcp_wire.specs.Error.{ErrorParts, no_memory};
 ghost use Rattle.dhcp_history.specs.Errors.{timed_out};
+ghost use Rattle.uses.specs.Manager.{HasTurned, Seen, seen};
 
 pub use clients::{new_client, new_client6};
 use dhcp_clock::{DhcpLink, Words};
@@ -18,6 +19,9 @@ pub use interface::Interface;
 pub trait ManagedClient {
     /// A state that it reports.
     type State: Drop;
+
+    /// What one poll at a moment returns and does, to the client, its words and its link.
+    ghost polled: { ℕ → Result (Option Self.State) ErrorParts → Seen Self → Seen Self → Type 0 };
 
     /// That it has nothing to do before a moment, unless it keeps an error.
     ghost sleeps_until: { Option ℕ → Self → Type 0 };
@@ -33,7 +37,10 @@ pub trait ManagedClient {
         link: &mut L,
     ) -> Result<Option<Self::State>, DhcpError>
         requires { now < 2 ^ 60 }
-        ensures { IfErr result (λ error. (error ≡ timed_out) ⊎ (error ≡ no_memory)) };
+        ensures polled { polled now result
+            (seen self.old (W.left words.old) (L.shown link.old) (L.faults link.old))
+            (seen self.new (W.left words.new) (L.shown link.new) (L.faults link.new)) }
+        ensures errors { IfErr result (λ error. (error ≡ timed_out) ⊎ (error ≡ no_memory)) };
 
     /// The moment, in milliseconds, before which it has nothing to do without a packet; none if and
     /// only if it keeps an error.
@@ -44,13 +51,41 @@ pub trait ManagedClient {
 
 /// What is set up as the states of a client ask.
 pub trait Follow<S> {
+    /// What it does to follow a state.
+    ghost follows: { S → Self → Self → Type 0 };
+
     /// Does what a new state asks.
-    fn follow(&mut self, state: &S);
+    fn follow(&mut self, state: &S)
+        ensures { follows state.now self.old self.new };
+}
+
+// The polls of a turn.
+fn settle<C: ManagedClient, I: Follow<C::State>, W: Words, L: DhcpLink>(
+    client: &mut C,
+    interface: &mut I,
+    now: u64,
+    words: &mut W,
+    link: &mut L,
+) -> Result<(), DhcpError>
+    requires { now < 2 ^ 60 }
+    ensures turned { HasTurned (C.polled now) I.follows result
+        (seen client.old (W.left words.old) (L.shown link.old) (L.faults link.old)) interface.old
+        (seen client.new (W.left words.new) (L.shown link.new) (L.faults link.new)) interface.new }
+    ensures errors { IfErr result (λ error. (error ≡ timed_out) ⊎ (error ≡ no_memory)) }
+{
+    for _ in 0..7u32 {
+        let Some(state) = client.run(now, words, link)? else {
+            return Ok(());
+        };
+        interface.follow(&state);
+    }
+    Ok(())
 }
 
 /// One turn of the loop, now and whenever a packet comes: polls until nothing changes any more, at
-/// most seven times, since one packet changes the state at most six times. Returns the moment, in
-/// milliseconds, until which the manager may sleep; none if the client keeps an error.
+/// most seven times, since one packet changes the state at most six times. The interface follows
+/// each new state. Returns the moment, in milliseconds, until which the manager may sleep; none if
+/// the client keeps an error.
 pub fn turn<C: ManagedClient, I: Follow<C::State>, W: Words, L: DhcpLink>(
     client: &mut C,
     interface: &mut I,
@@ -59,15 +94,13 @@ pub fn turn<C: ManagedClient, I: Follow<C::State>, W: Words, L: DhcpLink>(
     link: &mut L,
 ) -> Result<Option<u64>, DhcpError>
     requires { now < 2 ^ 60 }
+    ensures turned { HasTurned (C.polled now) I.follows result
+        (seen client.old (W.left words.old) (L.shown link.old) (L.faults link.old)) interface.old
+        (seen client.new (W.left words.new) (L.shown link.new) (L.faults link.new)) interface.new }
     ensures asleep { IfOk result (λ moment. C.sleeps_until moment client.new) }
     ensures stopped { IfOk result (λ moment. is_some moment ≡ not (C.has_stopped client.new)) }
     ensures errors { IfErr result (λ error. (error ≡ timed_out) ⊎ (error ≡ no_memory)) }
 {
-    for _ in 0..7u32 {
-        let Some(state) = client.run(now, words, link)? else {
-            break;
-        };
-        interface.follow(&state);
-    }
+    settle(client, interface, now, words, link)?;
     Ok(client.next_poll())
 }

@@ -1,10 +1,13 @@
 //! The clients that a manager runs.
 
 ghost use Rattle.std.specs.Prelude.{◌≡◌, IfOk, None, Some};
+ghost use Rattle.dhcp_history.specs.Calls.{IsRun};
 ghost use Rattle.dhcp_history.specs.Machine.{is_stopped};
 ghost use Rattle.dhcp4_client.specs.Rules as rules4;
+ghost use Rattle.dhcp4_client.specs.State as states4;
 ghost use Rattle.dhcp4_client.specs.declared.client_state.ClientState.TheVariants.{InitReboot};
 ghost use Rattle.dhcp6_client.specs.Rules as rules6;
+ghost use Rattle.dhcp6_client.specs.State as states6;
 ghost use Rattle.dhcp6_client.specs.declared.client_state.ClientState.TheVariants.{Solicit};
 ghost use Rattle.uses.specs.Manager.{SleepsUntil};
 
@@ -20,6 +23,10 @@ use std::net::Ipv6Addr;
 
 impl ManagedClient for DhcpV4Client {
     type State = DhcpV4State;
+
+    ghost polled = { λ now result old new.
+        IsRun rules4.protocol states4.plain_state rules4.needs_memory now result
+        old.client new.client old.words new.words old.shown new.shown old.faults new.faults };
 
     ghost sleeps_until = { λ moment parts.
         SleepsUntil (rules4.protocol parts.config) moment parts.client };
@@ -42,6 +49,10 @@ impl ManagedClient for DhcpV4Client {
 
 impl ManagedClient for DhcpV6Client {
     type State = DhcpV6State;
+
+    ghost polled = { λ now result old new.
+        IsRun rules6.protocol states6.plain_state rules6.needs_memory now result
+        old.client new.client old.words new.words old.shown new.shown old.faults new.faults };
 
     ghost sleeps_until = { λ moment parts.
         SleepsUntil (rules6.protocol parts.config) moment parts.client };

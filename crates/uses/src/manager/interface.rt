@@ -3,7 +3,7 @@
 ghost use Rattle.std.specs.Prelude.{◌≡◌};
 ghost use Rattle.dhcp4_client.specs.State as states4;
 ghost use Rattle.dhcp6_client.specs.State as states6;
-ghost use Rattle.uses.specs.Manager.{address_after, address_after6, prefix_length_after};
+ghost use Rattle.uses.specs.Manager.{interface_after, interface_after6};
 
 use super::Follow;
 use dhcp4_client::DhcpV4State;
@@ -22,13 +22,9 @@ pub struct Interface {
 }
 
 impl Follow<DhcpV4State> for Interface {
-    fn follow(&mut self, state: &DhcpV4State)
-        ensures address { self.new.address ≡ address_after (states4.plain_state state.now)
-            self.old.address }
-        ensures network { self.new.prefix_length
-            ≡ prefix_length_after (states4.plain_state state.now) self.old.prefix_length }
-        ensures other { self.new.address6 ≡ self.old.address6 }
-    {
+    ghost follows = { λ state old new. new ≡ interface_after (states4.plain_state state) old };
+
+    fn follow(&mut self, state: &DhcpV4State) {
         match state {
             DhcpV4State::Done(lease) => {
                 self.address = Some(lease.yiaddr);
@@ -41,12 +37,9 @@ impl Follow<DhcpV4State> for Interface {
 }
 
 impl Follow<DhcpV6State> for Interface {
-    fn follow(&mut self, state: &DhcpV6State)
-        ensures address { self.new.address6 ≡ address_after6 (states6.plain_state state.now)
-            self.old.address6 }
-        ensures other { self.new.address ≡ self.old.address }
-        ensures network { self.new.prefix_length ≡ self.old.prefix_length }
-    {
+    ghost follows = { λ state old new. new ≡ interface_after6 (states6.plain_state state) old };
+
+    fn follow(&mut self, state: &DhcpV6State) {
         match state {
             DhcpV6State::Done(lease) => self.address6 = Some(lease.address),
             DhcpV6State::Renew | DhcpV6State::Rebind => {}
