@@ -1,5 +1,5 @@
 -- What a network manager does with what its client reports.
-use Rattle.std.specs.Prelude.{◌≡◌, ◌<◌, ◌≤◌, ◌⊎◌, ℕ, suc, zero, Bool, false, List, Option, Some, None, Result, Ok, Err, count_ones}
+use Rattle.std.specs.Prelude.{◌≡◌, ◌<◌, ◌≤◌, ◌⊎◌, ◌+◌, ℕ, Bool, false, List, Option, Some, None, Result, Ok, Err, count_ones}
 use Rattle.std.specs.Net.Addr.{ipv4_bits}
 use Rattle.std.specs.declared.net.Ipv4Addr.{Ipv4Addr}
 use Rattle.std.specs.declared.net.Ipv6Addr.{Ipv6Addr}
@@ -78,30 +78,33 @@ abbrev pub seen : {Client : Type 0} → Client → Option (List ℕ) → Option 
 seen client words shown faults =
     record { client = client; words = words; shown = shown; faults = faults }
 
--- The turns of a manager, over what one poll returns and does, and what an interface does when it
--- follows a state.
+-- The turns of a manager, over what one poll returns and does, and what an interface does to follow
+-- a state.
 module _ {Client Interface State : Type 0}
     (polled : Result (Option State) ErrorParts → Seen Client → Seen Client → Type 0)
     (follows : State → Interface → Interface → Type 0) where
   -- this many polls, each of which reports a state that the interface follows
-  unfoldable pub Changes : ℕ → Seen Client → Interface → Seen Client → Interface → Type 0
-  Changes zero old before new after = (new ≡ old) × (after ≡ before)
-  Changes (suc count) old before new after =
-      (between : Seen Client) × (followed : Interface) × (state : State) ×
-      Changes count old before between followed ×
-      polled (Ok (Some state)) between new × follows state followed after
+  pub data Changes (old : Seen Client) (before : Interface) :
+      ℕ → Seen Client → Interface → Type 0 where
+    none : Changes old before 0 old before
+    one_more : {count : ℕ} {between new : Seen Client} {followed after : Interface}
+        {state : State} → Changes old before count between followed →
+        polled (Ok (Some state)) between new → follows state followed after →
+        Changes old before (count + 1) new after
 
   -- at most six such polls, and then one with this answer
-  abbrev pub EndsWith : Result (Option State) ErrorParts → Seen Client → Interface →
-      Seen Client → Interface → Type 0
-  EndsWith answer old before new after =
-      (count : ℕ) × (between : Seen Client) × (count < 7) ×
-      Changes count old before between after × polled answer between new
+  pub record EndsWith (answer : Result (Option State) ErrorParts) (old : Seen Client)
+      (before : Interface) (new : Seen Client) (after : Interface) : Type 0 where
+    pub count : ℕ
+    pub between : Seen Client
+    pub few : count < 7
+    pub changes : Changes old before count between after
+    pub last : polled answer between new
 
-  -- A turn that comes to its end polls until no change is reported, or seven times; one that fails
+  -- A turn that returns a moment polls until no change is reported, or seven times; one that fails
   -- has the error of its last poll.
   abbrev pub HasTurned : {Moment : Type 0} → Result Moment ErrorParts → Seen Client → Interface →
       Seen Client → Interface → Type 0
   HasTurned (Ok moment) old before new after =
-      EndsWith (Ok None) old before new after ⊎ Changes 7 old before new after
+      EndsWith (Ok None) old before new after ⊎ Changes old before 7 new after
   HasTurned (Err error) old before new after = EndsWith (Err error) old before new after

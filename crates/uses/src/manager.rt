@@ -59,29 +59,6 @@ pub trait Follow<S> {
         ensures { follows state.now self.old self.new };
 }
 
-// The polls of a turn.
-fn settle<C: ManagedClient, I: Follow<C::State>, W: Words, L: DhcpLink>(
-    client: &mut C,
-    interface: &mut I,
-    now: u64,
-    words: &mut W,
-    link: &mut L,
-) -> Result<(), DhcpError>
-    requires { now < 2 ^ 60 }
-    ensures turned { HasTurned (C.polled now) I.follows result
-        (seen client.old (W.left words.old) (L.shown link.old) (L.faults link.old)) interface.old
-        (seen client.new (W.left words.new) (L.shown link.new) (L.faults link.new)) interface.new }
-    ensures errors { IfErr result (λ error. (error ≡ timed_out) ⊎ (error ≡ no_memory)) }
-{
-    for _ in 0..7u32 {
-        let Some(state) = client.run(now, words, link)? else {
-            return Ok(());
-        };
-        interface.follow(&state);
-    }
-    Ok(())
-}
-
 /// One turn of the loop, now and whenever a packet comes: polls until nothing changes any more, at
 /// most seven times, since one packet changes the state at most six times. The interface follows
 /// each new state. Returns the moment, in milliseconds, until which the manager may sleep; none if
@@ -101,6 +78,11 @@ pub fn turn<C: ManagedClient, I: Follow<C::State>, W: Words, L: DhcpLink>(
     ensures stopped { IfOk result (λ moment. is_some moment ≡ not (C.has_stopped client.new)) }
     ensures errors { IfErr result (λ error. (error ≡ timed_out) ⊎ (error ≡ no_memory)) }
 {
-    settle(client, interface, now, words, link)?;
+    for _ in 0..7u32 {
+        let Some(state) = client.run(now, words, link)? else {
+            break;
+        };
+        interface.follow(&state);
+    }
     Ok(client.next_poll())
 }
