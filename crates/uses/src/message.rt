@@ -1,6 +1,6 @@
 //! Building a message, writing it and reading it.
 
-ghost use Rattle.std.specs.Prelude.{◌≡◌, ◌↔◌, None, IfErr, IfOk, IfSome, IsTrue, codes, is_some};
+ghost use Rattle.std.specs.Prelude.{◌≡◌, ◌↔◌, None, IfErr, IfOk, IfSome, IsTrue, is_some};
 ghost use Rattle.std.specs.FinMap as map;
 ghost use Rattle.dhcp_wire.specs.Error.{no_memory};
 ghost use Rattle.dhcp_wire.specs.Outcome.{Makes};
@@ -8,6 +8,7 @@ ghost use Rattle.dhcp4_msg.specs.Laws.{MessageIsInRange, read_back};
 ghost use Rattle.dhcp4_msg.specs.Message.{written_message};
 ghost use Rattle.dhcp4_lease.specs.Config.{is_within_limits};
 ghost use Rattle.dhcp4_lease.specs.MessageTable.{discover, table_message};
+ghost use Rattle.uses.specs.Configs.{named_config4};
 
 use dhcp_wire::{BufferMut, Bytes, DhcpError};
 use dhcp4_lease::{DhcpV4Config, new_discovery};
@@ -16,9 +17,14 @@ use dhcp4_msg::laws::message_reads_back;
 use std::alloc::Global;
 
 /// The configuration of a client on `eth0` that names its host, is known by its MAC address, and
-/// asks for static routes too.
+/// asks for static routes too. Out of memory is the only error.
+#[tactic(
+    auto,
+    using(crate::proofs::ConfigFacts::facts),
+    unfolding(dhcp4_lease::specs::Config::with_mac)
+)]
 pub fn configuration(alloc: Global) -> Result<DhcpV4Config, DhcpError>
-    ensures { IfOk result (λ config. config.host_name ≡ codes "foo") }
+    ensures { Makes (λ config. config) result named_config4 }
 {
     let mut config = DhcpV4Config::new(alloc, "eth0")?;
     config.set_iface_index(3);

@@ -1,19 +1,23 @@
 //! The clients that a manager runs.
 
-ghost use Rattle.std.specs.Prelude.{◌≡◌, IfOk, None, Some};
+ghost use Rattle.std.specs.Prelude.{◌≡◌, ◌⊎◌, false, true, IfErr, IfOk, IfSome, OnOk};
+ghost use Rattle.dhcp_wire.specs.Error.{no_memory};
 ghost use Rattle.dhcp_history.specs.Calls.{IsRun};
 ghost use Rattle.dhcp_history.specs.Machine.{is_stopped};
 ghost use Rattle.dhcp4_client.specs.Rules as rules4;
 ghost use Rattle.dhcp4_client.specs.State as states4;
 ghost use Rattle.dhcp4_client.specs.declared.client_state.ClientState.TheVariants.{InitReboot};
+ghost use Rattle.dhcp6_msg.specs.Config.{ethernet_duid};
+ghost use Rattle.dhcp6_msg.specs.Lease.{is_unspecified};
 ghost use Rattle.dhcp6_client.specs.Rules as rules6;
 ghost use Rattle.dhcp6_client.specs.State as states6;
 ghost use Rattle.dhcp6_client.specs.declared.client_state.ClientState.TheVariants.{Solicit};
+ghost use Rattle.uses.specs.Configs.{config4, config6, mac};
 ghost use Rattle.uses.specs.Manager.{SleepsUntil};
 
 use super::ManagedClient;
 use dhcp_clock::{DhcpLink, Words};
-use dhcp_wire::DhcpError;
+use dhcp_wire::{DhcpError, ErrorKind};
 use dhcp4_client::{DhcpV4Client, DhcpV4State};
 use dhcp4_lease::DhcpV4Config;
 use dhcp6_client::{DhcpV6Client, DhcpV6State};
@@ -73,9 +77,17 @@ impl ManagedClient for DhcpV6Client {
     }
 }
 
-/// A client of IPv4 on `eth0`, the interface with index 3, that is known by its MAC address.
+/// A client of IPv4 on `eth0`, the interface with index 3, that is known by its MAC address. Out of
+/// memory is the only error.
+#[tactic(
+    auto,
+    using(crate::proofs::ConfigFacts::facts),
+    unfolding(dhcp4_lease::specs::Config::with_mac)
+)]
 pub fn new_client<W: Words>(alloc: Global, words: &mut W) -> Result<DhcpV4Client, DhcpError>
-    ensures { IfOk result (λ client. client.client.state ≡ InitReboot) }
+    ensures state { IfOk result (λ client. client.client.state ≡ InitReboot) }
+    ensures config { IfOk result (λ client. client.config ≡ config4) }
+    ensures error { IfErr result (λ e. e ≡ no_memory) }
 {
     let mut config = DhcpV4Config::new(alloc, "eth0")?;
     config.set_iface_index(3);
@@ -86,15 +98,26 @@ pub fn new_client<W: Words>(alloc: Global, words: &mut W) -> Result<DhcpV4Client
 }
 
 /// A client of IPv6 on `eth0`, the interface with index 3, that sends from this link-local address
-/// and is known by the identifier of its MAC address.
+/// and is known by the identifier of its MAC address; contracts say that of words that are known.
+/// `InvalidArgument` if and only if the address is ::, and else out of memory is the only error.
+#[tactic(
+    auto,
+    using(crate::proofs::ConfigFacts::facts),
+    unfolding(dhcp6_msg::specs::Config::config_of)
+)]
 pub fn new_client6<W: Words>(
     alloc: Global,
     link_local: Ipv6Addr,
     words: &mut W,
 ) -> Result<DhcpV6Client, DhcpError>
     ensures state { IfOk result (λ client. client.client.state ≡ Solicit) }
-    ensures index { IfOk result (λ client. client.config.iface_index ≡ 3) }
-    ensures source { IfOk result (λ client. client.config.src_ip ≡ link_local) }
+    ensures config { IfOk result (λ client. client.config
+        ≡ record (config6 link_local) { duid = client.config.duid }) }
+    ensures identifier { IfSome (W.left words.old) (λ _. IfOk result (λ client.
+        client.config.duid ≡ ethernet_duid mac)) }
+    ensures begins { OnOk result (is_unspecified link_local ≡ false) }
+    ensures error { IfErr result (λ e. (e ≡ no_memory)
+        ⊎ ((e.kind ≡ ErrorKind.InvalidArgument) × (is_unspecified link_local ≡ true))) }
 {
     let mut config = DhcpV6Config::new(alloc, "eth0", DhcpV6Mode::NonTemporaryAddresses)?;
     config
