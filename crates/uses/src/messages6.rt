@@ -2,17 +2,13 @@
 
 ghost use Rattle.std.specs.Prelude.{◌≡◌, ◌⊎◌, Err, IfErr, IfOk, IfSome, IsSomeAnd, IsTrue, None, Ok, is_some};
 ghost use Rattle.dhcp_wire.specs.Error.{no_memory};
+ghost use Rattle.dhcp_wire.specs.Outcome.{Gives};
 ghost use Rattle.dhcp6_msg.specs.Config.{is_within_limits};
-ghost use Rattle.dhcp6_msg.specs.Lease.{Lease, are_times_in_order, read_lease};
-ghost use Rattle.dhcp6_msg.specs.Message.{
-  id_number,
-  parsed_message,
-  read_message,
-  written_message,
-};
-ghost use Rattle.dhcp6_msg.specs.MessageTable.{request, solicit, table_message};
-ghost use Rattle.dhcp6_msg.specs.declared.message.DhcpV6Message.{DhcpV6Message};
+ghost use Rattle.dhcp6_msg.specs.Lease.{are_times_in_order, read_lease};
+ghost use Rattle.dhcp6_msg.specs.Message.{id_number, read_message, written_message};
+ghost use Rattle.dhcp6_msg.specs.MessageTable.{solicit, table_message};
 ghost use Rattle.dhcp6_msg.specs.declared.message_type.DhcpV6MessageType.{DhcpV6MessageType};
+ghost use Rattle.uses.specs.Messages6 as messages;
 
 use dhcp_wire::{Bytes, DhcpError};
 use dhcp6_msg::{
@@ -72,7 +68,9 @@ pub fn lease_of_reply(
     Ok(Some(DhcpV6Lease::from_message(alloc, message)?))
 }
 
-/// The Request of the lease that an Advertise offers.
+/// The Request of the lease that an Advertise offers. An error is out of memory, or if and only if
+/// the payload is no message or its message grants no lease, the refusal of `parse` or
+/// `from_message`.
 pub fn request_of_offer(
     alloc: Global,
     xid: u32,
@@ -80,10 +78,7 @@ pub fn request_of_offer(
     offer: &[u8],
 ) -> Result<DhcpV6Message, DhcpError>
     requires { IsTrue (is_within_limits config.now) }
-    ensures { (message : DhcpV6Message) (lease : Lease)
-        → parsed_message offer.now ≡ Ok message
-        → read_lease message ≡ Ok lease
-        → IfOk result (λ built. built ≡ table_message xid config.now (request lease 0)) }
+    ensures { Gives (λ built. built) result (messages.request_of_offer xid config.now offer.now) }
 {
     let message = DhcpV6Message::parse(alloc, offer)?;
     let lease = DhcpV6Lease::from_message(alloc, message)?;
