@@ -1,10 +1,10 @@
 //! Reading a lease.
 
-ghost use Rattle.std.specs.Prelude.{◌≡◌, ◌⊎◌, IfErr, IfOk, IfSome, IsSomeAnd, IsTrue, None, Ok, Some};
+ghost use Rattle.std.specs.Prelude.{◌≡◌, ◌⊎◌, Err, IfErr, IfOk, IfSome, IsSomeAnd, IsTrue, None, Ok, Some};
 ghost use Rattle.dhcp_wire.specs.Error.{no_memory};
 ghost use Rattle.dhcp4_msg.specs.Message.{read_message};
 ghost use Rattle.dhcp4_msg.specs.Options.{message_type};
-ghost use Rattle.dhcp4_lease.specs.Lease.{HasFieldsOf, are_times_in_order};
+ghost use Rattle.dhcp4_lease.specs.Lease.{HasFieldsOf, ReadsLease, are_times_in_order};
 
 use dhcp_clock::Words;
 use dhcp_wire::{DhcpError, ErrorKind};
@@ -13,8 +13,9 @@ use dhcp4_msg::{DhcpV4Message, DhcpV4MessageType};
 use std::alloc::Global;
 use std::net::Ipv4Addr;
 
-/// The lease that an Ack grants; none only if the payload is a message of another type, and refused
-/// only if it is no message, or an Ack.
+/// The lease that an Ack grants by the words that are drawn; none only if the payload is a message
+/// of another type, and refused only if it is no message, or an Ack that by those words grants no
+/// lease. Else out of memory is the only error.
 pub fn lease_of_ack<W: Words>(
     alloc: Global,
     payload: &[u8],
@@ -25,15 +26,20 @@ pub fn lease_of_ack<W: Words>(
     ensures acknowledged { IfOk result (λ found. IfSome found (λ lease.
         IsSomeAnd (read_message payload.now) (λ message.
         message_type message.options ≡ Some DhcpV4MessageType.Ack))) }
+    ensures granted { IfOk result (λ found. IfSome found (λ lease.
+        IsSomeAnd (read_message payload.now) (λ message.
+        ReadsLease (W.left words.old) (Ok lease) (W.left words.new) message))) }
     ensures other { result ≡ Ok None → IsSomeAnd (read_message payload.now) (λ message.
         message_type message.options ≡ Some DhcpV4MessageType.Ack → ⊥) }
+    ensures undrawn { result ≡ Ok None → W.left words.new ≡ W.left words.old }
     ensures in_order { IfOk result (λ found. IfSome found (λ lease.
         IsTrue (are_times_in_order lease))) }
     ensures error { IfErr result (λ e.
         (e ≡ no_memory) ⊎ (e.kind ≡ ErrorKind.InvalidDhcpMessage)) }
     ensures refused { IfErr result (λ e. e.kind ≡ ErrorKind.InvalidDhcpMessage →
         IfSome (read_message payload.now) (λ message.
-        message_type message.options ≡ Some DhcpV4MessageType.Ack)) }
+        (message_type message.options ≡ Some DhcpV4MessageType.Ack)
+        × ReadsLease (W.left words.old) (Err e) (W.left words.new) message)) }
 {
     let message = DhcpV4Message::parse(alloc, payload)?;
     if message.message_type() != Some(DhcpV4MessageType::Ack) {
@@ -62,7 +68,8 @@ impl Words for Counter {
     }
 }
 
-/// The address that a message leases, by random words that no contract knows.
+/// The address that a message leases, by random words that no contract knows: it is refused only if
+/// there are words by which it grants no lease. Else out of memory is the only error.
 pub fn address_of_lease(
     alloc: Global,
     message: &DhcpV4Message,
@@ -71,6 +78,7 @@ pub fn address_of_lease(
     ensures address { IfOk result (λ address. address ≡ message.now.yiaddr) }
     ensures error { IfErr result (λ e.
         (e ≡ no_memory) ⊎ (e.kind ≡ ErrorKind.InvalidDhcpMessage)) }
+    ensures refused { IfErr result (λ e. ReadsLease None (Err e) None message.now) }
 {
     let lease = DhcpV4Lease::new_from_msg(alloc, message, words)?;
     Ok(lease.yiaddr)

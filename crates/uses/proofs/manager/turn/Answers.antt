@@ -28,16 +28,17 @@ returns-in_err-state-clause-turned g c =
 
 pub returns-clause-turned : goal.returns-clause-turned
 returns-clause-turned g c = elim c.loop-test.branch [
-  else-loop-test w ↦
-    let whole : c.loop.counter ≡ 7 = omega arith in
-    rw (w.client-is, w.words-is, w.link-is) (inr (rw (sym whole) c.loop.invariant))
+  | else-loop-test w ↦
+      let whole : c.loop.counter ≡ 7 = omega arith in
+      rw (w.client-is, w.words-is, w.link-is) (inr (rw (sym whole) c.loop.invariant))
   | then-loop-test+in_ok-state+in_default w ↦
-    let same : w.run.result ≡ Ok None = grind arith in
-    rw (w.client-is, w.words-is, w.link-is)
-    (inl (record {
-      count = c.loop.counter;
-      between = _;
-      few = omega arith;
-      changes = c.loop.invariant;
-      last = rw (sym same) w.run.ensures.polled;
-    })) ]
+      let same : w.run.result ≡ Ok None = grind arith in
+      rw (w.client-is, w.words-is, w.link-is)
+      (inl (record {
+        count = c.loop.counter;
+        between = _;
+        few = omega arith;
+        changes = c.loop.invariant;
+        last = rw (sym same) w.run.ensures.polled;
+      }))
+]
