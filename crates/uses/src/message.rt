@@ -18,7 +18,7 @@ use std::alloc::Global;
 
 /// The configuration of a client on `eth0` that names its host, is known by its MAC address, and
 /// asks for static routes too. Out of memory is the only error.
-#[tactic(auto, using(crate::proofs::ConfigFacts::facts), unfolding(dhcp4_lease::specs::Config::with_mac))]
+#[tactic(auto, using(crate::proofs::Facts::facts))]
 pub fn configuration(alloc: Global) -> Result<DhcpV4Config, DhcpError>
     ensures { Makes (λ config. config) result named_config4 }
 {

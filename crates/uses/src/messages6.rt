@@ -78,7 +78,8 @@ pub fn request_of_offer(
     offer: &[u8],
 ) -> Result<DhcpV6Message, DhcpError>
     requires { IsTrue (is_within_limits config.now) }
-    ensures { Gives (λ built. built) result (messages.request_of_offer xid config.now offer.now) }
+    ensures { Gives (λ built. built) result
+        (messages.request_of_offer xid config.now offer.now) }
 {
     let message = DhcpV6Message::parse(alloc, offer)?;
     let lease = DhcpV6Lease::from_message(alloc, message)?;

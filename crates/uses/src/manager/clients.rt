@@ -79,7 +79,7 @@ impl ManagedClient for DhcpV6Client {
 
 /// A client of IPv4 on `eth0`, the interface with index 3, that is known by its MAC address. Out of
 /// memory is the only error.
-#[tactic(auto, using(crate::proofs::ConfigFacts::facts), unfolding(dhcp4_lease::specs::Config::with_mac))]
+#[tactic(auto, using(crate::proofs::Facts::facts))]
 pub fn new_client<W: Words>(alloc: Global, words: &mut W) -> Result<DhcpV4Client, DhcpError>
     ensures state { IfOk result (λ client. client.client.state ≡ InitReboot) }
     ensures config { IfOk result (λ client. client.config ≡ config4) }
@@ -96,7 +96,7 @@ pub fn new_client<W: Words>(alloc: Global, words: &mut W) -> Result<DhcpV4Client
 /// A client of IPv6 on `eth0`, the interface with index 3, that sends from this link-local address
 /// and is known by the identifier of its MAC address; contracts say that of words that are known.
 /// `InvalidArgument` if and only if the address is ::, and else out of memory is the only error.
-#[tactic(auto, using(crate::proofs::ConfigFacts::facts), unfolding(dhcp6_msg::specs::Config::config_of))]
+#[tactic(auto, using(crate::proofs::Facts::facts), unfolding(dhcp6_msg::specs::Config::config_of))]
 pub fn new_client6<W: Words>(
     alloc: Global,
     link_local: Ipv6Addr,

@@ -12,7 +12,8 @@ loop-preserved g c =
     let shown = g.L.DhcpLink.shown in
     let faults = g.L.DhcpLink.faults in
     let same : c.run.result ≡ Ok (Some c.in-Some.state) = grind arith in
-    one_more {new = seen c.run.new.self (left c.run.new.words) (shown c.run.new.link) (faults c.run.new.link)}
+    one_more {new = seen c.run.new.self
+    (left c.run.new.words) (shown c.run.new.link) (faults c.run.new.link)}
     c.loop.invariant (rw (sym same) c.run.ensures.polled) c.follow.ensures
 
 pub returns-in_err-state-clause-turned : goal.returns-in_err-state-clause-turned
