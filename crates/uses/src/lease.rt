@@ -1,10 +1,10 @@
 //! Reading a lease.
 
-ghost use Rattle.std.specs.Prelude.{◌≡◌, ◌⊎◌, Err, IfErr, IfOk, IfSome, IsSomeAnd, IsTrue, None, Ok, Some};
+ghost use Rattle.std.specs.Prelude.{◌≡◌, ◌⊎◌, Err, IfErr, IfOk, IfSome, IsSomeAnd, IsTrue, None, Ok, OnOk, Some};
 ghost use Rattle.dhcp_wire.specs.Error.{no_memory};
 ghost use Rattle.dhcp4_msg.specs.Message.{read_message};
 ghost use Rattle.dhcp4_msg.specs.Options.{message_type};
-ghost use Rattle.dhcp4_lease.specs.Lease.{HasFieldsOf, ReadsLease, are_times_in_order};
+ghost use Rattle.dhcp4_lease.specs.Lease.{HasFieldsOf, Lease, ReadsLease, are_times_in_order};
 
 use dhcp_clock::Words;
 use dhcp_wire::{DhcpError, ErrorKind};
@@ -68,14 +68,16 @@ impl Words for Counter {
     }
 }
 
-/// The address that a message leases, by random words that no contract knows: it is refused only if
-/// there are words by which it grants no lease. Else out of memory is the only error.
+/// The address that a message leases, by random words that no contract knows: if it is returned,
+/// there are words by which the message grants a lease, and if it is refused, words by which it
+/// grants none. Else out of memory is the only error.
 pub fn address_of_lease(
     alloc: Global,
     message: &DhcpV4Message,
     words: &mut Counter,
 ) -> Result<Ipv4Addr, DhcpError>
     ensures address { IfOk result (λ address. address ≡ message.now.yiaddr) }
+    ensures granted { OnOk result ((lease : Lease) × ReadsLease None (Ok lease) None message.now) }
     ensures error { IfErr result (λ e.
         (e ≡ no_memory) ⊎ (e.kind ≡ ErrorKind.InvalidDhcpMessage)) }
     ensures refused { IfErr result (λ e. ReadsLease None (Err e) None message.now) }
