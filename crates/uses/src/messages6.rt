@@ -68,9 +68,9 @@ pub fn lease_of_reply(
     Ok(Some(DhcpV6Lease::from_message(alloc, message)?))
 }
 
-/// The Request of the lease that an Advertise offers; its type is not tested. Refused if and only if
-/// the payload is no message or its message grants no lease, as `parse` and `from_message` refuse
-/// it. Else out of memory is the only error.
+/// The Request of the lease that an Advertise offers; its type is not tested. It is refused if and
+/// only if the payload is no message or its message grants no lease, as `parse` and `from_message`
+/// refuse it. Else out of memory is the only error.
 pub fn request_of_offer(
     alloc: Global,
     xid: u32,
