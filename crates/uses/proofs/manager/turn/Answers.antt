@@ -1,5 +1,5 @@
 use Rattle.std.proofs.Common.{◌≡◌, arith, sym, inl, inr, Ok, Err, Some, None}
-use Rattle.uses.specs.Manager.{none, one_more, seen}
+use Rattle.uses.specs.Manager.{HasTurned, none, one_more, seen}
 use Rattle.uses.proofs.manager.turn.Goals as goal
 use Rattle.uses.proofs.manager.turn.Goals.{else-loop-test, then-loop-test+in_ok-state+in_default}
 
@@ -17,6 +17,7 @@ loop-preserved g c =
     c.loop.invariant (rw (sym same) c.run.ensures.polled) c.follow.ensures
 
 pub returns-in_err-state-clause-turned : goal.returns-in_err-state-clause-turned
+unfolding HasTurned
 returns-in_err-state-clause-turned g c =
     let same : c.from_residual.result ≡ Err c.in_err-state.field-0.0 = grind arith in
     rw same (record {
@@ -28,6 +29,7 @@ returns-in_err-state-clause-turned g c =
     })
 
 pub returns-clause-turned : goal.returns-clause-turned
+unfolding HasTurned
 returns-clause-turned g c = elim c.loop-test.branch [
   | else-loop-test w ↦
       let whole : c.loop.counter ≡ 7 = omega arith in
