@@ -103,8 +103,8 @@ module _ {Client Interface State : Type 0}
 
   -- A turn that returns a moment polls until no change is reported, or seven times; one that fails
   -- has the error of its last poll.
-  unfoldable pub HasTurned : {Moment : Type 0} → Result Moment ErrorParts → Seen Client → Interface →
-      Seen Client → Interface → Type 0
+  unfoldable pub HasTurned : {Moment : Type 0} → Result Moment ErrorParts →
+      Seen Client → Interface → Seen Client → Interface → Type 0
   HasTurned (Ok moment) old before new after =
       EndsWith (Ok None) old before new after ⊎ Changes old before 7 new after
   HasTurned (Err error) old before new after = EndsWith (Err error) old before new after
