@@ -5,10 +5,8 @@ mod replay;
 #[cfg(test)]
 mod tests;
 
-ghost use Rattle.std.specs.Prelude.{◌≡◌, ◌<◌, ◌^◌, ◌⊎◌, IfErr, IfOk, OnErr, OnOk, is_ok};
-ghost use Rattle.dhcp_wire.specs.Error.{no_memory};
+ghost use Rattle.std.specs.Prelude.{◌≡◌, ◌<◌, ◌^◌, IfErr, IfOk, OnErr, OnOk, is_ok};
 ghost use Rattle.dhcp_wire.specs.Outcome.{Finds};
-ghost use Rattle.dhcp_history.specs.Errors.{run_answer, timed_out};
 ghost use Rattle.dhcp4_client.specs.Client as clients;
 ghost use Rattle.dhcp4_client.specs.State.{plain_state};
 

@@ -1,6 +1,5 @@
 //! The states of a client with what each rests on, RFC 2131 figure 5.
 
-ghost use Rattle.std.specs.Prelude.{◌≡◌};
 ghost use Rattle.dhcp_wire.specs.Outcome.{Finds};
 ghost use Rattle.dhcp4_client.specs.Rules as table;
 

@@ -1,7 +1,7 @@
 //! Laws of the client, over every configuration and every script. Each is the clause of a function
 //! that does nothing.
 
-ghost use Rattle.std.specs.Prelude.{◌≡◌, ◌≤◌, ℕ, All, Option};
+ghost use Rattle.std.specs.Prelude.{◌≡◌, All, Option};
 ghost use Rattle.dhcp_clock.specs.declared.link.Packet.{Packet};
 ghost use Rattle.dhcp_history.specs.Bounds.{KeepsDistance};
 ghost use Rattle.dhcp_history.specs.History.{history};
@@ -56,8 +56,8 @@ pub fn four_requests_of_a_lease(client: &DhcpV4Client)
     laws::attempts_run_out(&client.rules);
 }
 
-/// In a history successive messages of a stay that the link took are at least three seconds apart,
-/// and those in RENEWING and in REBINDING a minute.
+/// In a history successive messages of a stay that the link took, besides a release, are at least
+/// three seconds apart, and those in RENEWING and in REBINDING a minute.
 pub fn messages_are_far_apart(client: &DhcpV4Client)
     ensures { (script : Script Packet ClientState Exchange) →
         All (KeepsDistance distance) (history (protocol client.now.config) script) }

@@ -1,13 +1,14 @@
 -- What a client begins with.
-use Rattle.std.proofs.Common.{◌≡◌, ℕ, List, sym, ap, ◌∙◌}
-use Rattle.std.specs.Prelude.{Option, Some, None}
-use Rattle.dhcp_clock.specs.Words.{Draws}
+use Rattle.std.proofs.Common.{◌≡◌, ℕ, List, [], ◌∷◌, ◌++◌, sym, ap, ◌∙◌, tt}
+use Rattle.std.specs.Prelude.{Option, Some, None, IfSome}
+use Rattle.dhcp_clock.specs.Words.{Drawn, Draws}
 use Rattle.dhcp_history.specs.Client.{unpolled}
 use Rattle.dhcp_history.specs.declared.client.Standing.{Standing}
 use Rattle.dhcp6_opt.specs.declared.duid.DhcpV6Duid.{DhcpV6Duid}
-use Rattle.dhcp6_msg.specs.Config.{Config, client_duid}
+use Rattle.dhcp6_opt.specs.declared.duid.DhcpV6Duid.TheVariants.{LinkLayerAddressPlusTime, EnterpriseNumber, LinkLayerAddress, UUID, Raw}
+use Rattle.dhcp6_msg.specs.Config.{Config, client_duid, duid_or_made}
 use Rattle.dhcp6_client.specs.declared.client_state.Exchange.{Exchange}
-use Rattle.dhcp6_client.specs.Client.{first_exchange}
+use Rattle.dhcp6_client.specs.Client.{first_exchange, undrawn_duid, undrawn_duid_of}
 
 -- this configuration has an identifier that was drawn
 abbrev HasDrawn : Option (List ℕ) → Option (List ℕ) → Config → Config → Type 0
@@ -20,6 +21,27 @@ with_own given new duid e = e ∙ ap (λ (other : DhcpV6Duid). record given { du
 pub sets_duid : (before after : Option (List ℕ)) (given new : Config) → HasDrawn before after given new → new ≡ record given { duid = new.duid }
 sets_duid None after given new drawn = with_own given new drawn.1.1.0 drawn.1.1.1.1
 sets_duid (Some words) after given new drawn = with_own given new (client_duid given words).value drawn.1
+
+-- an identifier that needs no draw is given by all words
+without_draw : (duid : DhcpV6Duid) (mac : Option (List ℕ)) (words : List ℕ) (new : DhcpV6Duid) → new ≡ (duid_or_made duid mac words).value →
+    IfSome (undrawn_duid_of duid mac) (λ known. new ≡ known)
+without_draw (Raw []) None words new e = tt
+without_draw (Raw []) (Some mac) words new e = e
+without_draw (Raw (byte ∷ bytes)) mac words new e = e
+without_draw (LinkLayerAddressPlusTime duid) mac words new e = e
+without_draw (EnterpriseNumber duid) mac words new e = e
+without_draw (LinkLayerAddress duid) mac words new e = e
+without_draw (UUID duid) mac words new e = e
+
+-- so that over every source it is the one of the configuration
+pub identified : (before after : Option (List ℕ)) (given new : Config) → HasDrawn before after given new → IfSome (undrawn_duid given) (λ known. new.duid ≡ known)
+identified None after given new drawn =
+    let taken = drawn.1.0 in
+    let named : new.duid ≡ drawn.1.1.0 = ap (λ (config : Config). config.duid) drawn.1.1.1.1 in
+    let given_by : drawn.1.1.0 ≡ (client_duid given (taken ++ [])).value = sym (ap (λ (drawn : Drawn DhcpV6Duid). drawn.value) (drawn.1.1.1.0 [])) in
+    without_draw given.duid given.src_mac (taken ++ []) new.duid (named ∙ given_by)
+identified (Some words) after given new drawn =
+    without_draw given.duid given.src_mac words new.duid (ap (λ (config : Config). config.duid) drawn.1)
 
 -- how it stands: it was not polled yet, with its transaction id
 pub stands_unpolled : (standing : Standing Exchange) (exchange : Exchange) (xid : ℕ) → standing ≡ unpolled exchange → exchange ≡ first_exchange xid →

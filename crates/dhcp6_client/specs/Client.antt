@@ -1,5 +1,5 @@
 -- A client, and how it begins, RFC 8415 sections 16.1 and 18.2.
-use Rattle.std.specs.Prelude.{◌≡◌, ◌==◌, ◌&&◌, ◌||◌, ℕ, List, Bool, true, not, Option, Some, None}
+use Rattle.std.specs.Prelude.{◌≡◌, ◌==◌, ◌&&◌, ◌||◌, ℕ, List, [], Bool, true, not, Option, Some, None, option_map}
 use Rattle.std.specs.Option.{option_map_or}
 use Rattle.dhcp_clock.specs.Words.{Drawn, undrawn, drawn_word, drawn_then}
 use Rattle.dhcp_history.specs.BoundLease.{Bound}
@@ -7,7 +7,9 @@ use Rattle.dhcp_history.specs.Calls as calls
 use Rattle.dhcp_history.specs.Client.{BeginsIn, Enters}
 use Rattle.dhcp6_msg.specs.declared.mode.DhcpV6Mode.{DhcpV6Mode}
 use Rattle.dhcp6_msg.specs.declared.mode.DhcpV6Mode.TheVariants.{NonTemporaryAddresses, TemporaryAddresses, PrefixDelegation}
-use Rattle.dhcp6_msg.specs.Config.{Config, client_duid, is_within_limits}
+use Rattle.dhcp6_opt.specs.declared.duid.DhcpV6Duid.{DhcpV6Duid}
+use Rattle.dhcp6_opt.specs.declared.duid.DhcpV6Duid.TheVariants.{Raw}
+use Rattle.dhcp6_msg.specs.Config.{Config, client_duid, ethernet_duid, is_within_limits}
 use Rattle.dhcp6_msg.specs.Lease as leases
 use Rattle.dhcp6_msg.specs.Lease.{Lease, is_duid, is_no_duid, is_unspecified}
 use Rattle.dhcp6_client.specs.declared.client_state.ClientState.{ClientState}
@@ -34,7 +36,7 @@ can_begin config lease =
     && option_map_or leases.is_within_limits lease true
 
 -- the state in which it begins: it renews a lease that it held before, whose times count from the
--- start, unless that is of temporary addresses, which this client does not renew
+-- start, unless it asks for temporary addresses, which this client does not renew
 abbrev pub first_state_of : DhcpV6Mode → Bound Lease → ClientState
 first_state_of NonTemporaryAddresses bound = Renew bound
 first_state_of TemporaryAddresses bound = Solicit
@@ -59,6 +61,15 @@ abbrev pub first_draws : Config → List ℕ → Drawn FirstDraws
 first_draws config =
     drawn_then (client_duid config) (λ duid. drawn_then drawn_word (λ word.
     undrawn (record { config = record config { duid = duid }; xid = new_id word })))
+
+-- the identifier of a client that needs no draw for it: that which it is given, or that of its MAC
+-- address
+abbrev pub undrawn_duid_of : DhcpV6Duid → Option (List ℕ) → Option DhcpV6Duid
+undrawn_duid_of (Raw []) mac = option_map ethernet_duid mac
+undrawn_duid_of duid mac = Some duid
+
+abbrev pub undrawn_duid : Config → Option DhcpV6Duid
+undrawn_duid config = undrawn_duid_of config.duid config.src_mac
 
 -- what was drawn for a client
 abbrev pub drawn_for : ClientParts → FirstDraws

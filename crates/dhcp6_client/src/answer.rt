@@ -2,10 +2,9 @@
 //! bytes that it was received in: its carrier, its type, its transaction id; only a packet that may
 //! answer is copied.
 
-ghost use Rattle.std.specs.Prelude.{◌≡◌, ◌≤◌, IfErr, IfOk, IfSome, None, Ok, Some, false, is_some, length};
+ghost use Rattle.std.specs.Prelude.{◌≡◌, IfErr, IfOk, None, Ok, Some, false, is_some};
 ghost use Rattle.dhcp_wire.specs.Error.{no_memory};
 ghost use Rattle.dhcp_wire.specs.Outcome.{Finds};
-ghost use Rattle.dhcp6_opt.specs.Duid.{written_duid};
 ghost use Rattle.dhcp6_client.specs.Answer as answers;
 
 use crate::client_state::ClientState;

@@ -5,10 +5,9 @@ mod replay;
 #[cfg(test)]
 mod tests;
 
-ghost use Rattle.std.specs.Prelude.{◌≡◌, ◌<◌, ◌^◌, ◌⊎◌, true, false, IfSome, IfErr, IfOk, OnErr, OnOk, is_ok};
+ghost use Rattle.std.specs.Prelude.{◌≡◌, ◌<◌, ◌^◌, true, false, IfSome, IfErr, IfOk, OnErr, OnOk, is_ok};
 ghost use Rattle.dhcp_wire.specs.Error.{no_memory};
 ghost use Rattle.dhcp_wire.specs.Outcome.{Finds};
-ghost use Rattle.dhcp_history.specs.Errors.{run_answer, timed_out};
 ghost use Rattle.dhcp6_msg.specs.Lease.{is_within_limits};
 ghost use Rattle.dhcp6_client.specs.Client as clients;
 ghost use Rattle.dhcp6_client.specs.State.{plain_state};
@@ -59,14 +58,15 @@ impl DhcpV6Client {
       can_begin,
       drawn_for,
       first_draws,
+      undrawn_duid,
     };
     ghost use Rattle.dhcp6_msg.specs.Lease.{is_within_limits};
     ghost use Rattle.dhcp6_client.specs.Rules.{protocol, held_lease, needs_memory};
 
     /// A client with this configuration, and with a lease that it held before, if there is one,
     /// whose times count from this moment, in milliseconds: it renews that lease, unless it asks
-    /// for temporary addresses. It fills an empty identifier, from the MAC address or at random,
-    /// and draws its transaction id. `InvalidArgument` if and only if the interface index is 0, the
+    /// for temporary addresses. An empty identifier becomes that of the MAC address, or if there is
+    /// none one at random; any other stays. Draws the transaction id. `InvalidArgument` if and only if the interface index is 0, the
     /// address to send from is ::, the identifier is neither empty nor 2 to 65,535 bytes, there are
     /// more than 32,767 codes, or the lease is one that `done` refuses; then no word is drawn. Else
     /// out of memory is the only error.
@@ -82,6 +82,8 @@ impl DhcpV6Client {
         ensures begun { IfOk result (Begins config lease now) }
         ensures drawn { IfOk result (λ client. GivesDrawn (first_draws config)
             (W.left words.old) (drawn_for client) (W.left words.new)) }
+        ensures identifier { IfOk result (λ client. IfSome (undrawn_duid config)
+            (λ duid. client.config.duid ≡ duid)) }
         ensures refused { can_begin config lease ≡ false → IfErr result
             (λ error. error.kind ≡ ErrorKind.InvalidArgument) }
         ensures errors { can_begin config lease ≡ true → IfErr result

@@ -1,6 +1,6 @@
 //! The states of a client with what each rests on, RFC 8415 section 18.2.
 
-ghost use Rattle.std.specs.Prelude.{◌≡◌, ◌≤◌, IfSome, length, option_copied};
+ghost use Rattle.std.specs.Prelude.{◌≤◌, IfSome, length, option_copied};
 ghost use Rattle.dhcp_wire.specs.Outcome.{Finds};
 ghost use Rattle.dhcp6_opt.specs.Duid.{written_duid};
 ghost use Rattle.dhcp6_client.specs.Rules as table;
@@ -18,7 +18,8 @@ pub enum ClientState {
     Request(GrantedLease),
     /// It has this lease, whose T1 is still to come.
     Done(BoundLease<GrantedLease>),
-    /// It has this lease of temporary addresses, which are not renewed: their end is still to come.
+    /// It has this lease, whose end is still to come, and asks for temporary addresses, which are
+    /// not renewed.
     Temporary(BoundLease<GrantedLease>),
     /// T1 of this lease is past, and T2 is still to come.
     Renew(BoundLease<GrantedLease>),

@@ -1,6 +1,6 @@
 //! What a client draws for an attempt, RFC 8415 sections 15, 16.1 and 18.2.
 
-ghost use Rattle.std.specs.Prelude.{◌≡◌, ◌≤◌, ◌<◌, ◌-◌, min};
+ghost use Rattle.std.specs.Prelude.{◌≡◌, ◌≤◌, ◌<◌, ◌-◌};
 ghost use Rattle.dhcp_clock.specs.Wait as retransmit;
 ghost use Rattle.dhcp_history.specs.Rules.{GivesDrawn};
 ghost use Rattle.dhcp6_client.specs.Rules as table;

@@ -1,7 +1,7 @@
 //! Laws of the client, over every configuration and every script. Each is the clause of a function
 //! that does nothing.
 
-ghost use Rattle.std.specs.Prelude.{◌≡◌, ◌≤◌, ℕ, All};
+ghost use Rattle.std.specs.Prelude.{◌≡◌, All};
 ghost use Rattle.dhcp_clock.specs.declared.link.Packet.{Packet};
 ghost use Rattle.dhcp_history.specs.Bounds.{KeepsDistance};
 ghost use Rattle.dhcp_history.specs.History.{history};
@@ -44,7 +44,8 @@ pub fn eleven_requests_of_an_offer(client: &DhcpV6Client)
 }
 
 /// In a history of a client that begins without a previous wait, successive messages of a stay that
-/// the link took are at least 0.9 seconds apart, and those in Renew and in Rebind 9 seconds.
+/// the link took, besides a release, are at least 0.9 seconds apart, and those in Renew and in
+/// Rebind 9 seconds.
 pub fn messages_are_far_apart(client: &DhcpV6Client)
     ensures { (script : Script Packet ClientState Exchange) →
         script.exchange.previous_wait ≡ 0 →

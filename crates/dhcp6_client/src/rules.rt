@@ -2,7 +2,7 @@
 //! column, every state named.
 
 ghost use Rattle.std.specs.Prelude.{◌≡◌, ◌<◌, ◌^◌, false, IfOk, IsTrue, OnOk, OnErr};
-ghost use Rattle.dhcp_history.specs.Rules.{GivesDrawn, IsNext};
+ghost use Rattle.dhcp_history.specs.Rules.{IsNext};
 ghost use Rattle.dhcp6_msg.specs.Config.{is_within_limits};
 ghost use Rattle.dhcp6_client.specs.Rules as table;
 ghost use Rattle.dhcp6_client.specs.declared.client_state.Exchange.{Exchange};

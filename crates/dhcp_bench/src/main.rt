@@ -11,7 +11,8 @@
 //! Discover to its release, with the frames of an Offer and of an Ack as two lines; `idle6`,
 //! `foreign6` and `life6` do so with an IPv6 client, and payloads. These print how many polls or
 //! lives there were. A task that is done at least once prints nothing, and fails, if a line that it
-//! reads is missing, is not hex or does not read.
+//! reads is missing, is not hex or does not read; but a client drops what does not read. A first
+//! line has to be there for all.
 #![tactic(auto)]
 
 mod client4;

@@ -128,13 +128,15 @@ FarApart distance due [] = Unit {0}
 FarApart distance due (attempt ∷ attempts) =
     (due ≤ attempt.moment) × FarApart distance (attempt.moment + distance) attempts
 
--- in a stay in one of these states, given by what they hold, the link took so many messages at most
+-- in a stay in one of these states, given by what they hold, the link took so many messages at
+-- most, besides a release
 abbrev pub TakesAtMost : {State Message Held : Type 0} → ℕ → (Held → State) →
     Stay State Message → Type 0
 TakesAtMost {Held = Held} most state_of stay =
     (held : Held) → stay.setting.state ≡ state_of held → taken_count (attempts_of stay.acts) ≤ most
 
--- the messages of a stay that the link took keep the distance of its state, in milliseconds
+-- the messages of a stay that the link took, besides a release, keep the distance of its state, in
+-- milliseconds
 abbrev pub KeepsDistance : {State Message : Type 0} → (State → ℕ) → Stay State Message → Type 0
 KeepsDistance distance stay =
     FarApart (distance stay.setting.state) stay.setting.entered (taken_of (attempts_of stay.acts))

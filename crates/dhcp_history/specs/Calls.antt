@@ -17,7 +17,7 @@ use Rattle.dhcp_history.specs.Client.{view_of}
 use Rattle.dhcp_history.specs.Errors.{release_answer, run_answer, send_refused, sent_of, timed_out}
 use Rattle.dhcp_history.specs.EventLoop.{HasReported, events_at, last_moment}
 use Rattle.dhcp_history.specs.Release as release
-use Rattle.dhcp_history.specs.Release.{HasReleased, UnlessOutOfMemory}
+use Rattle.dhcp_history.specs.Release.{HasReleased, OnOutOfMemory, UnlessOutOfMemory}
 use Rattle.dhcp_history.specs.Run.{input_of, quiet_poll, HasPolled, HasPolledQuietly, IsSent, IsStill, IsUnsent, NeedsMemory, OnNoMemory, OnTimeout, UnlessNoMemory, UsesLink, WhereKnown}
 use Rattle.dhcp_history.specs.Schedule.{HasNextAttempt, IsActive, IsIdle, next_poll}
 
@@ -120,6 +120,9 @@ module _ {PublicState State Exchange Answer Lease : Type 0}
     -- a clean-up follows if one was
     pub cleaned : IfOk result (λ released. (drawn : List ℕ) → view_of new drawn ≡
         (if released then clean_up p (view_of old drawn) else view_of old drawn))
+    -- out of memory: a lease is held, and nothing was sent
+    pub needed : OnOutOfMemory (release_answer result) (is_some (p.held_lease old.state) ≡ true)
+    pub unsent : OnOutOfMemory (release_answer result) (after ≡ before)
     pub errors : IfErr result (λ error. (error ≡ send_refused) ⊎ (error ≡ no_memory))
 
   -- The events of a script, played. What is returned has these outputs as its items.

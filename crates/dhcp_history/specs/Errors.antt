@@ -38,7 +38,8 @@ abbrev pub run_answer : {State PublicState : Type 0} → (State → PublicState)
 run_answer view (Ok state) = Ok (option_map view state)
 run_answer view (Err error) = Err (run_error error.kind)
 
--- the answer of a release, as the rules have it
+-- the answer of a release, as the rules have it; a refusal of any other kind comes before anything
+-- is sent, as out of memory does
 abbrev pub release_error : ErrorKind → ReleaseError
 release_error kinds.IoError = release.Refused
 release_error _ = release.OutOfMemory

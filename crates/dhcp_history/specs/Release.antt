@@ -15,6 +15,12 @@ UnlessOutOfMemory (Ok a) P = P
 UnlessOutOfMemory (Err release.Refused) P = P
 UnlessOutOfMemory (Err release.OutOfMemory) P = Unit {0}
 
+-- a fact for out of memory alone
+abbrev pub OnOutOfMemory : {A : Type 0} → Result A ReleaseError → Type 0 → Type 0
+OnOutOfMemory (Ok a) P = Unit {0}
+OnOutOfMemory (Err release.Refused) P = Unit {0}
+OnOutOfMemory (Err release.OutOfMemory) P = P
+
 -- what a release does: the client after it, the message that it hands to the link, and its answer
 pub record ReleaseEffect (State Exchange : Type 0) : Type 0 where
   pub view : View State Exchange

@@ -93,7 +93,7 @@ pub(crate) fn transmit<R: Rules, W: Words, L: DhcpLink>(
 }
 
 // Steps 6 and 7: a client that listens takes the packet that waits. When out of memory the client
-// is unchanged, and the packet is lost.
+// is unchanged, and the packet may be lost.
 pub(crate) fn receive<R: Rules, W: Words, L: DhcpLink>(
     rules: &R,
     client: &mut Client<R::State, R::Exchange>,

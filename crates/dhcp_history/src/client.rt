@@ -1,6 +1,6 @@
 //! A client: its state, and where it stands in it.
 
-ghost use Rattle.std.specs.Prelude.{◌≡◌, ◌<◌, ◌^◌};
+ghost use Rattle.std.specs.Prelude.{◌<◌, ◌^◌};
 
 /// What a client is in the midst of, in the state that it is in.
 #[derive(Clone, Copy, Debug, PartialEq, Eq)]

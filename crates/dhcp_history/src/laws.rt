@@ -1,7 +1,7 @@
 //! The laws of histories, over all rules and every script; most ask that the rules are lawful. Each
 //! is the clause of a function that does nothing.
 
-ghost use Rattle.std.specs.Prelude.{◌≡◌, ◌≤◌, ℕ, List, All, Bool, true};
+ghost use Rattle.std.specs.Prelude.{◌≡◌, ◌≤◌, ℕ, All, Bool, true};
 ghost use Rattle.dhcp_clock.specs.declared.link.Packet.{Packet};
 ghost use Rattle.dhcp_history.specs.Protocol.{Lawful};
 ghost use Rattle.dhcp_history.specs.Script.{Script};
@@ -66,7 +66,8 @@ pub fn two_messages_a_number<R: Rules>(rules: &R)
     let _rules = rules;
 }
 
-/// What a history reports, stay by stay, is in the order of the numbers of its events.
+/// What a history reports, stay by stay, is in the order of the numbers of its events, if those
+/// never fall.
 pub fn reports_are_in_order<R: Rules>(rules: &R)
     ensures { Lawful (R.protocol rules.now) →
         (script : Script Packet R.State R.Exchange) (least : ℕ) →
@@ -120,8 +121,8 @@ pub fn attempts_run_out<R: Rules>(rules: &R)
 }
 
 /// In a state whose waits are half of the time to its end (RFC 2131 section 4.4.5), a stay in which
-/// the link took n messages, from 2 on, has more than 60 * 2^(n - 2) seconds from its entry to that
-/// end.
+/// the link took n messages besides a release, from 2 on, has more than 60 * 2^(n - 2) seconds from
+/// its entry to that end.
 pub fn messages_halve<R: Rules>(rules: &R)
     ensures { (script : Script Packet R.State R.Exchange) →
         All (IsSparse (R.protocol rules.now)) (history (R.protocol rules.now) script) }
@@ -130,7 +131,8 @@ pub fn messages_halve<R: Rules>(rules: &R)
 }
 
 /// Successive attempts of a stay keep the least distance, in milliseconds, that the waits of its
-/// state have over exchanges that pass a test, which the first one passes and every step keeps.
+/// state have over the exchanges that pass a test: one that each exchange passes with which a stay
+/// begins, and that a wait which is over preserves.
 pub fn attempts_are_far_apart<R: Rules>(rules: &R)
     ensures { (good : R.Exchange → Bool) → IsKept (R.protocol rules.now) good →
         (script : Script Packet R.State R.Exchange) → good script.exchange ≡ true →
@@ -139,7 +141,8 @@ pub fn attempts_are_far_apart<R: Rules>(rules: &R)
     let _rules = rules;
 }
 
-/// The messages of a stay that the link took keep the same least distance, by the same test.
+/// The messages of a stay that the link took, besides a release, keep the same least distance, by
+/// the same test.
 pub fn messages_are_far_apart<R: Rules>(rules: &R)
     ensures { (good : R.Exchange → Bool) → IsKept (R.protocol rules.now) good →
         (script : Script Packet R.State R.Exchange) → good script.exchange ≡ true →

@@ -8,7 +8,7 @@ ghost use Rattle.dhcp_history.specs.Calls.{CleansUp};
 ghost use Rattle.dhcp_history.specs.Client.{view_of};
 ghost use Rattle.dhcp_history.specs.Schedule.{HasNextAttempt};
 ghost use Rattle.dhcp_history.specs.Errors.{sent_when};
-ghost use Rattle.dhcp_history.specs.Release.{UnlessOutOfMemory, release_held, HasReleased};
+ghost use Rattle.dhcp_history.specs.Release.{OnOutOfMemory, UnlessOutOfMemory, release_held, HasReleased};
 
 use crate::attempt::send;
 use crate::{Client, Rules, Standing};
@@ -45,8 +45,9 @@ pub fn release_held<R: Rules, L: DhcpLink>(
         result (view_of client.new drawn) before (L.shown link.new))) }
     ensures held { IfOk result (λ released.
         released ≡ is_some ((R.protocol rules.now).held_lease client.old.state)) }
-    ensures needed { result ≡ Err ReleaseError.OutOfMemory →
-        is_some ((R.protocol rules.now).held_lease client.old.state) ≡ true }
+    ensures needed { OnOutOfMemory result
+        (is_some ((R.protocol rules.now).held_lease client.old.state) ≡ true) }
+    ensures unsent { OnOutOfMemory result (L.shown link.new ≡ L.shown link.old) }
     ensures cleaned { IfOk result (λ released. (drawn : List ℕ) →
         view_of client.new drawn ≡ (if released
         then clean_up (R.protocol rules.now) (view_of client.old drawn)

@@ -54,8 +54,8 @@ abbrev pub IsMessageOf : Config → ℕ → ClientState → Handed → Type 0
 IsMessageOf config xid state message = message ≡ attempt_message xid config state
 
 -- What is promised of a client with this configuration, and with a lease that it held before or
--- none, over these words and events. In the bounds of a stay a message counts if the link took it;
--- in those of an event a refused one counts too.
+-- none, over these words and events. In the bounds of a stay a message counts if the link took it
+-- and it is no release; in those of an event a refused one counts too.
 pub record KeepsPromises (config : Config) (lease : Option Lease) (words : List ℕ)
     (events : List Event) : Type 0 where
   -- k requests in a stay, k at least 2, come in RENEWING only if T2 - T1, and in REBINDING only if
@@ -70,8 +70,8 @@ pub record KeepsPromises (config : Config) (lease : Option Lease) (words : List 
   pub two_messages : (number : ℕ) → count_of (is_send_at number)
       (outputs (protocol config) (history4 config lease words events))
       ≤ allowed number (numbered 1 events)
-  -- each message names the offer or the lease of its state, which was read from an earlier packet,
-  -- or is the lease that was held before
+  -- each attempt's message names the offer or the lease of its state, which was read from an earlier
+  -- packet, or is the lease that was held before
   pub names_its_basis :
       All (NamesItsBasis (HasBasis lease (numbered 1 events) (next_of words))
       (IsMessageOf config (next_of words))) (history4 config lease words events)

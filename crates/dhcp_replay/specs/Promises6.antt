@@ -50,8 +50,8 @@ HasBasis before events entry (Temporary bound) = IsReadFrom events entry Reply b
 HasBasis before events entry (Renew bound) = IsKnown before events entry bound.lease
 HasBasis before events entry (Rebind bound) = IsKnown before events entry bound.lease
 
--- the message of a state names its offer or its lease; it has a transaction id, the time since
--- which the client tries, and in a Solicit the identifier of an association
+-- the message of a state names its offer or its lease; it has a transaction id, the time for which
+-- the client has tried, and in a Solicit the identifier of an association
 pub record IsMessageOf (config : Config) (state : ClientState) (message : Handed) : Type 0 where
   pub xid : ℕ
   pub elapsed : ℕ
@@ -59,8 +59,8 @@ pub record IsMessageOf (config : Config) (state : ClientState) (message : Handed
   pub is : message ≡ attempt_message xid config elapsed iaid state
 
 -- What is promised of a client with this configuration, and with a lease that it held before or
--- none, over this life. In the bounds of a stay a message counts if the link took it; in those of
--- an event a refused one counts too.
+-- none, over this life. In the bounds of a stay a message counts if the link took it and it is no
+-- release; in those of an event a refused one counts too.
 pub record KeepsPromisesOver (config : Config) (lease : Option Lease)
     (life : Script Packet ClientState Exchange) : Type 0 where
   -- an offer is requested at most eleven times in a stay
@@ -71,8 +71,8 @@ pub record KeepsPromisesOver (config : Config) (lease : Option Lease)
   -- an event has at most two messages, and one more where it asks for a release
   pub two_messages : (number : ℕ) → count_of (is_send_at number)
       (outputs (protocol config) (history (protocol config) life)) ≤ allowed number life.events
-  -- each message names the offer or the lease of its state, which was read from an earlier packet,
-  -- or is the lease that was held before
+  -- each attempt's message names the offer or the lease of its state, which was read from an earlier
+  -- packet, or is the lease that was held before
   pub names_its_basis :
       All (NamesItsBasis (HasBasis lease life.events) (IsMessageOf config))
       (history (protocol config) life)

@@ -1,13 +1,13 @@
 //! The program: a script comes in, and what is reported of its client goes out, or its text in the
 //! next version; or a demonstration is summed up.
 
-ghost use Rattle.std.specs.Prelude.{◌≡◌, ◌≢◌, ◌≤◌, ◌⊎◌, ◌↔◌, ℕ, Some, IfSome, IsTrue, OnOk, false, length, map, string_bytes, true};
+ghost use Rattle.std.specs.Prelude.{◌≡◌, ◌≢◌, ◌≤◌, ◌⊎◌, ◌↔◌, ℕ, Some, OnOk, length, map, string_bytes, true};
 ghost use Rattle.std.specs.IoError.{error_kind};
 ghost use Rattle.dhcp_wire.specs.Error.{no_memory};
 ghost use Rattle.dhcp_wire.specs.Outcome.{Makes};
 ghost use Rattle.dhcp_wire.specs.Fault.{Rose};
 ghost use Rattle.dhcp_stream.specs.Stream.{behind};
-ghost use Rattle.dhcp_stream.specs.Whole.{HasGone, TakesFront, most_bytes};
+ghost use Rattle.dhcp_stream.specs.Whole.{most_bytes};
 ghost use Rattle.dhcp_script.specs.Demo.{most_rounds};
 ghost use Rattle.dhcp_script.specs.Script.{IsScript, is_valid, script_text};
 ghost use Rattle.dhcp_script.specs.declared.script.Script.{Script};
@@ -45,7 +45,7 @@ use std::io::ErrorKind;
 /// How a run of the program ends, with the number of its exit status.
 #[derive(Clone, Copy, Debug, PartialEq, Eq)]
 pub enum Status {
-    /// Everything was read, run and written.
+    /// What the words ask for was done, and all of it written.
     Done = 0,
     /// The words are none of `run`, `upgrade`, or `demo` and a number from 1 to 2,000.
     WrongWords = 1,

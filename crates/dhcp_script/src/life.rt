@@ -2,7 +2,7 @@
 
 pub mod printer;
 
-ghost use Rattle.std.specs.Prelude.{◌≡◌, codes};
+ghost use Rattle.std.specs.Prelude.{◌≡◌};
 ghost use Rattle.dhcp_stream.specs.TextReader.{Takes};
 ghost use Rattle.dhcp_script.specs.LifeReader.{event_at, events_at, life_at, what_at, call_in};
 

@@ -3,7 +3,7 @@
 mod printer;
 pub mod summary;
 
-ghost use Rattle.std.specs.Prelude.{◌≡◌, map, All};
+ghost use Rattle.std.specs.Prelude.{map, All};
 ghost use Rattle.dhcp_wire.specs.Outcome.{Makes};
 ghost use Rattle.dhcp_script.specs.Output.{outputs_text, plain_output, HasFailureText};
 

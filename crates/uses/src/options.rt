@@ -7,7 +7,7 @@ ghost use Rattle.dhcp4_msg.specs.OptionCode.{number_of};
 ghost use Rattle.dhcp4_msg.specs.Options.{option_at};
 ghost use Rattle.dhcp4_msg.specs.Value.{option_number};
 
-use dhcp_wire::{Buffer, DhcpError};
+use dhcp_wire::{Buffer, DhcpError, ErrorKind};
 use dhcp4_msg::{DhcpV4Option, DhcpV4OptionCode, DhcpV4Options};
 use std::alloc::Global;
 use std::net::Ipv4Addr;
@@ -35,7 +35,8 @@ pub fn copy_option(
 pub fn insert_parsed(alloc: Global, bytes: &[u8], to: &mut DhcpV4Options) -> Result<(), DhcpError>
     ensures inserted { OnOk result (IsSomeAnd (option_at bytes.now).0
         (λ option. to.new ≡ map.insert to.old (option_number option) option)) }
-    ensures refused { IfErr result (λ e. (e ≡ no_memory) ⊎ ((option_at bytes.now).0 ≡ None)) }
+    ensures refused { IfErr result (λ e. (e ≡ no_memory)
+        ⊎ ((e.kind ≡ ErrorKind.InvalidDhcpMessage) × ((option_at bytes.now).0 ≡ None))) }
     ensures unchanged { OnErr result (to.new ≡ to.old) }
 {
     let option = DhcpV4Option::parse(alloc, &mut Buffer::new(bytes))?;

@@ -4,7 +4,7 @@
 #[cfg(test)]
 mod tests;
 
-ghost use Rattle.std.specs.Prelude.{◌≡◌, ℕ, ◌+◌, ◌%◌, Some, None, IfOk, Ok, [], ◌∷◌};
+ghost use Rattle.std.specs.Prelude.{◌≡◌, ◌+◌, ◌%◌, Some, None, IfOk, Ok, [], ◌∷◌};
 
 use dhcp_clock::{Handed, Packet, Words};
 use dhcp_history::{AttemptStart, NewAttempt, Rules};

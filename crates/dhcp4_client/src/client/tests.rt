@@ -226,7 +226,7 @@ fn the_lease_that_is_held_is_released_as_by_hand(rt: HostRuntime) -> Result<(), 
 }
 
 #[test]
-fn a_lease_that_is_not_held_is_not_released(rt: HostRuntime) -> Result<(), Fail> {
+fn a_client_without_a_lease_releases_none(rt: HostRuntime) -> Result<(), Fail> {
     assert!(rt; is_shown(rt.alloc(), 0, Shows::ReleasesOnlyAHeldLease)?);
     Ok(())
 }

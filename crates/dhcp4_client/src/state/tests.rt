@@ -26,12 +26,16 @@ fn the_other_states_print_as_their_names(rt: HostRuntime) -> Result<(), Fail> {
     let first = DhcpV4State::InitReboot;
     assert!(rt; !first.is_done());
     assert_eq!(rt; format!(in alloc; "{first}")?.as_str(), "init_reboot");
+    let selecting = DhcpV4State::Selecting;
+    assert_eq!(rt; format!(in alloc; "{selecting}")?.as_str(), "selecting");
     let renewing = DhcpV4State::Renewing;
     assert_eq!(rt; format!(in alloc; "{renewing}")?.as_str(), "renewing");
+    let rebinding = DhcpV4State::Rebinding;
+    assert_eq!(rt; format!(in alloc; "{rebinding}")?.as_str(), "rebinding");
     Ok(())
 }
 
 #[test]
-fn a_client_begins_with_the_search_for_servers(rt: HostRuntime) {
+fn the_default_state_is_the_search_for_servers(rt: HostRuntime) {
     assert!(rt; DhcpV4State::default() == DhcpV4State::InitReboot);
 }

@@ -29,12 +29,16 @@ fn the_other_states_print_as_their_names(rt: HostRuntime) -> Result<(), Fail> {
     let first = DhcpV6State::Solicit;
     assert!(rt; !first.is_done());
     assert_eq!(rt; format!(in alloc; "{first}")?.as_str(), "solicit");
+    let request = DhcpV6State::Request;
+    assert_eq!(rt; format!(in alloc; "{request}")?.as_str(), "request");
+    let renew = DhcpV6State::Renew;
+    assert_eq!(rt; format!(in alloc; "{renew}")?.as_str(), "renew");
     let rebind = DhcpV6State::Rebind;
     assert_eq!(rt; format!(in alloc; "{rebind}")?.as_str(), "rebind");
     Ok(())
 }
 
 #[test]
-fn a_client_begins_with_the_search_for_servers(rt: HostRuntime) {
+fn the_default_state_is_the_search_for_servers(rt: HostRuntime) {
     assert!(rt; DhcpV6State::default() == DhcpV6State::Solicit);
 }

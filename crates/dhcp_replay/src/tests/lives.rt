@@ -296,7 +296,7 @@ const LIVES: [Life; 35] = [
         none 666f6f 6c616e none\n",
     ),
     (
-        "a jump past T2 just before it and at it",
+        "a jump past T1 to just before T2, and to T2",
         SAME,
         LEASED_AT_ONCE,
         "at 524999 ok none\nat 525000 ok none\n",

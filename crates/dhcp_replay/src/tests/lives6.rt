@@ -107,7 +107,7 @@ const LIVES: [Life; 19] = [
         3 handed udp6 SOLICIT6_AGAIN.0000\n",
     ),
     (
-        "an Advertise grants no lease",
+        "an Advertise is no Reply",
         SAME,
         "at 0 ok none\nat 100 ok payload ADVERTISE6\nat 200 ok payload ADVERTISE6_TO_0\n",
         "",

@@ -1,6 +1,6 @@
 //! The printer of what a script of either family has after its configuration.
 
-ghost use Rattle.std.specs.Prelude.{◌≡◌, ◌++◌, OnOk, codes, string_bytes};
+ghost use Rattle.std.specs.Prelude.{◌≡◌, ◌++◌, OnOk, string_bytes};
 ghost use Rattle.std.specs.List.{flat_map};
 ghost use Rattle.dhcp_script.specs.Field.{flag_text};
 ghost use Rattle.dhcp_script.specs.Life.{event_line, life_text, what_text};

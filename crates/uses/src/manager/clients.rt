@@ -1,17 +1,17 @@
 //! The clients that a manager runs.
 
-ghost use Rattle.std.specs.Prelude.{◌≡◌, ◌⊎◌, false, true, IfErr, IfOk, IfSome, OnOk};
+ghost use Rattle.std.specs.Prelude.{◌≡◌, ◌⊎◌, false, true, None, IfErr, IfOk, OnOk};
 ghost use Rattle.dhcp_wire.specs.Error.{no_memory};
 ghost use Rattle.dhcp_history.specs.Calls.{IsRun};
 ghost use Rattle.dhcp_history.specs.Machine.{is_stopped};
+ghost use Rattle.dhcp4_client.specs.Client as client4;
 ghost use Rattle.dhcp4_client.specs.Rules as rules4;
 ghost use Rattle.dhcp4_client.specs.State as states4;
-ghost use Rattle.dhcp4_client.specs.declared.client_state.ClientState.TheVariants.{InitReboot};
 ghost use Rattle.dhcp6_msg.specs.Config.{ethernet_duid};
 ghost use Rattle.dhcp6_msg.specs.Lease.{is_unspecified};
+ghost use Rattle.dhcp6_client.specs.Client as client6;
 ghost use Rattle.dhcp6_client.specs.Rules as rules6;
 ghost use Rattle.dhcp6_client.specs.State as states6;
-ghost use Rattle.dhcp6_client.specs.declared.client_state.ClientState.TheVariants.{Solicit};
 ghost use Rattle.uses.specs.Configs.{config4, config6, mac};
 ghost use Rattle.uses.specs.Manager.{SleepsUntil};
 
@@ -81,8 +81,7 @@ impl ManagedClient for DhcpV6Client {
 /// memory is the only error.
 #[tactic(auto, using(crate::proofs::Facts::facts))]
 pub fn new_client<W: Words>(alloc: Global, words: &mut W) -> Result<DhcpV4Client, DhcpError>
-    ensures state { IfOk result (λ client. client.client.state ≡ InitReboot) }
-    ensures config { IfOk result (λ client. client.config ≡ config4) }
+    ensures begun { IfOk result (client4.Begins config4 None) }
     ensures error { IfErr result (λ e. e ≡ no_memory) }
 {
     let mut config = DhcpV4Config::new(alloc, "eth0")?;
@@ -94,19 +93,15 @@ pub fn new_client<W: Words>(alloc: Global, words: &mut W) -> Result<DhcpV4Client
 }
 
 /// A client of IPv6 on `eth0`, the interface with index 3, that sends from this link-local address
-/// and is known by the identifier of its MAC address; contracts say that of words that are known.
-/// `InvalidArgument` if and only if the address is ::, and else out of memory is the only error.
+/// and is known by the identifier of its MAC address. `InvalidArgument` if and only if the address is ::, and else out of memory is the only error.
 #[tactic(auto, using(crate::proofs::Facts::facts), unfolding(dhcp6_msg::specs::Config::config_of))]
 pub fn new_client6<W: Words>(
     alloc: Global,
     link_local: Ipv6Addr,
     words: &mut W,
 ) -> Result<DhcpV6Client, DhcpError>
-    ensures state { IfOk result (λ client. client.client.state ≡ Solicit) }
-    ensures config { IfOk result (λ client. client.config
-        ≡ record (config6 link_local) { duid = client.config.duid }) }
-    ensures identifier { IfSome (W.left words.old) (λ _. IfOk result (λ client.
-        client.config.duid ≡ ethernet_duid mac)) }
+    ensures begun { IfOk result (client6.Begins (config6 link_local) None 0) }
+    ensures identifier { IfOk result (λ client. client.config.duid ≡ ethernet_duid mac) }
     ensures begins { OnOk result (is_unspecified link_local ≡ false) }
     ensures error { IfErr result (λ e. (e ≡ no_memory)
         ⊎ ((e.kind ≡ ErrorKind.InvalidArgument) × (is_unspecified link_local ≡ true))) }

@@ -43,7 +43,7 @@ fn kind(output: Output<bool, Handed>) -> u32 {
 }
 
 #[test]
-fn a_client_asks_holds_and_asks_again(rt: HostRuntime) -> Result<(), Fail> {
+fn a_client_asks_holds_and_is_released(rt: HostRuntime) -> Result<(), Fail> {
     let alloc = rt.alloc();
     let rules = Repeater { alloc };
     let mut client = client();
