@@ -1,5 +1,5 @@
 -- What a client begins with.
-use Rattle.std.proofs.Common.{◌≡◌, ℕ, List, [], ◌∷◌, ◌++◌, sym, ap, ◌∙◌, tt}
+use Rattle.std.proofs.Common.{◌≡◌, ℕ, List, [], ◌∷◌, ◌++◌, sym, ap, ◌∙◌}
 use Rattle.std.specs.Prelude.{Option, Some, None, IfSome}
 use Rattle.dhcp_clock.specs.Words.{Drawn, Draws}
 use Rattle.dhcp_history.specs.Client.{unpolled}
