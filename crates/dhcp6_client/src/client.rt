@@ -66,10 +66,10 @@ impl DhcpV6Client {
     /// A client with this configuration, and with a lease that it held before, if there is one,
     /// whose times count from this moment, in milliseconds: it renews that lease, unless it asks
     /// for temporary addresses. An empty identifier becomes that of the MAC address, or if there is
-    /// none one at random; any other stays. Draws the transaction id. `InvalidArgument` if and only if the interface index is 0, the
-    /// address to send from is ::, the identifier is neither empty nor 2 to 65,535 bytes, there are
-    /// more than 32,767 codes, or the lease is one that `done` refuses; then no word is drawn. Else
-    /// out of memory is the only error.
+    /// none one at random; any other stays. Draws the transaction id. `InvalidArgument` if and only
+    /// if the interface index is 0, the address to send from is ::, the identifier is neither empty
+    /// nor 2 to 65,535 bytes, there are more than 32,767 codes, or the lease is one that `done`
+    /// refuses; then no word is drawn. Else out of memory is the only error.
     pub fn init<W: Words>(
         alloc: Global,
         config: DhcpV6Config,

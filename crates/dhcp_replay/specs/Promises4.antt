@@ -70,8 +70,8 @@ pub record KeepsPromises (config : Config) (lease : Option Lease) (words : List 
   pub two_messages : (number : ℕ) → count_of (is_send_at number)
       (outputs (protocol config) (history4 config lease words events))
       ≤ allowed number (numbered 1 events)
-  -- each attempt's message names the offer or the lease of its state, which was read from an earlier
-  -- packet, or is the lease that was held before
+  -- each attempt's message names the offer or the lease of its state, which was read from an
+  -- earlier packet, or is the lease that was held before
   pub names_its_basis :
       All (NamesItsBasis (HasBasis lease (numbered 1 events) (next_of words))
       (IsMessageOf config (next_of words))) (history4 config lease words events)

@@ -71,8 +71,8 @@ pub record KeepsPromisesOver (config : Config) (lease : Option Lease)
   -- an event has at most two messages, and one more where it asks for a release
   pub two_messages : (number : ℕ) → count_of (is_send_at number)
       (outputs (protocol config) (history (protocol config) life)) ≤ allowed number life.events
-  -- each attempt's message names the offer or the lease of its state, which was read from an earlier
-  -- packet, or is the lease that was held before
+  -- each attempt's message names the offer or the lease of its state, which was read from an
+  -- earlier packet, or is the lease that was held before
   pub names_its_basis :
       All (NamesItsBasis (HasBasis lease life.events) (IsMessageOf config))
       (history (protocol config) life)

@@ -13,9 +13,10 @@ impl DhcpV4Client {
     ghost use Rattle.dhcp4_client.specs.Rules.{protocol};
 
     /// Plays the events of a script over a link in memory: at each event what it asks for, a
-    /// release or a clean-up, and then polls until nothing changes any more. Returns what the events
-    /// report, in order. If the words are known and the client begins as a script says that has
-    /// these events, it is what the history of that script reports. Out of memory is the only error.
+    /// release or a clean-up, and then polls until nothing changes any more. Returns what the
+    /// events report, in order. If the words are known and the client begins as a script says that
+    /// has these events, it is what the history of that script reports. Out of memory is the only
+    /// error.
     pub fn replay<W: Words>(
         &mut self,
         words: &mut W,

@@ -120,7 +120,8 @@ const OPTIONS6: [(&str, &str); 12] = [
     ("NO_ADDRS_AVAIL", "000d00020002"),
 ];
 
-// Messages of DHCPv6, but one without their elapsed time: the type, the transaction id and the options.
+// Messages of DHCPv6, but one without their elapsed time: the type, the transaction id and the
+// options.
 const MESSAGES6: [(&str, &str); 25] = [
     ("SOLICIT6", "01abcdef CLIENT_ID NO_ADDRESS CODES"),
     (

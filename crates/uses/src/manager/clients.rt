@@ -93,7 +93,8 @@ pub fn new_client<W: Words>(alloc: Global, words: &mut W) -> Result<DhcpV4Client
 }
 
 /// A client of IPv6 on `eth0`, the interface with index 3, that sends from this link-local address
-/// and is known by the identifier of its MAC address. `InvalidArgument` if and only if the address is ::, and else out of memory is the only error.
+/// and is known by the identifier of its MAC address. `InvalidArgument` if and only if the address
+/// is ::, and else out of memory is the only error.
 #[tactic(auto, using(crate::proofs::Facts::facts), unfolding(dhcp6_msg::specs::Config::config_of))]
 pub fn new_client6<W: Words>(
     alloc: Global,
