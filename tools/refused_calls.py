@@ -7,14 +7,14 @@ usage, at the top of the repository, after: cd crates/dhcp_main && rt run < stdi
       refused in turn
   tools/refused_calls.py program NUMBER WORD..
       the program with these words; the allocation of this number is refused
-or after `rt test` in the folder of each crate:
+or after `rt test` in the folder of each crate, as wire_tests:
   tools/refused_calls.py tests CRATE..
       the tests of these crates: each allocation is refused in turn
 
 A run of the program with an allocation refused must end with status 5 and nothing printed, or with
 0 and all of it printed; with a read refused with 3 and nothing printed; with a write refused with 4
-and a part of the text, from its front. A test must pass, or fail for out of memory. Exit status: 0
-where all runs ended so, else 1.
+and a part of the text, from its front. A test must pass, or fail for out of memory: by an `Err` or
+by an `expect`, each of which prints the error. Exit status: 0 where all runs ended so, else 1.
 """
 
 import os

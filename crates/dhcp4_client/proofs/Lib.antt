@@ -1,2 +1,5 @@
 mod Lawful
 mod Traffic
+mod Granted
+pub mod TakenWords
+pub mod Held

@@ -5,3 +5,5 @@ pub mod Message
 pub mod Release
 pub mod Rules
 pub mod State
+pub mod Granted
+pub mod Held

@@ -179,6 +179,15 @@ held_lease (Done bound) = Some bound.lease
 held_lease (Renewing bound) = Some bound.lease
 held_lease (Rebinding bound) = Some bound.lease
 
+-- the moment at which the lease that is held ends; in REBOOTING its time does not count yet
+abbrev pub lease_end : ClientState → Option ℕ
+lease_end InitReboot = None
+lease_end (Selecting offer) = None
+lease_end (Rebooting held) = None
+lease_end (Done bound) = Some (after bound bound.lease.lease_time_sec)
+lease_end (Renewing bound) = Some (after bound bound.lease.lease_time_sec)
+lease_end (Rebinding bound) = Some (after bound bound.lease.lease_time_sec)
+
 -- the protocol of a client with this configuration
 abbrev pub protocol :
     Config → Protocol PlainState Packet Handed ClientState Exchange Answer Lease

@@ -5,6 +5,7 @@
 ghost use Rattle.std.specs.Prelude.{◌≡◌, IfErr, IfOk, None, Ok, Some, false, is_some};
 ghost use Rattle.dhcp_wire.specs.Error.{no_memory};
 ghost use Rattle.dhcp_wire.specs.Outcome.{Finds};
+ghost use Rattle.dhcp_clock.specs.Words.{DrawsBy};
 ghost use Rattle.dhcp_history.specs.Rules.{GivesDrawn};
 ghost use Rattle.dhcp4_lease.specs.Lease.{read_lease};
 ghost use Rattle.dhcp4_client.specs.Answer as answers;
@@ -81,6 +82,9 @@ pub fn read_answer<W: Words>(
     ensures drawn { IfOk result (λ answer. GivesDrawn
         (answers.reading_of (Some awaited) (answers.message_for (Some awaited) xid packet.now))
         (W.left words.old) answer (W.left words.new)) }
+    ensures taken { IfOk result (λ answer. DrawsBy W.gives
+        (answers.reading_of (Some awaited) (answers.message_for (Some awaited) xid packet.now))
+        words.old answer words.new) }
     ensures error { IfErr result (λ error. error ≡ no_memory) }
     ensures free { is_some (answers.message_for (Some awaited) xid packet.now) ≡ false →
         result ≡ Ok None }
@@ -148,6 +152,8 @@ fn answer_of<W: Words>(
 ) -> Result<Option<Answer>, DhcpError>
     ensures drawn { IfOk result (λ answer. GivesDrawn (answers.answer_of awaited message.now)
         (W.left words.old) answer (W.left words.new)) }
+    ensures taken { IfOk result (λ answer. DrawsBy W.gives (answers.answer_of awaited message.now)
+        words.old answer words.new) }
     ensures error { IfErr result (λ error. error ≡ no_memory) }
 {
     if !is_of_type(awaited.grant, message) {
@@ -165,6 +171,8 @@ fn lease_of<W: Words>(
 ) -> Result<Option<DhcpV4Lease>, DhcpError>
     ensures drawn { IfOk result (λ lease. GivesDrawn (read_lease message.now)
         (W.left words.old) lease (W.left words.new)) }
+    ensures taken { IfOk result (λ lease. DrawsBy W.gives (read_lease message.now)
+        words.old lease words.new) }
     ensures error { IfErr result (λ error. error ≡ no_memory) }
 {
     let message = message.to_message(alloc)?;

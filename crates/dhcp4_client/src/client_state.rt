@@ -1,6 +1,8 @@
 //! The states of a client with what each rests on, RFC 2131 figure 5.
 
+ghost use Rattle.std.specs.Prelude.{◌≡◌};
 ghost use Rattle.dhcp_wire.specs.Outcome.{Finds};
+ghost use Rattle.dhcp_history.specs.BoundLease.{after};
 ghost use Rattle.dhcp4_client.specs.Rules as table;
 
 use dhcp_history::BoundLease;
@@ -38,6 +40,28 @@ impl ClientState {
             ClientState::Rebinding(bound) => Some(bound.lease()),
         }
     }
+
+    /// The moment at which the lease that is held ends, in milliseconds. In REBOOTING its time does
+    /// not count yet.
+    pub fn lease_end(&self) -> Option<u64>
+        ensures { result ≡ table.lease_end self.now }
+    {
+        match self {
+            ClientState::InitReboot => None,
+            ClientState::Selecting(_) => None,
+            ClientState::Rebooting(_) => None,
+            ClientState::Done(bound) => Some(end_of(bound)),
+            ClientState::Renewing(bound) => Some(end_of(bound)),
+            ClientState::Rebinding(bound) => Some(end_of(bound)),
+        }
+    }
+}
+
+// The moment at which a lease ends.
+fn end_of(bound: &BoundLease<DhcpV4Lease>) -> u64
+    ensures { result ≡ after bound.now bound.now.lease.lease_time_sec }
+{
+    bound.after(bound.lease().lease_time_sec)
 }
 
 /// What a client keeps from one attempt to the next.

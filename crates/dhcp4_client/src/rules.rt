@@ -3,10 +3,14 @@
 
 ghost use Rattle.std.specs.Prelude.{◌≡◌, ◌<◌, ◌-◌, ◌^◌, IfOk, IsTrue, OnErr, OnOk, None, Ok, Some, Option};
 ghost use Rattle.dhcp_clock.specs.Wait as waits;
+ghost use Rattle.dhcp_clock.specs.Words.{DrawsBy};
 ghost use Rattle.dhcp_history.specs.Rules.{GivesDrawn, IsNext};
 ghost use Rattle.dhcp4_lease.specs.Config.{is_within_limits};
 ghost use Rattle.dhcp4_client.specs.Message as messages;
 ghost use Rattle.dhcp4_client.specs.Rules as table;
+ghost use Rattle.dhcp4_client.specs.State.{plain_state};
+ghost use Rattle.dhcp4_client.specs.declared.state.PlainState.TheVariants as plain;
+ghost use Rattle.dhcp4_client.specs.declared.client_state.Exchange.{Exchange};
 
 use crate::DhcpV4State;
 use crate::answer::{Answer, Awaited, read_answer};
@@ -151,33 +155,23 @@ impl Rules for ClientRules {
         match answer {
             Answer::Granted(lease) => self.after_grant(state, lease, now, exchange),
             Answer::Refused => {
-                *state = ClientState::InitReboot;
+                enter(state, ClientState::InitReboot);
                 Ok(Reported::new(DhcpV4State::InitReboot))
             }
         }
     }
 
     fn after_end(&self, state: &mut ClientState, exchange: &mut Exchange) -> Reported<DhcpV4State> {
-        match mem::replace(state, ClientState::InitReboot) {
-            ClientState::InitReboot => Reported::new(DhcpV4State::InitReboot),
-            ClientState::Selecting(_) => Reported::new(DhcpV4State::InitReboot),
-            ClientState::Rebooting(_) => Reported::new(DhcpV4State::InitReboot),
-            ClientState::Done(bound) => {
-                *state = ClientState::Renewing(bound);
-                Reported::new(DhcpV4State::Renewing)
-            }
-            ClientState::Renewing(bound) => {
-                *state = ClientState::Rebinding(bound);
-                *exchange = restarted(*exchange);
-                Reported::new(DhcpV4State::Rebinding)
-            }
-            ClientState::Rebinding(_) => Reported::new(DhcpV4State::InitReboot),
-        }
+        let reported = reported_after_end(state);
+        *exchange = exchange_after_end(state, *exchange);
+        let next = ended(mem::replace(state, ClientState::InitReboot));
+        enter(state, next);
+        Reported::new(reported)
     }
 
     fn after_clean_up(&self, state: &mut ClientState, exchange: &mut Exchange) {
         let _kept = *exchange;
-        *state = ClientState::InitReboot;
+        enter(state, ClientState::InitReboot);
     }
 
     fn release_message(
@@ -211,7 +205,7 @@ impl ClientRules {
     {
         match state {
             ClientState::InitReboot => {
-                *state = ClientState::Selecting(lease);
+                enter(state, ClientState::Selecting(lease));
                 Ok(Reported::new(DhcpV4State::Selecting))
             }
             ClientState::Selecting(_) => self.bind(state, lease, now, exchange),
@@ -237,12 +231,69 @@ impl ClientRules {
             reported ≡ table.public_state state.new) }
         ensures unchanged { OnErr result (state.new ≡ state.old) }
     {
-        let copy = lease.try_clone(self.alloc).map_err(|_| AllocError)?;
-        let reported = DhcpV4State::Done(Box::new(self.alloc, copy)?);
-        *state = ClientState::Done(BoundLease::new(lease, now));
+        let reported = done_with(self.alloc, &lease)?;
+        enter(state, ClientState::Done(BoundLease::new(lease, now)));
         *exchange = restarted(*exchange);
         Ok(Reported::new(reported))
     }
+}
+
+// The state after the end of one.
+fn ended(state: ClientState) -> ClientState
+    ensures { (exchange : Exchange) → result ≡ (table.after_end state exchange).state }
+{
+    match state {
+        ClientState::InitReboot => ClientState::InitReboot,
+        ClientState::Selecting(_) => ClientState::InitReboot,
+        ClientState::Rebooting(_) => ClientState::InitReboot,
+        ClientState::Done(bound) => ClientState::Renewing(bound),
+        ClientState::Renewing(bound) => ClientState::Rebinding(bound),
+        ClientState::Rebinding(_) => ClientState::InitReboot,
+    }
+}
+
+// What is reported after the end of a state.
+fn reported_after_end(state: &ClientState) -> DhcpV4State
+    ensures { (exchange : Exchange) → plain_state result
+        ≡ table.public_state (table.after_end state.now exchange).state }
+{
+    match state {
+        ClientState::InitReboot => DhcpV4State::InitReboot,
+        ClientState::Selecting(_) => DhcpV4State::InitReboot,
+        ClientState::Rebooting(_) => DhcpV4State::InitReboot,
+        ClientState::Done(_) => DhcpV4State::Renewing,
+        ClientState::Renewing(_) => DhcpV4State::Rebinding,
+        ClientState::Rebinding(_) => DhcpV4State::InitReboot,
+    }
+}
+
+// The exchange after the end of a state.
+fn exchange_after_end(state: &ClientState, exchange: Exchange) -> Exchange
+    ensures { result ≡ (table.after_end state.now exchange).exchange }
+{
+    match state {
+        ClientState::InitReboot => exchange,
+        ClientState::Selecting(_) => exchange,
+        ClientState::Rebooting(_) => exchange,
+        ClientState::Done(_) => exchange,
+        ClientState::Renewing(_) => restarted(exchange),
+        ClientState::Rebinding(_) => exchange,
+    }
+}
+
+// Goes to a state.
+fn enter(state: &mut ClientState, next: ClientState)
+    ensures { state.new ≡ next }
+{
+    drop(mem::replace(state, next));
+}
+
+// What is reported of a client that has this lease.
+fn done_with(alloc: Global, lease: &DhcpV4Lease) -> Result<DhcpV4State, AllocError>
+    ensures { IfOk result (λ state. plain_state state ≡ plain.Done lease.now) }
+{
+    let copy = lease.try_clone(alloc).map_err(|_| AllocError)?;
+    Ok(DhcpV4State::Done(Box::new(alloc, copy)?))
 }
 
 /// An exchange whose count begins anew.
@@ -260,6 +311,7 @@ pub fn restarted(exchange: Exchange) -> Exchange
 fn first_pause<W: Words>(exchange: Exchange, words: &mut W) -> u64
     ensures drawn { GivesDrawn (table.first_pause exchange)
         (W.left words.old) result (W.left words.new) }
+    ensures taken { DrawsBy W.gives (table.first_pause exchange) words.old result words.new }
     ensures below { result < 2 ^ 62 }
 {
     if exchange.retry_count == 0 {
@@ -275,6 +327,7 @@ fn first_pause<W: Words>(exchange: Exchange, words: &mut W) -> u64
 fn wait<W: Words>(state: &ClientState, exchange: Exchange, now: u64, words: &mut W) -> u64
     ensures drawn { GivesDrawn (table.wait state.now exchange now)
         (W.left words.old) result (W.left words.new) }
+    ensures taken { DrawsBy W.gives (table.wait state.now exchange now) words.old result words.new }
     ensures below { result < 2 ^ 62 }
 {
     match state {
@@ -303,6 +356,7 @@ fn half_until(moment: u64, now: u64) -> u64
 fn growing_wait<W: Words>(exchange: Exchange, words: &mut W) -> u64
     ensures drawn { GivesDrawn (table.growing_wait exchange)
         (W.left words.old) result (W.left words.new) }
+    ensures taken { DrawsBy W.gives (table.growing_wait exchange) words.old result words.new }
     ensures below { result < 2 ^ 62 }
 {
     discovery_wait(exchange.retry_count, words.next_word())

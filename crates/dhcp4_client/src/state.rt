@@ -1,8 +1,5 @@
 //! The states of a client, RFC 2131 section 4.4.
 
-#[cfg(test)]
-mod tests;
-
 ghost use Rattle.std.specs.Prelude.{◌≡◌, Some};
 ghost use Rattle.dhcp_wire.specs.Outcome.{Makes};
 ghost use Rattle.dhcp4_client.specs.State.{is_done, plain_state, state_text};

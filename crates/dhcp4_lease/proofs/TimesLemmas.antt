@@ -62,7 +62,7 @@ usual_times_are_read options words no_t1 no_t2 some = read (said_by seconds_said
         rw (le-leb _ _ in_order.0, le-leb _ _ in_order.1)
 
 -- a time of 20 seconds or more is drawn by a word
-about_long : (base : ℕ) (words : List ℕ) → 20 ≤ base → said_or_drawn None base words ≡ drawn_then drawn_word (λ word. undrawn (base - 2 + word % 4)) words
+pub about_long : (base : ℕ) (words : List ℕ) → 20 ≤ base → said_or_drawn None base words ≡ drawn_then drawn_word (λ word. undrawn (base - 2 + word % 4)) words
 unfolding said_or_drawn
 about_long base words long =
     let time : base + next_of words % 4 - 2 ≡ base - 2 + next_of words % 4 = omega arith in
@@ -100,7 +100,7 @@ draws_times before between after options lease_time renewal rebinding most t1 t2
     (draws_nothing after (all t1 t2) (λ times. times ≡ all t1 t2) refl))
 
 -- what a call makes, it gives
-makes_gives : {X : Type 0} (result : Result X ErrorParts) (made : X) → Makes (λ x. x) result made → Gives (λ x. x) result (Ok made)
+pub makes_gives : {X : Type 0} (result : Result X ErrorParts) (made : X) → Makes (λ x. x) result made → Gives (λ x. x) result (Ok made)
 makes_gives (Ok x) made is = ap Ok (sym is)
 makes_gives (Err e) made is = inl is
 

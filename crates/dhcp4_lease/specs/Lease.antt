@@ -5,7 +5,7 @@ use Rattle.std.specs.declared.net.Ipv4Addr.{Ipv4Addr}
 use Rattle.dhcp_wire.specs.Error.{ErrorParts}
 use Rattle.dhcp_wire.specs.Outcome.{Gives}
 use Rattle.dhcp_wire.specs.declared.error.ErrorKind.TheVariants.{InvalidDhcpMessage}
-use Rattle.dhcp_clock.specs.Words.{next_of, Drawn, Draws}
+use Rattle.dhcp_clock.specs.Words.{next_of, Drawn, Draws, DrawsBy}
 use Rattle.dhcp4_msg.specs.declared.message.DhcpV4Message.{DhcpV4Message}
 use Rattle.dhcp4_msg.specs.declared.route.DhcpV4ClasslessRoute.{DhcpV4ClasslessRoute}
 use Rattle.dhcp4_lease.specs.declared.lease.times.LeaseTimes.{LeaseTimes}
@@ -144,6 +144,13 @@ abbrev pub ReadsLease :
 ReadsLease before result after message =
     Draws before after (read_lease message)
     (λ lease. Gives (λ lease. lease) result (ok_or lease InvalidDhcpMessage))
+
+-- The same from any source of words, by the words that were taken.
+abbrev pub ReadsLeaseBy : {Source : Type 0} → (ℕ → Source → Source → Type 0) →
+    Source → Result Lease ErrorParts → Source → DhcpV4Message → Type 0
+ReadsLeaseBy gives old result new message =
+    (lease : Option Lease) × (DrawsBy gives (read_lease message) old lease new ×
+    Gives (λ lease. lease) result (ok_or lease InvalidDhcpMessage))
 
 -- the times of a lease
 abbrev pub times_in : Lease → LeaseTimes

@@ -2,7 +2,7 @@
 
 mod times;
 
-ghost use Rattle.std.specs.Prelude.{◌≡◌, ◌⊎◌, IfOk, IfErr, IsTrue, None, count_ones, option_copied, option_map, replicate};
+ghost use Rattle.std.specs.Prelude.{◌≡◌, ◌⊎◌, IfOk, IfErr, IsTrue, Err, MatchResult, None, Ok, count_ones, option_copied, option_map, replicate};
 ghost use Rattle.std.specs.FinMap as map;
 ghost use Rattle.std.specs.Net.Addr.{ipv4_bits};
 ghost use Rattle.std.specs.Vec.{vec_items};
@@ -11,7 +11,7 @@ ghost use Rattle.dhcp_wire.specs.Outcome.{Makes};
 ghost use Rattle.dhcp4_msg.specs.Message.{no_address};
 ghost use Rattle.dhcp4_msg.specs.Value.{written_option};
 ghost use Rattle.dhcp4_lease.specs.Lease as Lease;
-ghost use Rattle.dhcp4_lease.specs.Lease.{HasFieldsOf, ReadsLease, are_times_in_order, empty_lease, lease_of, times_in};
+ghost use Rattle.dhcp4_lease.specs.Lease.{HasFieldsOf, ReadsLease, ReadsLeaseBy, are_times_in_order, empty_lease, lease_of, times_in};
 
 use self::times::{LeaseTimes, read_times};
 use dhcp_clock::Words;
@@ -150,6 +150,7 @@ impl DhcpV4Lease {
         words: &mut W,
     ) -> Result<Self, DhcpError>
         ensures reads { ReadsLease (W.left words.old) result (W.left words.new) msg.now }
+        ensures taken { ReadsLeaseBy W.gives words.old result words.new msg.now }
         // Over every source of words:
         ensures fields { IfOk result (HasFieldsOf msg.now) }
         ensures in_order { IfOk result (λ lease. IsTrue (are_times_in_order lease)) }
@@ -170,6 +171,7 @@ impl DhcpV4Lease {
         words: &mut W,
     ) -> Result<Self, DhcpError>
         ensures reads { ReadsLease (W.left words.old) result (W.left words.new) msg }
+        ensures taken { ReadsLeaseBy W.gives words.old result words.new msg }
         // Over every source of words:
         ensures fields { IfOk result (HasFieldsOf msg) }
         ensures in_order { IfOk result (λ lease. IsTrue (are_times_in_order lease)) }
@@ -221,6 +223,20 @@ impl DhcpV4Lease {
     pub fn try_clone(&self, alloc: Global) -> Result<Self, DhcpError>
         ensures { Makes (λ lease. lease) result self.now }
     {
+        let lists = copied_lists(
+            alloc,
+            self.dns_srvs.as_ref(),
+            self.gateways.as_ref(),
+            self.ntp_srvs.as_ref(),
+        )?;
+        let names = copied_names(alloc, self.host_name.as_ref(), self.domain_name.as_ref());
+        let (lists, names) = beside(lists, names)?;
+        let routes = copied(alloc, self.classless_routes.as_ref());
+        let ((lists, names), routes) = beside((lists, names), routes)?;
+        let options = self.options.try_clone(alloc);
+        let ((lists, names, routes), options) = beside((lists, names, routes), options)?;
+        let (dns_srvs, gateways, ntp_srvs) = lists;
+        let (host_name, domain_name) = names;
         Ok(DhcpV4Lease {
             siaddr: self.siaddr,
             yiaddr: self.yiaddr,
@@ -230,15 +246,15 @@ impl DhcpV4Lease {
             srv_id: self.srv_id,
             subnet_mask: self.subnet_mask,
             broadcast_addr: self.broadcast_addr,
-            dns_srvs: copied(alloc, self.dns_srvs.as_ref())?,
-            gateways: copied(alloc, self.gateways.as_ref())?,
-            ntp_srvs: copied(alloc, self.ntp_srvs.as_ref())?,
+            dns_srvs,
+            gateways,
+            ntp_srvs,
             mtu: self.mtu,
-            host_name: copied_text(alloc, self.host_name.as_ref())?,
-            domain_name: copied_text(alloc, self.domain_name.as_ref())?,
-            classless_routes: copied(alloc, self.classless_routes.as_ref())?,
+            host_name,
+            domain_name,
+            classless_routes: routes,
             srv_mac: self.srv_mac,
-            options: self.options.try_clone(alloc)?,
+            options,
         })
     }
 }
@@ -266,6 +282,23 @@ fn lease_with(
 ) -> Result<DhcpV4Lease, DhcpError>
     ensures { Makes (λ lease. lease) result (Lease.lease_with siaddr yiaddr options times) }
 {
+    let lists = copied_lists(
+        alloc,
+        options.addresses(DhcpV4OptionCode::DomainNameServer),
+        options.addresses(DhcpV4OptionCode::Router),
+        options.addresses(DhcpV4OptionCode::NtpServers),
+    );
+    let (options, lists) = beside(options, lists)?;
+    let names = copied_names(
+        alloc,
+        options.text(DhcpV4OptionCode::HostName),
+        options.text(DhcpV4OptionCode::DomainName),
+    );
+    let ((options, lists), names) = beside((options, lists), names)?;
+    let routes = options.classless_routes(alloc);
+    let ((options, lists, names), routes) = beside((options, lists, names), routes)?;
+    let (dns_srvs, gateways, ntp_srvs) = lists;
+    let (host_name, domain_name) = names;
     Ok(DhcpV4Lease {
         siaddr,
         yiaddr,
@@ -279,13 +312,13 @@ fn lease_with(
             .address(DhcpV4OptionCode::SubnetMask)
             .unwrap_or(Ipv4Addr::UNSPECIFIED),
         broadcast_addr: options.address(DhcpV4OptionCode::BroadcastAddress),
-        dns_srvs: copied(alloc, options.addresses(DhcpV4OptionCode::DomainNameServer))?,
-        gateways: copied(alloc, options.addresses(DhcpV4OptionCode::Router))?,
-        ntp_srvs: copied(alloc, options.addresses(DhcpV4OptionCode::NtpServers))?,
+        dns_srvs,
+        gateways,
+        ntp_srvs,
         mtu: options.size(DhcpV4OptionCode::InterfaceMtu),
-        host_name: copied_text(alloc, options.text(DhcpV4OptionCode::HostName))?,
-        domain_name: copied_text(alloc, options.text(DhcpV4OptionCode::DomainName))?,
-        classless_routes: options.classless_routes(alloc)?,
+        host_name,
+        domain_name,
+        classless_routes: routes,
         srv_mac: BROADCAST_MAC_ADDRESS,
         options,
     })
@@ -318,5 +351,52 @@ fn copied_text(alloc: Global, kept: Option<&Text>) -> Result<Option<Text>, DhcpE
     match kept {
         Some(text) => Ok(Some(text.try_clone(alloc)?)),
         None => Ok(None),
+    }
+}
+
+// Copies of the lists of addresses of a lease: name servers, routers and NTP servers.
+type Lists = (
+    Option<Sequence<Ipv4Addr>>,
+    Option<Sequence<Ipv4Addr>>,
+    Option<Sequence<Ipv4Addr>>,
+);
+
+fn copied_lists(
+    alloc: Global,
+    dns_srvs: Option<&Sequence<Ipv4Addr>>,
+    gateways: Option<&Sequence<Ipv4Addr>>,
+    ntp_srvs: Option<&Sequence<Ipv4Addr>>,
+) -> Result<Lists, DhcpError>
+    ensures { Makes (λ made. made) result
+        (option_copied dns_srvs.entry, option_copied gateways.entry, option_copied ntp_srvs.entry) }
+{
+    let dns_srvs = copied(alloc, dns_srvs)?;
+    let gateways = copied(alloc, gateways)?;
+    let ntp_srvs = copied(alloc, ntp_srvs)?;
+    Ok((dns_srvs, gateways, ntp_srvs))
+}
+
+// Copies of the host name and the domain name.
+fn copied_names(
+    alloc: Global,
+    host_name: Option<&Text>,
+    domain_name: Option<&Text>,
+) -> Result<(Option<Text>, Option<Text>), DhcpError>
+    ensures { Makes (λ made. made) result
+        (option_copied host_name.entry, option_copied domain_name.entry) }
+{
+    let host_name = copied_text(alloc, host_name)?;
+    let domain_name = copied_text(alloc, domain_name)?;
+    Ok((host_name, domain_name))
+}
+
+// What was made before, and beside it what was made now, if it was. A place at which a call may
+// fail is proved for each field that is owned there; here a type parameter is owned.
+fn beside<A: Drop, B>(before: A, now: Result<B, DhcpError>) -> Result<(A, B), DhcpError>
+    ensures { MatchResult now (λ made. result ≡ Ok (before, made)) (λ error. result ≡ Err error) }
+{
+    match now {
+        Ok(now) => Ok((before, now)),
+        Err(error) => Err(error),
     }
 }

@@ -6,8 +6,6 @@ mod config;
 pub mod laws;
 mod lease;
 mod message_table;
-#[cfg(test)]
-mod tests;
 
 pub use config::DhcpV4Config;
 pub use laws::{

@@ -9,12 +9,12 @@ use Rattle.std.specs.Ordering.{nat_cmp}
 use Rattle.std.specs.FinMap.{nat_cmp-IsAntisymmetric}
 use Rattle.std.proofs.lemmas.Bool.{ltb-true, ltb-false, eqb-true, eq-eqb, false≢true}
 use Rattle.std.specs.List.{cons_option}
-use Rattle.std.proofs.lemmas.List.{length-set, length-replicate, get_or-replicate, get_or_default, take_more, take-append-drop}
+use Rattle.std.proofs.lemmas.List.{length-set, length-replicate, get_or-replicate, get_or_default, take_all, take_more, take-append-drop, take-take, drop_all}
 use Rattle.std.proofs.lemmas.List.Elements.{All-set, All-append, filter_map-append}
 use Rattle.std.proofs.lemmas.List.Folds.{find_at, find-set}
 use Rattle.std.proofs.lemmas.List.Quantifiers.{position-Some}
 use Rattle.std.proofs.lemmas.Iterator.Adapters.{position_from-zero}
-use Rattle.std.proofs.lemmas.List.Sums.{count_by-le-length, sum_by-append, sum_by-set, passes_at_first}
+use Rattle.std.proofs.lemmas.List.Sums.{count_by-le-length, count_by_more_yes, sum_by-append, sum_by-set, passes_at_first}
 use Rattle.std.proofs.lemmas.Option.{none-some, same_Some, slice_get-get_or, slice_get_past, slice_get_within, get_or_from_slice_get}
 use Rattle.dhcp4_msg.specs.declared.option.DhcpV4Option.{DhcpV4Option}
 use Rattle.dhcp4_msg.specs.Options.{OptionMap}
@@ -289,6 +289,40 @@ all_kept kept places i indexed taken =
     ∙ filter_map-append (kept_in kept) (take i places) (drop i places)
     ∙ ap (λ later. filter_map (kept_in kept) (take i places) ++ later) (none_kept kept (drop i places) rest)
     ∙ append-nil (filter_map (kept_in kept) (take i places)))
+
+-- an option that is found is kept
+pub some_kept : (kept : List DhcpV4Option) (q : ℕ) (option : DhcpV4Option) → map.get (map_of kept) q ≡ Some option → 1 ≤ length kept
+some_kept [] q option is = absurd (none-some _ (sym (get-map_of [] q) ∙ is))
+some_kept (first ∷ kept) q option is = omega arith
+
+-- Where all others were taken, End, the last of all numbers, is the only one left.
+pub end_left : (kept : List DhcpV4Option) (places : List (Option ℕ)) (i : ℕ) (option : DhcpV4Option) → IsIndexed kept places → i < 256 → count_by is_some (take i places) + 1 ≡ length kept → map.get (map_of kept) 255 ≡ Some option → filter_map (kept_in kept) places ≡ filter_map (kept_in kept) (take i places) ++ option ∷ []
+end_left kept places i option indexed inside taken is =
+    let below : 255 < length places = omega (arith, indexed.sized) in
+    let found : kept_in kept (get_or places 255 None) ≡ Some option =
+    ap (kept_in kept) (indexed.placed 255 (omega arith)) ∙ kept_in-position kept (has_number 255) ∙ sym (get-map_of kept 255) ∙ is in
+    let before : List (Option ℕ) = take 255 places in
+    let first : take i before ≡ take i places = take-take i 255 places (omega arith) in
+    let one = count_by_more_yes is_some places 255 None below (taken_at kept _ option found) in
+    let all : count_by is_some (take (255 + 1) places) ≡ length kept = ap (count_by is_some) (take_all (255 + 1) places (omega (arith, indexed.sized))) ∙ indexed.counted in
+    let parts : count_by is_some (take i before ++ drop i before) ≡ count_by is_some (take i before) + count_by is_some (drop i before) = sum_by-append (λ place. cond (is_some place) 1 0) (take i before) (drop i before) in
+    let whole : count_by is_some (take i before ++ drop i before) ≡ count_by is_some before = ap (count_by is_some) (take-append-drop i before) in
+    let so_far : count_by is_some (take i before) ≡ count_by is_some (take i places) = ap (count_by is_some) first in
+    let rest : count_by is_some (drop i before) ≡ 0 = omega (arith, one, all, parts, whole, so_far, taken) in
+    let others : filter_map (kept_in kept) before ≡ filter_map (kept_in kept) (take i places) =
+    ap (filter_map (kept_in kept)) (sym (take-append-drop i before))
+    ∙ filter_map-append (kept_in kept) (take i before) (drop i before)
+    ∙ ap (λ later. filter_map (kept_in kept) (take i before) ++ later) (none_kept kept (drop i before) rest)
+    ∙ append-nil _ ∙ ap (filter_map (kept_in kept)) first in
+    let last : filter_map (kept_in kept) (drop (suc 255) places) ≡ [] = ap (filter_map (kept_in kept)) (drop_all (suc 255) places (omega (arith, indexed.sized))) in
+    kept_so_far kept places 255 below
+    ∙ ap (λ front. front ++ cons_option (kept_in kept (get_or places 255 None)) (filter_map (kept_in kept) (drop (suc 255) places))) others
+    ∙ ap (λ found. filter_map (kept_in kept) (take i places) ++ cons_option found (filter_map (kept_in kept) (drop (suc 255) places))) found
+    ∙ ap (λ later. filter_map (kept_in kept) (take i places) ++ option ∷ later) last
+  where
+    taken_at : (kept : List DhcpV4Option) (place : Option ℕ) (option : DhcpV4Option) → kept_in kept place ≡ Some option → is_some place ≡ true
+    taken_at kept None option is = absurd (none-some _ is)
+    taken_at kept (Some i) option is = refl
 
 -- ---- equality
 

@@ -1,5 +1,10 @@
 -- A message in the bytes that it was received in.
-use Rattle.std.specs.Prelude.{◌==◌, Option, None, if◌then◌else◌}
+use Rattle.std.specs.Prelude.{◌≡◌, ℕ, ◌==◌, List, Result, Ok, Err, Option, Some, None, if◌then◌else◌}
+use Rattle.std.specs.Int.{w8, w16, w32}
+use Rattle.std.specs.declared.net.Ipv4Addr.{Ipv4Addr}
+use Rattle.dhcp_wire.specs.declared.error.ErrorKind.TheVariants.{InvalidDhcpMessage}
+use Rattle.dhcp_wire.specs.Error.{ErrorParts}
+use Rattle.dhcp_wire.specs.Field.{◌>>=◌, Read, number_at, address_at}
 use Rattle.dhcp_wire.specs.RawOption.{RawOptionParts}
 use Rattle.dhcp4_msg.specs.declared.message_type.DhcpV4MessageType.{DhcpV4MessageType}
 use Rattle.dhcp4_msg.specs.Value.{type_in}
@@ -30,3 +35,33 @@ message_of view = record {
 -- the type that a raw option says, if it is option 53 and reads
 abbrev pub type_under : RawOptionParts → Option DhcpV4MessageType
 type_under raw = if 53 == raw.code then type_in raw.value else None
+
+-- ---- the parts that are read one after the other
+
+-- A read of several fields, with `new` left: the values and the bytes left that the definition
+-- gives; where it gives none the refusal.
+abbrev pub ReadsInPart : {X Y : Type 0}
+    → (X → Y) → Result X ErrorParts → List ℕ → Option (Y × List ℕ) → Type 0
+ReadsInPart view (Ok x) new expected = expected ≡ Some (view x, new)
+ReadsInPart view (Err e) new expected = (e.kind ≡ InvalidDhcpMessage) × (expected ≡ None)
+
+-- the numbers before the addresses: op, htype, hlen, hops, xid, secs and flags
+abbrev pub numbers_at : List ℕ → Read (ℕ × ℕ × ℕ × ℕ × ℕ × ℕ × ℕ)
+numbers_at bytes = do
+  op ← number_at w8 bytes
+  htype ← number_at w8 op.1
+  hlen ← number_at w8 htype.1
+  hops ← number_at w8 hlen.1
+  xid ← number_at w32 hops.1
+  secs ← number_at w16 xid.1
+  flags ← number_at w16 secs.1
+  Some ((op.0, htype.0, hlen.0, hops.0, xid.0, secs.0, flags.0), flags.1)
+
+-- the addresses: ciaddr, yiaddr, siaddr and giaddr
+abbrev pub addresses_at : List ℕ → Read (Ipv4Addr × Ipv4Addr × Ipv4Addr × Ipv4Addr)
+addresses_at bytes = do
+  ciaddr ← address_at bytes
+  yiaddr ← address_at ciaddr.1
+  siaddr ← address_at yiaddr.1
+  giaddr ← address_at siaddr.1
+  Some ((ciaddr.0, yiaddr.0, siaddr.0, giaddr.0), giaddr.1)

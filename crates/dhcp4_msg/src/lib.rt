@@ -8,8 +8,6 @@ mod option;
 mod option_code;
 mod options;
 mod route;
-#[cfg(test)]
-mod tests;
 mod value;
 mod view;
 

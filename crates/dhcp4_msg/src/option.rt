@@ -90,6 +90,7 @@ impl DhcpV4OptionUnknown {
 
 impl DhcpV4Option {
     /// The code of the option; that of an unknown option is the name that its number has, if any.
+    #[inline(always)]
     #[tactic(auto, unfolding(crate::specs::Value::option_code))]
     pub fn code(&self) -> DhcpV4OptionCode
         ensures { result ≡ option_code self.now }
@@ -152,17 +153,19 @@ impl DhcpV4Option {
             DhcpV4Option::Pad => Ok(DhcpV4Option::Pad),
             DhcpV4Option::SubnetMask(address) => Ok(DhcpV4Option::SubnetMask(*address)),
             DhcpV4Option::Router(addresses) => {
-                Ok(DhcpV4Option::Router(addresses.try_clone(alloc)?))
+                addresses.try_clone(alloc).map(DhcpV4Option::Router)
             }
             DhcpV4Option::DomainNameServer(addresses) => {
-                Ok(DhcpV4Option::DomainNameServer(addresses.try_clone(alloc)?))
+                addresses
+                    .try_clone(alloc)
+                    .map(DhcpV4Option::DomainNameServer)
             }
-            DhcpV4Option::HostName(text) => Ok(DhcpV4Option::HostName(text.try_clone(alloc)?)),
-            DhcpV4Option::DomainName(text) => Ok(DhcpV4Option::DomainName(text.try_clone(alloc)?)),
+            DhcpV4Option::HostName(text) => text.try_clone(alloc).map(DhcpV4Option::HostName),
+            DhcpV4Option::DomainName(text) => text.try_clone(alloc).map(DhcpV4Option::DomainName),
             DhcpV4Option::InterfaceMtu(size) => Ok(DhcpV4Option::InterfaceMtu(*size)),
             DhcpV4Option::BroadcastAddress(address) => Ok(DhcpV4Option::BroadcastAddress(*address)),
             DhcpV4Option::NtpServers(addresses) => {
-                Ok(DhcpV4Option::NtpServers(addresses.try_clone(alloc)?))
+                addresses.try_clone(alloc).map(DhcpV4Option::NtpServers)
             }
             DhcpV4Option::RequestedIpAddress(address) => {
                 Ok(DhcpV4Option::RequestedIpAddress(*address))
@@ -173,20 +176,24 @@ impl DhcpV4Option {
             DhcpV4Option::MessageType(kind) => Ok(DhcpV4Option::MessageType(*kind)),
             DhcpV4Option::ServerIdentifier(address) => Ok(DhcpV4Option::ServerIdentifier(*address)),
             DhcpV4Option::ParameterRequestList(codes) => {
-                Ok(DhcpV4Option::ParameterRequestList(codes.try_clone(alloc)?))
+                codes
+                    .try_clone(alloc)
+                    .map(DhcpV4Option::ParameterRequestList)
             }
-            DhcpV4Option::Message(text) => Ok(DhcpV4Option::Message(text.try_clone(alloc)?)),
+            DhcpV4Option::Message(text) => text.try_clone(alloc).map(DhcpV4Option::Message),
             DhcpV4Option::RenewalTime(seconds) => Ok(DhcpV4Option::RenewalTime(*seconds)),
             DhcpV4Option::RebindingTime(seconds) => Ok(DhcpV4Option::RebindingTime(*seconds)),
             DhcpV4Option::ClientIdentifier(bytes) => {
-                Ok(DhcpV4Option::ClientIdentifier(bytes.try_clone(alloc)?))
+                bytes.try_clone(alloc).map(DhcpV4Option::ClientIdentifier)
             }
             DhcpV4Option::ClasslessStaticRoute(routes) => {
-                Ok(DhcpV4Option::ClasslessStaticRoute(routes.try_clone(alloc)?))
+                routes
+                    .try_clone(alloc)
+                    .map(DhcpV4Option::ClasslessStaticRoute)
             }
             DhcpV4Option::End => Ok(DhcpV4Option::End),
             DhcpV4Option::Unknown(unknown) => {
-                Ok(DhcpV4Option::Unknown(unknown.try_clone(alloc)?))
+                unknown.try_clone(alloc).map(DhcpV4Option::Unknown)
             }
         }
     }

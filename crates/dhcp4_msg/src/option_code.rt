@@ -63,6 +63,7 @@ pub enum DhcpV4OptionCode {
 impl From<u8> for DhcpV4OptionCode {
     ghost from_gives = { λ number code. code ≡ code_of number };
 
+    #[inline(always)]
     #[tactic(auto, unfolding(crate::specs::code_of, crate::specs::number_of))]
     fn from(d: u8) -> Self {
         match d {
@@ -94,6 +95,7 @@ impl From<u8> for DhcpV4OptionCode {
 impl From<DhcpV4OptionCode> for u8 {
     ghost from_gives = { λ code number. number ≡ number_of code };
 
+    #[inline(always)]
     #[tactic(auto, unfolding(crate::specs::OptionCode::number_of))]
     fn from(code: DhcpV4OptionCode) -> u8 {
         match code {

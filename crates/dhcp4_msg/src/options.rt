@@ -213,6 +213,7 @@ impl DhcpV4Options {
 
     /// Keeps the option, in place of the one of its code if there is one. Out of memory is the only
     /// error: the option is then dropped, and the others stay as they were.
+    #[inline(always)]
     pub fn insert(&mut self, option: DhcpV4Option) -> Result<(), DhcpError>
         requires { IsTrue (fits option) }
         ensures ok { OnOk result (self.new ≡ map.insert self.old (option_number option) option) }
@@ -261,6 +262,7 @@ impl DhcpV4Options {
     }
 
     // Keeps the option that a raw option reads as, if it reads.
+    #[inline(always)]
     #[tactic(auto, using(crate::proofs::ValueLemmas::option_number_value_of))]
     fn keep(&mut self, alloc: Global, raw: RawOption) -> Result<(), DhcpError>
         requires { (raw.code < 256) × (length raw.value.now < 256) }
@@ -350,13 +352,16 @@ impl DhcpV4Options {
         }
     }
 
-    // Writes them number by number; the walk over the table ends with the last of them.
+    // Writes them number by number. End, the last of all numbers, comes after the walk over the
+    // table, so that the walk ends with the last of the others.
     fn emit_by_place(&self, buf: &mut BufferMut) -> Result<(), DhcpError>
         ensures { Emits result buf.old buf.new (flat_map written_option (map.values self.now)) }
     {
+        let end = self.kept_at(END);
+        let last = usize::from(end.is_some());
         let mut left = self.kept.len();
         for place in &self.places {
-            if left == 0 {
+            if left == last {
                 break;
             }
             if let Some(place) = place {
@@ -364,7 +369,10 @@ impl DhcpV4Options {
                 left -= 1;
             }
         }
-        Ok(())
+        match end {
+            Some(option) => option.emit(buf),
+            None => Ok(()),
+        }
     }
 }
 
@@ -395,6 +403,7 @@ fn emit_all(options: &[DhcpV4Option], buf: &mut BufferMut) -> Result<(), DhcpErr
 }
 
 // Puts the option in place of the one that stands there.
+#[inline(always)]
 fn put(kept: &mut Vec<DhcpV4Option>, place: usize, option: DhcpV4Option)
     requires { place < length kept.old.items }
     ensures { kept.new.items ≡ slice_set kept.old.items place option }
@@ -403,6 +412,7 @@ fn put(kept: &mut Vec<DhcpV4Option>, place: usize, option: DhcpV4Option)
 }
 
 // The reading of a raw option, if it has one.
+#[inline(always)]
 fn reading_of(alloc: Global, raw: RawOption) -> Result<Option<DhcpV4Option>, DhcpError>
     requires { raw.code < 256 }
     ensures { Makes (λ read. read) result (reading_of (parts_of raw.entry)) }

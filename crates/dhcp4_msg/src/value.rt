@@ -44,40 +44,39 @@ pub(crate) fn read_value(
 {
     match code {
         DhcpV4OptionCode::Pad => Ok(DhcpV4Option::Pad),
-        DhcpV4OptionCode::SubnetMask => Ok(DhcpV4Option::SubnetMask(address_in(value)?)),
-        DhcpV4OptionCode::Router => Ok(DhcpV4Option::Router(addresses_in(alloc, value)?)),
+        DhcpV4OptionCode::SubnetMask => address_in(value).map(DhcpV4Option::SubnetMask),
+        DhcpV4OptionCode::Router => addresses_in(alloc, value).map(DhcpV4Option::Router),
         DhcpV4OptionCode::DomainNameServer => {
-            Ok(DhcpV4Option::DomainNameServer(addresses_in(alloc, value)?))
+            addresses_in(alloc, value).map(DhcpV4Option::DomainNameServer)
         }
-        DhcpV4OptionCode::HostName => Ok(DhcpV4Option::HostName(text_in(alloc, value)?)),
-        DhcpV4OptionCode::DomainName => Ok(DhcpV4Option::DomainName(text_in(alloc, value)?)),
-        DhcpV4OptionCode::InterfaceMtu => Ok(DhcpV4Option::InterfaceMtu(u16_in(value)?)),
+        DhcpV4OptionCode::HostName => text_in(alloc, value).map(DhcpV4Option::HostName),
+        DhcpV4OptionCode::DomainName => text_in(alloc, value).map(DhcpV4Option::DomainName),
+        DhcpV4OptionCode::InterfaceMtu => u16_in(value).map(DhcpV4Option::InterfaceMtu),
         DhcpV4OptionCode::BroadcastAddress => {
-            Ok(DhcpV4Option::BroadcastAddress(address_in(value)?))
+            address_in(value).map(DhcpV4Option::BroadcastAddress)
         }
-        DhcpV4OptionCode::NtpServers => Ok(DhcpV4Option::NtpServers(addresses_in(alloc, value)?)),
+        DhcpV4OptionCode::NtpServers => addresses_in(alloc, value).map(DhcpV4Option::NtpServers),
         DhcpV4OptionCode::RequestedIpAddress => {
-            Ok(DhcpV4Option::RequestedIpAddress(address_in(value)?))
+            address_in(value).map(DhcpV4Option::RequestedIpAddress)
         }
         DhcpV4OptionCode::IpAddressLeaseTime => {
-            Ok(DhcpV4Option::IpAddressLeaseTime(u32_in(value)?))
+            u32_in(value).map(DhcpV4Option::IpAddressLeaseTime)
         }
-        DhcpV4OptionCode::MessageType => Ok(DhcpV4Option::MessageType(type_of(value)?)),
+        DhcpV4OptionCode::MessageType => type_of(value).map(DhcpV4Option::MessageType),
         DhcpV4OptionCode::ServerIdentifier => {
-            Ok(DhcpV4Option::ServerIdentifier(address_in(value)?))
+            address_in(value).map(DhcpV4Option::ServerIdentifier)
         }
         DhcpV4OptionCode::ParameterRequestList => {
-            Ok(DhcpV4Option::ParameterRequestList(codes_of(alloc, value)?))
+            codes_of(alloc, value).map(DhcpV4Option::ParameterRequestList)
         }
-        DhcpV4OptionCode::Message => Ok(DhcpV4Option::Message(text_in(alloc, value)?)),
-        DhcpV4OptionCode::RenewalTime => Ok(DhcpV4Option::RenewalTime(u32_in(value)?)),
-        DhcpV4OptionCode::RebindingTime => Ok(DhcpV4Option::RebindingTime(u32_in(value)?)),
+        DhcpV4OptionCode::Message => text_in(alloc, value).map(DhcpV4Option::Message),
+        DhcpV4OptionCode::RenewalTime => u32_in(value).map(DhcpV4Option::RenewalTime),
+        DhcpV4OptionCode::RebindingTime => u32_in(value).map(DhcpV4Option::RebindingTime),
         DhcpV4OptionCode::ClientIdentifier => {
-            Ok(DhcpV4Option::ClientIdentifier(Bytes::from_slice(alloc, value)?))
+            Bytes::from_slice(alloc, value).map(DhcpV4Option::ClientIdentifier)
         }
         DhcpV4OptionCode::ClasslessStaticRoute => {
-            let routes = DhcpV4ClasslessRoute::parse_list(alloc, value)?;
-            Ok(DhcpV4Option::ClasslessStaticRoute(routes))
+            DhcpV4ClasslessRoute::parse_list(alloc, value).map(DhcpV4Option::ClasslessStaticRoute)
         }
         DhcpV4OptionCode::End => Ok(DhcpV4Option::End),
         DhcpV4OptionCode::Other(code) => {

@@ -5,6 +5,7 @@ ghost use Rattle.dhcp_wire.specs.Outcome.{Answers, Finds, Makes};
 ghost use Rattle.dhcp4_msg.specs.Message.{read_message};
 ghost use Rattle.dhcp4_msg.specs.Options as maps;
 ghost use Rattle.dhcp4_msg.specs.View as views;
+ghost use Rattle.dhcp4_msg.specs.View.{ReadsInPart};
 
 use crate::message::{MAGIC_COOKIE, hardware_address};
 use crate::value::type_of;
@@ -68,17 +69,8 @@ impl<'a> DhcpV4View<'a> {
             (ok_or (read_message payload.now) ErrorKind.InvalidDhcpMessage) }
     {
         let mut buf = Buffer::new(payload);
-        let op = buf.get_u8()?;
-        let htype = buf.get_u8()?;
-        let hlen = buf.get_u8()?;
-        let hops = buf.get_u8()?;
-        let xid = buf.get_u32_be()?;
-        let secs = buf.get_u16_be()?;
-        let flags = buf.get_u16_be()?;
-        let ciaddr = buf.get_ipv4()?;
-        let yiaddr = buf.get_ipv4()?;
-        let siaddr = buf.get_ipv4()?;
-        let giaddr = buf.get_ipv4()?;
+        let (op, htype, hlen, hops, xid, secs, flags) = read_numbers(&mut buf)?;
+        let (ciaddr, yiaddr, siaddr, giaddr) = read_addresses(&mut buf)?;
         let chaddr = hardware_address(&mut buf)?;
         let sname = buf.get_str_with_null(64)?;
         let file = buf.get_str_with_null(128)?;
@@ -141,6 +133,33 @@ impl<'a> DhcpV4View<'a> {
             options: DhcpV4Options::parse(alloc, self.options)?,
         })
     }
+}
+
+// The numbers before the addresses: op, htype, hlen, hops, xid, secs and flags.
+#[inline(always)]
+fn read_numbers(buf: &mut Buffer) -> Result<(u8, u8, u8, u8, u32, u16, u16), DhcpError>
+    ensures { ReadsInPart (λ numbers. numbers) result buf.new (views.numbers_at buf.old) }
+{
+    let op = buf.get_u8()?;
+    let htype = buf.get_u8()?;
+    let hlen = buf.get_u8()?;
+    let hops = buf.get_u8()?;
+    let xid = buf.get_u32_be()?;
+    let secs = buf.get_u16_be()?;
+    let flags = buf.get_u16_be()?;
+    Ok((op, htype, hlen, hops, xid, secs, flags))
+}
+
+// The four addresses: ciaddr, yiaddr, siaddr and giaddr.
+#[inline(always)]
+fn read_addresses(buf: &mut Buffer) -> Result<(Ipv4Addr, Ipv4Addr, Ipv4Addr, Ipv4Addr), DhcpError>
+    ensures { ReadsInPart (λ addresses. addresses) result buf.new (views.addresses_at buf.old) }
+{
+    let ciaddr = buf.get_ipv4()?;
+    let yiaddr = buf.get_ipv4()?;
+    let siaddr = buf.get_ipv4()?;
+    let giaddr = buf.get_ipv4()?;
+    Ok((ciaddr, yiaddr, siaddr, giaddr))
 }
 
 // The type that the last readable option 53 of a list says, if it has one.

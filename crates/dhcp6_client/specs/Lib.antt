@@ -1,6 +1,8 @@
 pub mod Answer
 pub mod Bounds
 pub mod Client
+pub mod Granted
+pub mod Held
 pub mod Message
 pub mod Release
 pub mod Rules

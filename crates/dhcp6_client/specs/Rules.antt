@@ -219,6 +219,15 @@ held_lease (Temporary bound) = Some bound.lease
 held_lease (Renew bound) = Some bound.lease
 held_lease (Rebind bound) = Some bound.lease
 
+-- the moment at which the valid lifetime of the lease that is held ends
+abbrev pub lease_end : ClientState → Option ℕ
+lease_end Solicit = None
+lease_end (Request offer) = None
+lease_end (Done bound) = Some (after bound bound.lease.valid_time_sec)
+lease_end (Temporary bound) = Some (after bound bound.lease.valid_time_sec)
+lease_end (Renew bound) = Some (after bound bound.lease.valid_time_sec)
+lease_end (Rebind bound) = Some (after bound bound.lease.valid_time_sec)
+
 -- the protocol of a client with this configuration
 abbrev pub protocol :
     Config → Protocol PlainState Packet Handed ClientState Exchange Lease Lease

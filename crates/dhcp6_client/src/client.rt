@@ -2,10 +2,8 @@
 
 mod release;
 mod replay;
-#[cfg(test)]
-mod tests;
 
-ghost use Rattle.std.specs.Prelude.{◌≡◌, ◌<◌, ◌^◌, true, false, IfSome, IfErr, IfOk, OnErr, OnOk, is_ok};
+ghost use Rattle.std.specs.Prelude.{◌≡◌, ◌<◌, ◌^◌, true, false, None, IfSome, IfErr, IfOk, OnErr, OnOk, is_ok};
 ghost use Rattle.dhcp_wire.specs.Error.{no_memory};
 ghost use Rattle.dhcp_wire.specs.Outcome.{Finds};
 ghost use Rattle.dhcp6_msg.specs.Lease.{is_within_limits};
@@ -18,14 +16,14 @@ use crate::draws::{new_id, restarted};
 use crate::granted_lease::GrantedLease;
 use crate::rules::{ClientRules, bound_state};
 use dhcp_clock::{DhcpLink, Words};
-use dhcp_history::{BoundLease, Client, Reported, clean_up, next_poll, run};
+use dhcp_history::{BoundLease, Client, Reported, clean_up, is_listening, next_poll, run};
 use dhcp_wire::{DhcpError, ErrorKind, FixedText};
 use dhcp6_msg::{DhcpV6Config, DhcpV6Lease, DhcpV6Mode, is_duid};
 use std::alloc::Global;
 use std::marker::Model;
 
 /// A client. It does nothing by itself: `run` polls it. Contracts see its configuration and the
-/// client of its rules.
+/// client of its rules. T1, T2 and the lifetimes of each lease that it holds are in order.
 #[derive(Drop)]
 pub struct DhcpV6Client {
     pub(crate) rules: ClientRules,
@@ -36,7 +34,9 @@ impl Model for DhcpV6Client {
     ghost use Rattle.std.specs.Coded.{codes};
     ghost use Rattle.dhcp_history.specs.Schedule.{HasNextAttempt};
     ghost use Rattle.dhcp6_msg.specs.contracts.lease.DhcpV6Lease as lease_model;
+    ghost use Rattle.std.specs.Prelude.{◌≡◌, true};
     ghost use Rattle.dhcp6_client.specs.Client.{ClientParts};
+    ghost use Rattle.dhcp6_client.specs.Held.{has_times_in_order};
     ghost use Rattle.dhcp6_client.specs.Rules.{has_attempts};
 
     ghost Value = { ClientParts };
@@ -45,12 +45,20 @@ impl Model for DhcpV6Client {
 
     ghost view = { λ client. record { config = client.rules.config; client = client.client } };
 
-    ghost invariant = { λ client. HasNextAttempt has_attempts client.client };
+    ghost invariant = { λ client. HasNextAttempt has_attempts client.client
+        × (has_times_in_order client.client.state ≡ true) };
 }
 
 impl DhcpV6Client {
-    ghost use Rattle.dhcp_history.specs.Calls.{IsCleanUp, IsNextPoll, IsRun};
+    ghost use Rattle.dhcp_clock.specs.Words.{DrawsBy};
+    ghost use Rattle.dhcp_history.specs.Calls.{IsCleanUp, IsListening, IsNextPoll, IsRun};
+    ghost use Rattle.dhcp_history.specs.Errors.{run_answer};
+    ghost use Rattle.dhcp_history.specs.Machine.{is_listening};
     ghost use Rattle.dhcp_history.specs.Rules.{GivesDrawn};
+    ghost use Rattle.dhcp_history.specs.Run.{OnNoMemory, UnlessNoMemory};
+    ghost use Rattle.dhcp_history.specs.Seen.{seen};
+    ghost use Rattle.dhcp_history.specs.Traced.{Traces};
+    ghost use Rattle.dhcp_history.specs.Turns.{PollsUnheard, RunsOut, TakesTurns};
     ghost use Rattle.dhcp6_client.specs.Client.{
       Begins,
       IsDone,
@@ -60,8 +68,11 @@ impl DhcpV6Client {
       first_draws,
       undrawn_duid,
     };
-    ghost use Rattle.dhcp6_msg.specs.Lease.{is_within_limits};
-    ghost use Rattle.dhcp6_client.specs.Rules.{protocol, held_lease, needs_memory};
+    ghost use Rattle.dhcp6_client.specs.Granted.{HeardLease};
+    ghost use Rattle.dhcp6_client.specs.Held.{KeepsLease};
+    ghost use Rattle.dhcp6_client.specs.declared.state.PlainState.TheVariants as plain;
+    ghost use Rattle.dhcp6_msg.specs.Lease.{Lease, are_times_in_order, is_within_limits};
+    ghost use Rattle.dhcp6_client.specs.Rules.{protocol, held_lease, lease_end, needs_memory};
 
     /// A client with this configuration, and with a lease that it held before, if there is one,
     /// whose times count from this moment, in milliseconds: it renews that lease, unless it asks
@@ -82,6 +93,8 @@ impl DhcpV6Client {
         ensures begun { IfOk result (Begins config lease now) }
         ensures drawn { IfOk result (λ client. GivesDrawn (first_draws config)
             (W.left words.old) (drawn_for client) (W.left words.new)) }
+        ensures given { IfOk result (λ client. DrawsBy W.gives (first_draws config)
+            words.old (drawn_for client) words.new) }
         ensures identifier { IfOk result (λ client. IfSome (undrawn_duid config)
             (λ duid. client.config.duid ≡ duid)) }
         ensures refused { can_begin config lease ≡ false → IfErr result
@@ -103,9 +116,10 @@ impl DhcpV6Client {
 
     /// One poll at a moment, in milliseconds: a kept error, the time limit, the end of the state,
     /// the pause, an attempt, the wait of a refused attempt, the packet. Returns the new state, or
-    /// none if it has not changed. `Timeout` if and only if the time limit of the state is over,
-    /// and from then on until a clean-up, or a release that the link takes. When out of memory the
-    /// client is as it was, or as it was right after its message was sent.
+    /// none if it has not changed: then nothing is due until a later moment. `Timeout` if and only
+    /// if the time limit of the state is over, and from then on until a clean-up, or a release that
+    /// the link takes. When out of memory the client is as it was, or as it was right after its
+    /// message was sent.
     pub fn run<W: Words, L: DhcpLink>(
         &mut self,
         now: u64,
@@ -113,10 +127,27 @@ impl DhcpV6Client {
         link: &mut L,
     ) -> Result<Option<DhcpV6State>, DhcpError>
         requires { now < 2 ^ 60 }
-        ensures { IsRun protocol plain_state needs_memory now result self.old self.new
-            (W.left words.old) (W.left words.new) (L.shown link.old) (L.shown link.new)
-            (L.faults link.old) (L.faults link.new) }
+        ensures ran { IsRun protocol plain_state needs_memory now result
+            (seen self.old (W.left words.old) (L.shown link.old) (L.faults link.old))
+            (seen self.new (W.left words.new) (L.shown link.new) (L.faults link.new)) }
+        ensures traced { UnlessNoMemory (run_answer plain_state result)
+            (Traces (protocol self.old.config) W.gives L.moves now (run_answer plain_state result)
+            self.old.client self.new.client words.old words.new link.old link.new) }
+        ensures ran_out { OnNoMemory (run_answer plain_state result) (RunsOut L.moves (λ message.
+            PollsUnheard (protocol self.old.config) W.gives now message
+            self.old.client self.new.client words.old)
+            self.old.client self.new.client link.old link.new) }
+        ensures used { TakesTurns L.moves (is_listening self.old.client.standing.phase)
+            link.old link.new }
+        ensures leases { KeepsLease self.old.config.mode now (run_answer plain_state result)
+            self.old.client self.new.client }
+        // a lease that is reported was read from the packet that the link gave last
+        ensures heard { IfOk result (λ change. IfSome change (λ state. (lease : Lease) →
+            plain_state state ≡ plain.Done lease → HeardLease W.gives L.moves now lease self.old
+            words.old words.new link.old link.new)) }
     {
+        crate::laws::table_is_lawful();
+        crate::laws::leases_are_granted(self);
         let reported = run(&self.rules, &mut self.client, now, words, link)?;
         Ok(reported.map(Reported::into_state))
     }
@@ -124,7 +155,8 @@ impl DhcpV6Client {
     /// Drops the lease, the offer, the attempt and a kept error: the client searches anew, with its
     /// transaction id as it is, and no count and no previous wait.
     pub fn clean_up(&mut self)
-        ensures { IsCleanUp protocol self.old self.new }
+        ensures cleaned { IsCleanUp protocol self.old self.new }
+        ensures dropped { held_lease self.new.client.state ≡ None }
     {
         clean_up(&self.rules, &mut self.client);
     }
@@ -152,6 +184,16 @@ impl DhcpV6Client {
         next_poll(&self.rules, &self.client)
     }
 
+    /// Whether a packet may be asked for at a moment, in milliseconds: an attempt is open then, or
+    /// is due and made then. A poll of a client that was polled in its state asks its link for a
+    /// packet if and only if this is true, unless the link refuses what the poll sends. If it is
+    /// false, no poll at this moment asks: packets that wait can be dropped. Does not allocate.
+    pub fn is_listening(&self, now: u64) -> bool
+        ensures { IsListening protocol now result self.now }
+    {
+        is_listening(&self.rules, &self.client, now)
+    }
+
     /// Gives the client a lease that is granted at this moment, in milliseconds. It drops what the
     /// client held, its offer and its attempt, and begins its count and its waits anew; an error
     /// that is kept stays. `InvalidArgument` if and only if T1, T2 and the valid lifetime are out
@@ -174,11 +216,22 @@ impl DhcpV6Client {
         Ok(())
     }
 
-    /// The lease that is held, if one is.
+    /// The lease that is held, if one is. A client that keeps `Timeout` returns its lease past the
+    /// end of that too: see `lease_end`.
     pub fn lease(&self) -> Option<&DhcpV6Lease>
-        ensures { Finds (λ lease. lease.now) result (held_lease self.now.client.state) }
+        ensures held { Finds (λ lease. lease.now) result (held_lease self.now.client.state) }
+        ensures ordered { IfSome result (λ lease. are_times_in_order lease.now ≡ true) }
     {
         self.client.state.held_lease()
+    }
+
+    /// The moment, in milliseconds, at which the valid lifetime of the lease that is held ends;
+    /// none if no lease is held. Until then its address or prefix may be used; a client that keeps
+    /// `Timeout` does not give it up by itself. Does not allocate.
+    pub fn lease_end(&self) -> Option<u64>
+        ensures { result ≡ lease_end self.now.client.state }
+    {
+        self.client.state.lease_end()
     }
 }
 

@@ -1,11 +1,11 @@
 //! The states of a client with what each rests on, RFC 8415 section 18.2.
 
-ghost use Rattle.std.specs.Prelude.{◌≤◌, IfSome, length, option_copied};
+ghost use Rattle.std.specs.Prelude.{◌≡◌, ◌≤◌, IfSome, length, option_copied};
 ghost use Rattle.dhcp_wire.specs.Outcome.{Finds};
 ghost use Rattle.dhcp6_opt.specs.Duid.{written_duid};
 ghost use Rattle.dhcp6_client.specs.Rules as table;
 
-use crate::granted_lease::GrantedLease;
+use crate::granted_lease::{GrantedLease, expiry};
 use dhcp_history::BoundLease;
 use dhcp6_msg::DhcpV6Lease;
 
@@ -41,6 +41,20 @@ impl ClientState {
             ClientState::Temporary(bound) => Some(bound.lease().lease()),
             ClientState::Renew(bound) => Some(bound.lease().lease()),
             ClientState::Rebind(bound) => Some(bound.lease().lease()),
+        }
+    }
+
+    /// The moment at which the valid lifetime of the lease that is held ends, in milliseconds.
+    pub fn lease_end(&self) -> Option<u64>
+        ensures { result ≡ table.lease_end self.now }
+    {
+        match self {
+            ClientState::Solicit => None,
+            ClientState::Request(_) => None,
+            ClientState::Done(bound) => Some(expiry(bound)),
+            ClientState::Temporary(bound) => Some(expiry(bound)),
+            ClientState::Renew(bound) => Some(expiry(bound)),
+            ClientState::Rebind(bound) => Some(expiry(bound)),
         }
     }
 }

@@ -2,6 +2,7 @@
 
 ghost use Rattle.std.specs.Prelude.{◌≡◌, ◌≤◌, ◌<◌, ◌-◌};
 ghost use Rattle.dhcp_clock.specs.Wait as retransmit;
+ghost use Rattle.dhcp_clock.specs.Words.{DrawsBy};
 ghost use Rattle.dhcp_history.specs.Rules.{GivesDrawn};
 ghost use Rattle.dhcp6_client.specs.Rules as table;
 
@@ -38,6 +39,7 @@ const REN_MAX_RT: u64 = 600_000;
 pub fn wait<W: Words>(state: &ClientState, exchange: Exchange, now: u64, words: &mut W) -> u64
     ensures drawn { GivesDrawn (table.wait state.now exchange now)
         (W.left words.old) result (W.left words.new) }
+    ensures taken { DrawsBy W.gives (table.wait state.now exchange now) words.old result words.new }
     ensures short { result ≤ 3960000 }
 {
     match state {
@@ -54,6 +56,8 @@ pub fn wait<W: Words>(state: &ClientState, exchange: Exchange, now: u64, words: 
 fn wait_until<W: Words>(moment: u64, exchange: Exchange, now: u64, words: &mut W) -> u64
     ensures drawn { GivesDrawn (table.wait_until moment exchange now)
         (W.left words.old) result (W.left words.new) }
+    ensures taken { DrawsBy W.gives (table.wait_until moment exchange now)
+        words.old result words.new }
     ensures short { result ≤ 3960000 }
 {
     let wait = next_wait(exchange, REN_TIMEOUT, REN_MAX_RT, words);
@@ -66,6 +70,9 @@ fn next_wait<W: Words>(exchange: Exchange, first: u64, longest: u64, words: &mut
     requires longest { longest ≤ 3600000 }
     ensures drawn { GivesDrawn (retransmit.retransmit_wait exchange.previous_wait first longest)
         (W.left words.old) result (W.left words.new) }
+    ensures taken { DrawsBy W.gives
+        (retransmit.retransmit_wait exchange.previous_wait first longest)
+        words.old result words.new }
     ensures short { result ≤ 3960000 }
 {
     retransmit_wait(u64::from(exchange.previous_wait), first, longest, words)
@@ -80,8 +87,10 @@ pub fn transaction_id<W: Words>(
     exchange: Exchange,
     words: &mut W,
 ) -> u32
-    ensures { GivesDrawn (table.transaction_id state.now is_first exchange)
+    ensures drawn { GivesDrawn (table.transaction_id state.now is_first exchange)
         (W.left words.old) result (W.left words.new) }
+    ensures taken { DrawsBy W.gives (table.transaction_id state.now is_first exchange)
+        words.old result words.new }
 {
     match state {
         ClientState::Solicit => exchange.xid,
@@ -95,8 +104,9 @@ pub fn transaction_id<W: Words>(
 
 // A new transaction id for the first attempt of a stay, and that of the exchange for the others.
 fn id_for<W: Words>(is_first: bool, exchange: Exchange, words: &mut W) -> u32
-    ensures { GivesDrawn (table.id_for is_first exchange)
+    ensures drawn { GivesDrawn (table.id_for is_first exchange)
         (W.left words.old) result (W.left words.new) }
+    ensures taken { DrawsBy W.gives (table.id_for is_first exchange) words.old result words.new }
 {
     if is_first {
         new_id(words.next_word())
@@ -116,8 +126,9 @@ pub fn new_id(word: u32) -> u32
 /// Solicit, where RFC 8415 section 12 asks for the same one over restarts. The other messages have
 /// that of their lease, and for them it is 0.
 pub fn association_id<W: Words>(state: &ClientState, words: &mut W) -> u32
-    ensures { GivesDrawn (table.association_id state.now)
+    ensures drawn { GivesDrawn (table.association_id state.now)
         (W.left words.old) result (W.left words.new) }
+    ensures taken { DrawsBy W.gives (table.association_id state.now) words.old result words.new }
 {
     match state {
         ClientState::Solicit => words.next_word(),

@@ -1,18 +1,25 @@
 //! Laws of the client, over every configuration and every script. Each is the clause of a function
 //! that does nothing.
 
-ghost use Rattle.std.specs.Prelude.{◌≡◌, All};
+ghost use Rattle.std.specs.Prelude.{◌≡◌, ◌⊎◌, ℕ, All, Bool, List, Ok, Option, Some};
+ghost use Rattle.dhcp_clock.specs.Link.{Turn};
 ghost use Rattle.dhcp_clock.specs.declared.link.Packet.{Packet};
 ghost use Rattle.dhcp_history.specs.Bounds.{KeepsDistance};
 ghost use Rattle.dhcp_history.specs.History.{history};
 ghost use Rattle.dhcp_history.specs.Laws.{KeepsLaws};
 ghost use Rattle.dhcp_history.specs.Protocol.{Lawful};
+ghost use Rattle.dhcp_history.specs.Machine.{View};
 ghost use Rattle.dhcp_history.specs.Script.{Script};
+ghost use Rattle.dhcp_history.specs.Traced.{IsPollBy};
 ghost use Rattle.dhcp6_msg.specs.Config.{Config};
+ghost use Rattle.dhcp6_msg.specs.Lease.{Lease};
 ghost use Rattle.dhcp6_client.specs.declared.client_state.ClientState.{ClientState};
 ghost use Rattle.dhcp6_client.specs.declared.client_state.Exchange.{Exchange};
 ghost use Rattle.dhcp6_client.specs.Bounds.{HasElevenRequests, distance};
-ghost use Rattle.dhcp6_client.specs.Rules.{protocol};
+ghost use Rattle.dhcp6_client.specs.Granted.{IsGranted};
+ghost use Rattle.dhcp6_client.specs.Rules.{held_lease, protocol, public_state};
+ghost use Rattle.dhcp6_client.specs.declared.state.PlainState.{PlainState};
+ghost use Rattle.dhcp6_client.specs.declared.state.PlainState.TheVariants as plain;
 
 use crate::DhcpV6Client;
 use dhcp_history::laws;
@@ -52,4 +59,32 @@ pub fn messages_are_far_apart(client: &DhcpV6Client)
         All (KeepsDistance distance) (history (protocol client.now.config) script) }
 {
     laws::messages_are_far_apart(&client.rules);
+}
+
+/// Over every link and every source of words: a lease that a poll reports was read from a packet
+/// that this very poll was given. It came as a payload, with the transaction id of the attempt that
+/// was open at the poll, or that the poll made, and of the awaited type; and its message grants the
+/// lease.
+pub fn leases_are_granted(client: &DhcpV6Client)
+    ensures { (now : ℕ) (refuse : Bool) (packet : Option Packet) (turns : List Turn)
+        (lease : Lease) (old new : View ClientState Exchange) →
+        IsPollBy (protocol client.now.config) now refuse packet turns
+        (Ok (Some (plain.Done lease))) old new →
+        plain.Done lease ≡ public_state new.state →
+        IsGranted client.now.config now refuse packet lease old }
+{
+    laws::changes_are_heard(&client.rules);
+}
+
+/// Over every link and every source of words: the lease that is held after a change was held before
+/// it, or is the one that the change reports.
+pub fn leases_are_reported(client: &DhcpV6Client)
+    ensures { (now : ℕ) (refuse : Bool) (packet : Option Packet) (turns : List Turn)
+        (reported : PlainState) (lease : Lease) (old new : View ClientState Exchange) →
+        IsPollBy (protocol client.now.config) now refuse packet turns
+        (Ok (Some reported)) old new →
+        held_lease new.state ≡ Some lease →
+        (held_lease old.state ≡ Some lease) ⊎ (public_state new.state ≡ plain.Done lease) }
+{
+    laws::changes_are_heard(&client.rules);
 }

@@ -5,6 +5,7 @@ ghost use Rattle.std.specs.Prelude.{◌≡◌, ◌<◌, ◌^◌, false, IfOk, Is
 ghost use Rattle.dhcp_history.specs.Rules.{IsNext};
 ghost use Rattle.dhcp6_msg.specs.Config.{is_within_limits};
 ghost use Rattle.dhcp6_client.specs.Rules as table;
+ghost use Rattle.dhcp6_client.specs.State.{plain_state};
 ghost use Rattle.dhcp6_client.specs.declared.client_state.Exchange.{Exchange};
 ghost use Rattle.dhcp6_client.specs.declared.state.PlainState.TheVariants as plain;
 
@@ -157,7 +158,7 @@ impl Rules for ClientRules {
     ) -> Result<Reported<DhcpV6State>, AllocError> {
         match state {
             ClientState::Solicit => {
-                *state = ClientState::Request(answer);
+                enter(state, ClientState::Request(answer));
                 *exchange = restarted(*exchange);
                 Ok(Reported::new(DhcpV6State::Request))
             }
@@ -173,13 +174,13 @@ impl Rules for ClientRules {
         *exchange = restarted(*exchange);
         let reported = reported_after(state);
         let ended = mem::replace(state, ClientState::Solicit);
-        *state = state_after(ended);
+        enter(state, state_after(ended));
         reported
     }
 
     fn after_clean_up(&self, state: &mut ClientState, exchange: &mut Exchange) {
         *exchange = restarted(*exchange);
-        *state = ClientState::Solicit;
+        enter(state, ClientState::Solicit);
     }
 
     fn release_message(
@@ -212,12 +213,27 @@ impl ClientRules {
             reported ≡ table.public_state state.new) }
         ensures unchanged { OnErr result (state.new ≡ state.old) }
     {
-        let copy = lease.lease().try_clone(self.alloc).map_err(|_| AllocError)?;
-        let reported = DhcpV6State::Done(Box::new(self.alloc, copy)?);
-        *state = bound_state(self.config.mode, BoundLease::new(lease, now));
+        let reported = done_with(self.alloc, lease.lease())?;
+        let next = bound_state(self.config.mode, BoundLease::new(lease, now));
+        enter(state, next);
         *exchange = restarted(*exchange);
         Ok(Reported::new(reported))
     }
+}
+
+// Goes to a state.
+fn enter(state: &mut ClientState, next: ClientState)
+    ensures { state.new ≡ next }
+{
+    drop(mem::replace(state, next));
+}
+
+// What is reported of a client that has this lease.
+fn done_with(alloc: Global, lease: &DhcpV6Lease) -> Result<DhcpV6State, AllocError>
+    ensures { IfOk result (λ state. plain_state state ≡ plain.Done lease.now) }
+{
+    let copy = lease.try_clone(alloc).map_err(|_| AllocError)?;
+    Ok(DhcpV6State::Done(Box::new(alloc, copy)?))
 }
 
 // The state after the end of one.

@@ -1,8 +1,5 @@
 //! The states of a client, RFC 8415 section 18.2.
 
-#[cfg(test)]
-mod tests;
-
 ghost use Rattle.std.specs.Prelude.{◌≡◌, Some};
 ghost use Rattle.dhcp_wire.specs.Outcome.{Makes};
 ghost use Rattle.dhcp6_client.specs.State.{is_done, plain_state, state_text};

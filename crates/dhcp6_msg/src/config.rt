@@ -7,6 +7,7 @@ ghost use Rattle.std.specs.Borrow.{sem};
 ghost use Rattle.dhcp_wire.specs.Outcome.{Makes};
 ghost use Rattle.dhcp_clock.specs.Words.{Draws};
 ghost use Rattle.dhcp6_opt.specs.declared.duid.DhcpV6Duid.{DhcpV6Duid};
+ghost use Rattle.dhcp6_opt.specs.DrawnDuid.{DrawsDuid};
 ghost use Rattle.dhcp6_opt.specs.OptionCode.{code_of};
 ghost use Rattle.dhcp6_msg.specs.declared.mode.DhcpV6Mode.TheVariants as modes;
 ghost use Rattle.dhcp6_msg.specs.Setter.{UnchangedIfRefused};
@@ -210,6 +211,8 @@ impl DhcpV6Config {
     pub fn init_duid<W: Words>(&mut self, alloc: Global, words: &mut W) -> Result<(), DhcpError>
         ensures set { Draws (W.left words.old) (W.left words.new) (client_duid self.old)
             (λ duid. SetsDuid result self.old self.new duid) }
+        ensures taken { DrawsDuid W.gives (client_duid self.old) words.old words.new
+            (λ duid. SetsDuid result self.old self.new duid) }
         ensures sendable { IsTrue (is_no_duid self.old.duid || is_duid self.old.duid)
             → IfOk result (λ _. IsTrue (is_duid self.new.duid)) }
     {
@@ -224,6 +227,8 @@ impl DhcpV6Config {
         ensures set { Draws (W.left words.old) (W.left words.new)
             (configs.made_duid self.old.src_mac)
             (λ duid. SetsDuid result self.old self.new duid) }
+        ensures taken { DrawsDuid W.gives (configs.made_duid self.old.src_mac)
+            words.old words.new (λ duid. SetsDuid result self.old self.new duid) }
         ensures sendable { IfOk result (λ _. IsTrue (is_duid self.new.duid)) }
     {
         let made = made_duid(alloc, self.src_mac, words);
@@ -248,7 +253,9 @@ impl DhcpV6Config {
         alloc: Global,
         words: &mut W,
     ) -> Result<&DhcpV6Duid, DhcpError>
-        ensures { Draws (W.left words.old) (W.left words.new) (client_duid self.old)
+        ensures drawn { Draws (W.left words.old) (W.left words.new) (client_duid self.old)
+            (λ duid. Makes (λ made. made.now) result duid) }
+        ensures taken { DrawsDuid W.gives (client_duid self.old) words.old words.new
             (λ duid. Makes (λ made. made.now) result duid) }
     {
         self.init_duid(alloc, words)?;
@@ -306,6 +313,8 @@ fn made_duid<W: Words>(
     words: &mut W,
 ) -> Result<DhcpV6Duid, DhcpError>
     ensures drawn { Draws (W.left words.old) (W.left words.new) (configs.made_duid src_mac)
+        (λ duid. Makes (λ made. made) result duid) }
+    ensures taken { DrawsDuid W.gives (configs.made_duid src_mac) words.old words.new
         (λ duid. Makes (λ made. made) result duid) }
     ensures sendable { IfOk result (λ duid. IsTrue (is_duid duid)) }
 {

@@ -9,8 +9,6 @@ mod message;
 mod message_table;
 mod message_type;
 mod mode;
-#[cfg(test)]
-mod tests;
 mod view;
 
 pub use config::DhcpV6Config;

@@ -22,6 +22,12 @@ use dhcp_wire::{BufferMut, Bytes, DhcpError, TryClone};
 use dhcp6_opt::{DhcpV6Duid, DhcpV6Option, DhcpV6Options};
 use std::alloc::Global;
 
+// How many options a message of a client usually has at most: room for these is made at once.
+const USUAL_OPTIONS: usize = 6;
+
+// How many bytes a usual message has at most: room for these is made before it is written.
+const USUAL_LEN: usize = 256;
+
 /// A message between a client and a server, RFC 8415 section 8.
 #[derive(Debug, PartialEq, Eq, Drop)]
 pub struct DhcpV6Message {
@@ -50,7 +56,7 @@ impl DhcpV6Message {
         ensures { Makes (λ message. message) result
             (message_with msg_type xid (client_options duid.now elapsed_ms)) }
     {
-        let mut options = DhcpV6Options::new(alloc);
+        let mut options = DhcpV6Options::with_capacity(alloc, USUAL_OPTIONS)?;
         options.insert(DhcpV6Option::ClientId(duid.try_clone(alloc)?))?;
         options.insert(DhcpV6Option::ElapsedTime(hundredths(elapsed_ms)))?;
         Ok(DhcpV6Message {
@@ -95,7 +101,7 @@ impl DhcpV6Message {
     pub fn emit(&self, alloc: Global) -> Result<Bytes, DhcpError>
         ensures { Makes (λ bytes. bytes) result (written_message self.now) }
     {
-        let mut buf = BufferMut::new(alloc);
+        let mut buf = BufferMut::with_capacity(alloc, USUAL_LEN)?;
         buf.write_u8(u8::from(self.msg_type))?;
         buf.write_bytes(&self.xid)?;
         self.options.emit(&mut buf)?;

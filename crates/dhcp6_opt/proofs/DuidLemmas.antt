@@ -1,8 +1,9 @@
 -- Identifiers of random words.
-use Rattle.std.proofs.Common.{◌≡◌, ℕ, List, Option, refl}
+use Rattle.std.proofs.Common.{◌≡◌, ℕ, List, [], ◌∷◌, Option, refl}
 use Rattle.dhcp_clock.specs.Words.{GivesNext, Drawn, Draws, drawn_then, drawn_word, undrawn}
 use Rattle.dhcp_clock.proofs.Draws.{draws_both, draws_nothing, draws_word}
 use Rattle.dhcp6_opt.specs.declared.duid.DhcpV6Duid.{DhcpV6Duid}
+use Rattle.dhcp6_opt.specs.DrawnDuid.{DrawsDuid}
 use Rattle.dhcp6_opt.specs.Duid.{drawn_duid, random_duid}
 
 -- a word is drawn, and then what depends on it
@@ -24,3 +25,9 @@ draws_duid t0 t1 t2 t3 t4 a b c d Says one two three four said =
     (then_draws t2 t3 t4 c (third a b) Says three
     (then_draws t3 t4 t4 d (last a b c) Says four
     (draws_nothing t4 (random_duid a b c d) Says said))))
+
+-- the same from any source, by the four words that it gave
+pub takes_duid : {Source : Type 0} (gives : ℕ → Source → Source → Type 0) (s0 s1 s2 s3 s4 : Source) (a b c d : ℕ) (Says : DhcpV6Duid → Type 0) →
+    gives a s0 s1 → gives b s1 s2 → gives c s2 s3 → gives d s3 s4 → Says (random_duid a b c d) → DrawsDuid gives drawn_duid s0 s4 Says
+takes_duid gives s0 s1 s2 s3 s4 a b c d Says one two three four said =
+    (random_duid a b c d, ((a ∷ b ∷ c ∷ d ∷ [], ((s1, (one, (s2, (two, (s3, (three, (s4, (four, refl)))))))), λ rest. refl)), said))

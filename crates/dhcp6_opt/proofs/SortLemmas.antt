@@ -180,3 +180,10 @@ pub written_behind : (options : OptionLists) (xs : List (Bor DhcpV6Option)) → 
 unfolding written_options
 written_behind options xs is =
     sym (flat_map-map written_option (λ option. option.now) xs) ∙ ap (flat_map written_option) is ∙ sym (written_lists (map.values options))
+
+-- options whose numbers do not fall are written as they are kept
+pub written_kept : (kept : List DhcpV6Option) (es : List IndexEntry) → IsIndexed kept es → IsNonDecreasingBy option_number kept → flat_map written_option kept ≡ written_options (lists_of kept)
+unfolding written_options
+written_kept kept es indexed up =
+    ap (flat_map written_option) (sorted_groups option_number kept es indexed.rises (entry_of_each kept es indexed) up ∙ sym (values-numbered kept es indexed))
+    ∙ sym (written_lists (map.values (lists_of kept)))

@@ -1,5 +1,6 @@
 pub mod AddressKind
 pub mod DomainName
+pub mod DrawnDuid
 pub mod Duid
 pub mod Ia
 pub mod Laws
@@ -12,6 +13,7 @@ pub mod Options
 pub mod RawOption
 pub mod Status
 pub mod Value
+pub mod VariantOrder
 pub mod Written
 -- the definitions that a function unfolds beside another
 pub use Rattle.dhcp6_opt.specs.NtpServer.{written_ntp_server}

@@ -7,6 +7,7 @@ mod uuid;
 ghost use Rattle.std.specs.Prelude.{◌≡◌, ◌↔◌, [], length, ok_or, IsTrue};
 ghost use Rattle.dhcp_clock.specs.Words.{Draws};
 ghost use Rattle.dhcp_wire.specs.Outcome.{Emits, Gives, Makes};
+ghost use Rattle.dhcp6_opt.specs.DrawnDuid.{DrawsDuid};
 ghost use Rattle.dhcp6_opt.specs.Duid.{drawn_duid, duid_in, random_duid, written_duid};
 ghost use Rattle.dhcp6_opt.specs.Duid as duids;
 
@@ -124,7 +125,9 @@ impl DhcpV6Duid {
     /// An identifier of four random words: their bytes, with a type that has no name, 255, in place
     /// of the first two. Out of memory is the only error, and comes after the draws.
     pub fn random<W: Words>(alloc: Global, words: &mut W) -> Result<Self, DhcpError>
-        ensures { Draws (W.left words.old) (W.left words.new) drawn_duid
+        ensures drawn { Draws (W.left words.old) (W.left words.new) drawn_duid
+            (λ duid. Makes (λ made. made) result duid) }
+        ensures taken { DrawsDuid W.gives drawn_duid words.old words.new
             (λ duid. Makes (λ made. made) result duid) }
     {
         let a = words.next_word();

@@ -15,17 +15,33 @@ ghost use Rattle.dhcp6_opt.specs.OptionIndex.{has_number};
 ghost use Rattle.dhcp6_opt.specs.Options.{option_at, OptionLists, options_under, read_options, reading_of, with_options, written_options};
 ghost use Rattle.dhcp6_opt.specs.Status.{status_number, status_of};
 ghost use Rattle.dhcp6_opt.specs.Value.{fits, written_option};
+ghost use Rattle.dhcp6_opt.specs.VariantOrder.{DuidsRise, IsBeforeUnknown, StatusesRise};
 
 use crate::widths::{Widths, all_have};
 use crate::{
-    DhcpV6Duid, DhcpV6Option, DhcpV6OptionIaNa, DhcpV6OptionIaPd, DhcpV6OptionIaTa,
-    DhcpV6OptionNtpServer, DhcpV6Options,
+    DhcpV6Duid, DhcpV6DuidEnterpriseNumber, DhcpV6DuidLinkLayerAddr,
+    DhcpV6DuidLinkLayerAddrPlusTime, DhcpV6DuidUuid, DhcpV6Option, DhcpV6OptionIaNa,
+    DhcpV6OptionIaPd, DhcpV6OptionIaTa, DhcpV6OptionNtpServer, DhcpV6OptionUnknown, DhcpV6Options,
 };
 
 /// The number of the code of a number is that number; the same of status codes.
 pub fn codes_read_back()
     ensures options { (number : ℕ) → number_of (code_of number) ≡ number }
     ensures statuses { (number : ℕ) → status_number (status_of number) ≡ number }
+{}
+
+/// Status codes are ordered as RFC 8415, section 21.13 numbers them, and identifiers by the number
+/// of their type; those without a name are the greatest. Of options of one number, one that this
+/// library does not read is the greatest.
+#[tactic(auto, unfolding(crate::specs::VariantOrder::IsRisingBy, crate::specs::OptionOrder::fields_of))]
+pub fn variants_are_ordered_as_declared()
+    ensures statuses { (number : ℕ) → StatusesRise number }
+    ensures identifiers { (timed : DhcpV6DuidLinkLayerAddrPlusTime)
+        (vendor : DhcpV6DuidEnterpriseNumber) (address : DhcpV6DuidLinkLayerAddr)
+        (uuid : DhcpV6DuidUuid) (bytes : List ℕ)
+        → DuidsRise timed vendor address uuid bytes }
+    ensures options { (option : DhcpV6Option) (unknown : DhcpV6OptionUnknown)
+        → IsBeforeUnknown option unknown }
 {}
 
 /// What was read from a list has under a number the options of that number that read, in the order

@@ -11,8 +11,6 @@ mod option_code;
 mod options;
 mod status;
 mod steps;
-#[cfg(test)]
-mod tests;
 mod value;
 mod widths;
 mod written;

@@ -170,6 +170,7 @@ impl DhcpV6Option {
     }
 
     /// The code of the option; that of an unknown option is the name that its number has, if any.
+    #[inline(always)]
     #[tactic(auto, unfolding(crate::specs::Value::option_code))]
     pub fn code(&self) -> DhcpV6OptionCode
         ensures { result ≡ option_code self.now }
@@ -200,33 +201,31 @@ impl DhcpV6Option {
         ensures { Makes (λ made. made) result self.now }
     {
         match self {
-            DhcpV6Option::ClientId(duid) => Ok(DhcpV6Option::ClientId(duid.try_clone(alloc)?)),
-            DhcpV6Option::ServerId(duid) => Ok(DhcpV6Option::ServerId(duid.try_clone(alloc)?)),
-            DhcpV6Option::IANA(ia) => Ok(DhcpV6Option::IANA(ia.try_clone(alloc)?)),
-            DhcpV6Option::IATA(ia) => Ok(DhcpV6Option::IATA(ia.try_clone(alloc)?)),
-            DhcpV6Option::IAPD(ia) => Ok(DhcpV6Option::IAPD(ia.try_clone(alloc)?)),
-            DhcpV6Option::OptionRequestOption(codes) => Ok(DhcpV6Option::OptionRequestOption(
-                codes.try_clone(alloc)?,
-            )),
-            DhcpV6Option::IAAddr(address) => Ok(DhcpV6Option::IAAddr(address.try_clone(alloc)?)),
-            DhcpV6Option::IAPrefix(prefix) => Ok(DhcpV6Option::IAPrefix(prefix.try_clone(alloc)?)),
+            DhcpV6Option::ClientId(duid) => duid.try_clone(alloc).map(DhcpV6Option::ClientId),
+            DhcpV6Option::ServerId(duid) => duid.try_clone(alloc).map(DhcpV6Option::ServerId),
+            DhcpV6Option::IANA(ia) => ia.try_clone(alloc).map(DhcpV6Option::IANA),
+            DhcpV6Option::IATA(ia) => ia.try_clone(alloc).map(DhcpV6Option::IATA),
+            DhcpV6Option::IAPD(ia) => ia.try_clone(alloc).map(DhcpV6Option::IAPD),
+            DhcpV6Option::OptionRequestOption(codes) => codes
+                .try_clone(alloc)
+                .map(DhcpV6Option::OptionRequestOption),
+            DhcpV6Option::IAAddr(address) => address.try_clone(alloc).map(DhcpV6Option::IAAddr),
+            DhcpV6Option::IAPrefix(prefix) => prefix.try_clone(alloc).map(DhcpV6Option::IAPrefix),
             DhcpV6Option::Preference(value) => Ok(DhcpV6Option::Preference(*value)),
             DhcpV6Option::ElapsedTime(value) => Ok(DhcpV6Option::ElapsedTime(*value)),
             DhcpV6Option::ServerUnicast(value) => Ok(DhcpV6Option::ServerUnicast(*value)),
-            DhcpV6Option::StatusCode(status) => Ok(DhcpV6Option::StatusCode(status.try_clone(
-                alloc,
-            )?)),
+            DhcpV6Option::StatusCode(status) => status
+                .try_clone(alloc)
+                .map(DhcpV6Option::StatusCode),
             DhcpV6Option::RapidCommit => Ok(DhcpV6Option::RapidCommit),
-            DhcpV6Option::DnsServers(addresses) => Ok(DhcpV6Option::DnsServers(addresses.try_clone(
-                alloc,
-            )?)),
-            DhcpV6Option::DomainList(names) => Ok(DhcpV6Option::DomainList(names.try_clone(
-                alloc,
-            )?)),
-            DhcpV6Option::NtpServer(servers) => Ok(DhcpV6Option::NtpServer(servers.try_clone(
-                alloc,
-            )?)),
-            DhcpV6Option::Unknown(unknown) => Ok(DhcpV6Option::Unknown(unknown.try_clone(alloc)?)),
+            DhcpV6Option::DnsServers(addresses) => addresses
+                .try_clone(alloc)
+                .map(DhcpV6Option::DnsServers),
+            DhcpV6Option::DomainList(names) => names.try_clone(alloc).map(DhcpV6Option::DomainList),
+            DhcpV6Option::NtpServer(servers) => servers
+                .try_clone(alloc)
+                .map(DhcpV6Option::NtpServer),
+            DhcpV6Option::Unknown(unknown) => unknown.try_clone(alloc).map(DhcpV6Option::Unknown),
         }
     }
 }

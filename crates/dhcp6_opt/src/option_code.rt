@@ -57,6 +57,7 @@ pub enum DhcpV6OptionCode {
 impl From<u16> for DhcpV6OptionCode {
     ghost from_gives = { λ number code. code ≡ code_of number };
 
+    #[inline(always)]
     #[tactic(auto, unfolding(crate::specs::code_of, crate::specs::number_of))]
     fn from(d: u16) -> Self {
         match d {
@@ -84,6 +85,7 @@ impl From<u16> for DhcpV6OptionCode {
 impl From<DhcpV6OptionCode> for u16 {
     ghost from_gives = { λ code number. number ≡ number_of code };
 
+    #[inline(always)]
     #[tactic(auto, unfolding(crate::specs::OptionCode::number_of))]
     fn from(code: DhcpV6OptionCode) -> u16 {
         match code {

@@ -5,6 +5,7 @@ mod index;
 
 ghost use Rattle.std.specs.Prelude.{◌≡◌, ◌+◌, ◌-◌, ◌*◌, ◌^◌, ◌≤◌, ◌==◌, ◌&&◌, length, map, IfErr, IfOk, IfSome, IsTrue, OnOk, option_copied, option_map, vec_items};
 ghost use Rattle.std.specs.List.{filter, flat_map, All, AllByRecursion};
+ghost use Rattle.std.specs.List.Sorted.{IsNonDecreasingBy};
 ghost use Rattle.std.specs.Cmp.{on_per, on_equiv, and_per, and_equiv, nat_eq_equiv, partial_equiv_from_equiv};
 ghost use Rattle.std.specs.Cmp.Lexicographic.{pointwise, lists_per, lists_equiv};
 ghost use Rattle.std.specs.FinMap as map;
@@ -29,6 +30,12 @@ use index::{IndexEntry, entry_of, first_of, index_of, set_firsts};
 use std::alloc::Global;
 use std::marker::Model;
 use std::sync::ledger::Ledger;
+
+// How many options a usual message has at most: room for these is made before they are read.
+const USUAL_OPTIONS: usize = 8;
+
+// How many bytes the code and the length of an option have.
+const OPTION_HEADER_LEN: usize = 4;
 
 /// The options of a message, RFC 8415 section 21. Contracts see, for each code number that is kept,
 /// by rising number, the list of its options in order of insertion.
@@ -93,6 +100,18 @@ impl DhcpV6Options {
         }
     }
 
+    /// No options, with room for so many, which spares the growth in steps. Contracts do not see
+    /// the room. Out of memory is the only error.
+    pub fn with_capacity(alloc: Global, capacity: usize) -> Result<Self, DhcpError>
+        ensures { Makes (λ options. options) result map.empty }
+    {
+        Ok(DhcpV6Options {
+            alloc,
+            kept: Vec::with_capacity(alloc, capacity)?,
+            index: Vec::with_capacity(alloc, capacity)?,
+        })
+    }
+
     /// The first option of that code, if one is kept: it has the code's number, and can be written.
     pub fn get_first(&self, code: DhcpV6OptionCode) -> Option<&DhcpV6Option>
         ensures value { option_copied result ≡ first_of self.now (number_of code) }
@@ -136,6 +155,7 @@ impl DhcpV6Options {
 
     /// Keeps the option, after those of its code. Out of memory is the only error: the option is
     /// then dropped, and the others stay as they were.
+    #[inline(always)]
     pub fn insert(&mut self, opt: DhcpV6Option) -> Result<(), DhcpError>
         requires { IsTrue (fits opt) }
         ensures ok { OnOk result (self.new ≡ with_option self.old opt) }
@@ -178,7 +198,11 @@ impl DhcpV6Options {
     pub fn emit(&self, buf: &mut BufferMut) -> Result<(), DhcpError>
         ensures { Emits result buf.old buf.new (written_options self.now) }
     {
-        emit_all(&self.in_code_order()?, buf)
+        if are_in_code_order(&self.kept) {
+            emit_kept(&self.kept, buf)
+        } else {
+            emit_all(&self.in_code_order()?, buf)
+        }
     }
 
     // The options by rising code, those of one code in order of insertion.
@@ -263,7 +287,8 @@ fn options_in(alloc: Global, bytes: &[u8]) -> Result<Vec<DhcpV6Option>, DhcpErro
     ensures fit { IfOk result (λ options.
         AllByRecursion (λ option. IsTrue (fits option)) options.items) }
 {
-    let mut options = Vec::new(alloc);
+    let room = USUAL_OPTIONS.min(bytes.len() / OPTION_HEADER_LEN);
+    let mut options = Vec::with_capacity(alloc, room)?;
     let mut rest = bytes;
     while let Some((raw, later)) = OptionFormat::DhcpV6.raw_option_at(rest) {
         if let Some(option) = reading_of(alloc, raw)? {
@@ -275,6 +300,7 @@ fn options_in(alloc: Global, bytes: &[u8]) -> Result<Vec<DhcpV6Option>, DhcpErro
 }
 
 // The reading of a raw option, if it has one.
+#[inline(always)]
 fn reading_of(alloc: Global, raw: RawOption) -> Result<Option<DhcpV6Option>, DhcpError>
     ensures { Makes (λ read. read) result (reading_of (parts_of raw.entry)) }
 {
@@ -288,7 +314,25 @@ fn has_number(option: &DhcpV6Option, number: u16) -> bool
     number == u16::from(option.code())
 }
 
+// Whether the codes of the options do not fall.
+fn are_in_code_order(options: &[DhcpV6Option]) -> bool
+    ensures { IsTrue result → IsNonDecreasingBy option_number options.now }
+{
+    options.is_sorted_by_key(|option| u16::from(option.code()))
+}
+
 // Writes options one after the other.
+fn emit_kept(options: &[DhcpV6Option], buf: &mut BufferMut) -> Result<(), DhcpError>
+    requires { All (λ option. IsTrue (fits option)) options.now }
+    ensures { Emits result buf.old buf.new (flat_map written_option options.now) }
+{
+    for option in options {
+        option.emit(buf)?;
+    }
+    Ok(())
+}
+
+// Writes options behind references one after the other.
 fn emit_all(options: &[&DhcpV6Option], buf: &mut BufferMut) -> Result<(), DhcpError>
     requires { All (λ option. IsTrue (fits option.now)) options.now }
     ensures { Emits result buf.old buf.new

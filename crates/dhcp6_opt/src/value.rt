@@ -1,8 +1,8 @@
 //! The values of options, RFC 8415 section 21, RFC 3646 and RFC 5908: what the value of each code
 //! says.
 
-ghost use Rattle.std.specs.Prelude.{◌≡◌, ◌-◌, ◌^◌, length, min, ok_or};
-ghost use Rattle.dhcp_wire.specs.Outcome.{Emits, Gives, Makes};
+ghost use Rattle.std.specs.Prelude.{◌≡◌, ◌-◌, ◌^◌, Err, Ok, if◌then◌else◌, length, min, ok_or};
+ghost use Rattle.dhcp_wire.specs.Outcome.{Answers, Emits, Gives, Makes};
 ghost use Rattle.dhcp6_opt.specs.Value as values;
 
 use crate::domain_name::{names_fit, names_in};
@@ -31,39 +31,38 @@ pub(crate) fn said_in(
 {
     match code {
         DhcpV6OptionCode::ClientId => {
-            Ok(DhcpV6Option::ClientId(DhcpV6Duid::parse(alloc, value)?))
+            DhcpV6Duid::parse(alloc, value).map(DhcpV6Option::ClientId)
         }
         DhcpV6OptionCode::ServerId => {
-            Ok(DhcpV6Option::ServerId(DhcpV6Duid::parse(alloc, value)?))
+            DhcpV6Duid::parse(alloc, value).map(DhcpV6Option::ServerId)
         }
-        DhcpV6OptionCode::IANA => { Ok(DhcpV6Option::IANA(DhcpV6OptionIaNa::parse(alloc, value)?)) }
-        DhcpV6OptionCode::IATA => { Ok(DhcpV6Option::IATA(DhcpV6OptionIaTa::parse(alloc, value)?)) }
+        DhcpV6OptionCode::IANA => { DhcpV6OptionIaNa::parse(alloc, value).map(DhcpV6Option::IANA) }
+        DhcpV6OptionCode::IATA => { DhcpV6OptionIaTa::parse(alloc, value).map(DhcpV6Option::IATA) }
         DhcpV6OptionCode::IAAddr => {
-            Ok(DhcpV6Option::IAAddr(DhcpV6OptionIaAddr::parse(alloc, value)?))
+            DhcpV6OptionIaAddr::parse(alloc, value).map(DhcpV6Option::IAAddr)
         }
         DhcpV6OptionCode::OptionRequestOption => {
-            Ok(DhcpV6Option::OptionRequestOption(codes_in(alloc, value)?))
+            codes_in(alloc, value).map(DhcpV6Option::OptionRequestOption)
         }
-        DhcpV6OptionCode::Preference => Ok(DhcpV6Option::Preference(u8_in(value)?)),
-        DhcpV6OptionCode::ElapsedTime => Ok(DhcpV6Option::ElapsedTime(u16_in(value)?)),
+        DhcpV6OptionCode::Preference => u8_in(value).map(DhcpV6Option::Preference),
+        DhcpV6OptionCode::ElapsedTime => u16_in(value).map(DhcpV6Option::ElapsedTime),
         DhcpV6OptionCode::ServerUnicast => {
-            Ok(DhcpV6Option::ServerUnicast(ipv6_address_in(value)?))
+            ipv6_address_in(value).map(DhcpV6Option::ServerUnicast)
         }
         DhcpV6OptionCode::StatusCode => {
-            Ok(DhcpV6Option::StatusCode(DhcpV6OptionStatus::parse(alloc, value)?))
+            DhcpV6OptionStatus::parse(alloc, value).map(DhcpV6Option::StatusCode)
         }
         DhcpV6OptionCode::RapidCommit => Ok(DhcpV6Option::RapidCommit),
         DhcpV6OptionCode::DnsServers => {
-            Ok(DhcpV6Option::DnsServers(ipv6_addresses_in(alloc, value)?))
+            ipv6_addresses_in(alloc, value).map(DhcpV6Option::DnsServers)
         }
-        DhcpV6OptionCode::DomainList => Ok(DhcpV6Option::DomainList(names_in(alloc, value)?)),
-        DhcpV6OptionCode::IAPD => { Ok(DhcpV6Option::IAPD(DhcpV6OptionIaPd::parse(alloc, value)?)) }
+        DhcpV6OptionCode::DomainList => names_in(alloc, value).map(DhcpV6Option::DomainList),
+        DhcpV6OptionCode::IAPD => { DhcpV6OptionIaPd::parse(alloc, value).map(DhcpV6Option::IAPD) }
         DhcpV6OptionCode::IAPrefix => {
-            Ok(DhcpV6Option::IAPrefix(DhcpV6OptionIaPrefix::parse(alloc, value)?))
+            DhcpV6OptionIaPrefix::parse(alloc, value).map(DhcpV6Option::IAPrefix)
         }
         DhcpV6OptionCode::NtpServer => {
-            let servers = DhcpV6OptionNtpServer::parse_list(alloc, value)?;
-            Ok(DhcpV6Option::NtpServer(servers))
+            DhcpV6OptionNtpServer::parse_list(alloc, value).map(DhcpV6Option::NtpServer)
         }
         DhcpV6OptionCode::Other(code) => {
             let raw = Bytes::from_slice(alloc, value)?;
@@ -108,8 +107,18 @@ pub(crate) fn read_value(
         (ok_or (values.value_of code value.now) ErrorKind.InvalidDhcpMessage) }
 {
     let option = said_in(alloc, code, value)?;
-    if option.has_short_value() {
-        Ok(option)
+    let is_short = option.has_short_value();
+    unless_refused(is_short, option)
+}
+
+// A value that was read, unless it is refused. Its type is a parameter, so that a refusal does not
+// drop it field by field.
+fn unless_refused<T: Drop>(is_kept: bool, value: T) -> Result<T, DhcpError>
+    ensures { Answers (λ value. value) result
+        (if is_kept then Ok value else Err ErrorKind.InvalidDhcpMessage) }
+{
+    if is_kept {
+        Ok(value)
     } else {
         Err(DhcpError::invalid_message(FixedText::Unreadable))
     }

@@ -1,6 +1,7 @@
 //! The IPv4 client, as it is measured.
 
-use crate::exchange::{Answer, Answers, Client};
+use crate::counted;
+use crate::exchange::{Answer, Answers, Client, beside};
 use dhcp_clock::{MemLink, PacketKind, WordList};
 use dhcp_wire::DhcpError;
 use dhcp4_client::DhcpV4Client;
@@ -13,19 +14,13 @@ const HEADERS: usize = 42;
 impl Client for DhcpV4Client {
     // Its transaction id is 0x12345678.
     fn begin(alloc: Global) -> Result<(Self, WordList), DhcpError> {
-        let mut config = DhcpV4Config::new(alloc, "eth0")?;
-        config.iface_index = 1;
         let mut words = WordList::new(vec![in alloc; 0x12345678]?);
-        let client = DhcpV4Client::init(alloc, config, None, &mut words)?;
-        Ok((client, words))
+        let client = DhcpV4Client::init(alloc, config(alloc)?, None, &mut words);
+        beside(client, words)
     }
 
     fn hold_long_lease(&mut self, alloc: Global) -> Result<(), DhcpError> {
-        let mut lease = DhcpV4Lease::empty(alloc);
-        lease.t1_sec = u32::MAX;
-        lease.t2_sec = u32::MAX;
-        lease.lease_time_sec = u32::MAX;
-        self.done(lease, 0)
+        self.done(long_lease(alloc), 0)
     }
 
     fn poll(
@@ -34,8 +29,7 @@ impl Client for DhcpV4Client {
         words: &mut WordList,
         link: &mut MemLink,
     ) -> Result<(), DhcpError> {
-        self.run(u64::from(now), words, link)?;
-        Ok(())
+        counted(self.run(u64::from(now), words, link), ())
     }
 
     fn renewal_time_sec(&self) -> Option<u32> {
@@ -45,6 +39,22 @@ impl Client for DhcpV4Client {
     fn release(&mut self, now: u32, link: &mut MemLink) -> Result<bool, DhcpError> {
         self.release_held(u64::from(now), link)
     }
+}
+
+// Its configuration.
+fn config(alloc: Global) -> Result<DhcpV4Config, DhcpError> {
+    let mut config = DhcpV4Config::new(alloc, "eth0")?;
+    config.iface_index = 1;
+    Ok(config)
+}
+
+// The longest lease, of 4,294,967,295 seconds.
+fn long_lease(alloc: Global) -> DhcpV4Lease {
+    let mut lease = DhcpV4Lease::empty(alloc);
+    lease.t1_sec = u32::MAX;
+    lease.t2_sec = u32::MAX;
+    lease.lease_time_sec = u32::MAX;
+    lease
 }
 
 /// A frame, from its Ethernet header on.

@@ -1,12 +1,14 @@
 //! The IPv6 client, as it is measured.
 
-use crate::exchange::{Answer, Answers, Client};
+use crate::counted;
+use crate::exchange::{Answer, Answers, Client, beside};
 use dhcp_clock::{MemLink, PacketKind, WordList};
 use dhcp_wire::DhcpError;
 use dhcp6_client::DhcpV6Client;
 use dhcp6_msg::{DhcpV6Config, DhcpV6IaType, DhcpV6Lease, DhcpV6Mode};
 use dhcp6_opt::DhcpV6Duid;
 use std::alloc::Global;
+use std::mem;
 use std::net::Ipv6Addr;
 
 // The bytes of the client's identifier and of the server's.
@@ -17,10 +19,9 @@ const SERVER: [u8; 10] = [0, 3, 0, 1, 2, 0, 0, 0, 0, 2];
 impl Client for DhcpV6Client {
     // Its first transaction id is 0xabcdef, and each later one 0.
     fn begin(alloc: Global) -> Result<(Self, WordList), DhcpError> {
-        let config = config(alloc)?;
         let mut words = WordList::new(vec![in alloc; 0x00abcdef]?);
-        let client = DhcpV6Client::init(alloc, config, None, 0, &mut words)?;
-        Ok((client, words))
+        let client = DhcpV6Client::init(alloc, config(alloc)?, None, 0, &mut words);
+        beside(client, words)
     }
 
     fn hold_long_lease(&mut self, alloc: Global) -> Result<(), DhcpError> {
@@ -33,8 +34,7 @@ impl Client for DhcpV6Client {
         words: &mut WordList,
         link: &mut MemLink,
     ) -> Result<(), DhcpError> {
-        self.run(u64::from(now), words, link)?;
-        Ok(())
+        counted(self.run(u64::from(now), words, link), ())
     }
 
     fn renewal_time_sec(&self) -> Option<u32> {
@@ -48,23 +48,25 @@ impl Client for DhcpV6Client {
 
 // Its configuration, for an address.
 fn config(alloc: Global) -> Result<DhcpV6Config, DhcpError> {
+    let duid = DhcpV6Duid::parse(alloc, &CLIENT)?;
     let mut config = DhcpV6Config::new(alloc, "eth0", DhcpV6Mode::NonTemporaryAddresses)?;
+    drop(mem::replace(&mut config.duid, duid));
     config.iface_index = 1;
     config.src_ip = Ipv6Addr::new(0xfe80, 0, 0, 0, 0, 0, 0, 1);
-    config.duid = DhcpV6Duid::parse(alloc, &CLIENT)?;
     Ok(config)
 }
 
 // The longest lease, of 4,294,967,295 seconds, of 2001:db8::10.
 fn long_lease(alloc: Global) -> Result<DhcpV6Lease, DhcpError> {
+    let duid = DhcpV6Duid::parse(alloc, &SERVER)?;
     let mut lease = DhcpV6Lease::empty(alloc);
+    drop(mem::replace(&mut lease.srv_duid, duid));
     lease.t1_sec = u32::MAX;
     lease.t2_sec = u32::MAX;
     lease.preferred_time_sec = u32::MAX;
     lease.valid_time_sec = u32::MAX;
     lease.ia_type = Some(DhcpV6IaType::NonTemporaryAddresses);
     lease.address = Ipv6Addr::new(0x2001, 0xdb8, 0, 0, 0, 0, 0, 0x10);
-    lease.srv_duid = DhcpV6Duid::parse(alloc, &SERVER)?;
     Ok(lease)
 }
 

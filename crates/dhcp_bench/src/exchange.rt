@@ -22,6 +22,14 @@ pub trait Client: Drop {
     fn release(&mut self, now: u32, link: &mut MemLink) -> Result<bool, DhcpError>;
 }
 
+/// A client that has begun, and the words that it draws later.
+pub(crate) fn beside<C: Drop>(
+    client: Result<C, DhcpError>,
+    words: WordList,
+) -> Result<(C, WordList), DhcpError> {
+    Ok((client?, words))
+}
+
 /// A packet that a server sends.
 #[derive(Clone, Copy)]
 pub struct Answer<'a> {

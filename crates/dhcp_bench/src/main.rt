@@ -92,7 +92,17 @@ fn count_of_task(alloc: Global, what: &str, times: u32, text: &str) -> Result<u6
         return Err(Failure::Hex);
     };
     let first = bytes_of(alloc, first)?;
-    let first = first.as_slice();
+    count_with(alloc, what, times, first.as_slice(), rest)
+}
+
+// The same with the bytes of the first line, and the lines after it.
+fn count_with(
+    alloc: Global,
+    what: &str,
+    times: u32,
+    first: &[u8],
+    rest: &[&str],
+) -> Result<u64, Failure> {
     match what {
         "idle" => Ok(idle::<DhcpV4Client>(alloc, times)?),
         "idle6" => Ok(idle::<DhcpV6Client>(alloc, times)?),
@@ -160,32 +170,40 @@ fn count_of_message6(alloc: Global, what: &str, bytes: &[u8]) -> Result<usize, F
     }
 }
 
+/// This count, if what was done went well; what it returned is dropped.
+pub(crate) fn counted<T: Drop, N: Drop>(
+    done: Result<T, DhcpError>,
+    count: N,
+) -> Result<N, DhcpError> {
+    drop(done?);
+    Ok(count)
+}
+
 // Reads a message.
 fn read(alloc: Global, bytes: &[u8]) -> Result<usize, DhcpError> {
-    let _message = DhcpV4Message::parse(alloc, bytes)?;
-    Ok(bytes.len())
+    counted(DhcpV4Message::parse(alloc, bytes), bytes.len())
 }
 
 // Reads a message and writes it.
 fn read_and_write(alloc: Global, bytes: &[u8]) -> Result<usize, DhcpError> {
-    let message = DhcpV4Message::parse(alloc, bytes)?;
     let mut buffer = BufferMut::new(alloc);
-    message.emit(&mut buffer)?;
-    Ok(bytes.len().saturating_add(buffer.len()))
+    let message = DhcpV4Message::parse(alloc, bytes)?;
+    let written = message.emit(&mut buffer);
+    counted(written, bytes.len().saturating_add(buffer.len()))
 }
 
 // Reads a message and the lease that it grants.
 fn read_to_lease(alloc: Global, bytes: &[u8]) -> Result<usize, DhcpError> {
     let message = DhcpV4Message::parse(alloc, bytes)?;
-    let _lease = DhcpV4Lease::new_from_msg(alloc, &message, &mut WordList::new(Vec::new(alloc)))?;
-    Ok(bytes.len())
+    let lease = DhcpV4Lease::new_from_msg(alloc, &message, &mut WordList::new(Vec::new(alloc)));
+    counted(lease, bytes.len())
 }
 
 // Reads a message and moves its options into the lease that it grants.
 fn moved_to_lease(alloc: Global, bytes: &[u8]) -> Result<usize, DhcpError> {
     let message = DhcpV4Message::parse(alloc, bytes)?;
-    let _lease = DhcpV4Lease::from_message(alloc, message, &mut WordList::new(Vec::new(alloc)))?;
-    Ok(bytes.len())
+    let lease = DhcpV4Lease::from_message(alloc, message, &mut WordList::new(Vec::new(alloc)));
+    counted(lease, bytes.len())
 }
 
 // Builds a Discover and writes it.

@@ -1,5 +1,6 @@
 //! DHCPv6 messages.
 
+use crate::counted;
 use dhcp_wire::{DhcpError, ErrorKind, FixedText};
 use dhcp6_msg::{DhcpV6Config, DhcpV6Lease, DhcpV6Message, new_solicit_msg};
 use std::alloc::Global;
@@ -9,8 +10,7 @@ const MAC: [u8; 6] = [2, 0, 0, 0, 0, 1];
 
 // Reads a message.
 pub(crate) fn read(alloc: Global, bytes: &[u8]) -> Result<usize, DhcpError> {
-    let _message = DhcpV6Message::parse(alloc, bytes)?;
-    Ok(bytes.len())
+    counted(DhcpV6Message::parse(alloc, bytes), bytes.len())
 }
 
 // Reads a message and writes it.
@@ -22,14 +22,13 @@ pub(crate) fn read_and_write(alloc: Global, bytes: &[u8]) -> Result<usize, DhcpE
 // Reads a message and the lease that it grants.
 pub(crate) fn read_to_lease(alloc: Global, bytes: &[u8]) -> Result<usize, DhcpError> {
     let message = DhcpV6Message::parse(alloc, bytes)?;
-    let _lease = DhcpV6Lease::new_from_msg(alloc, &message)?;
-    Ok(bytes.len())
+    counted(DhcpV6Lease::new_from_msg(alloc, &message), bytes.len())
 }
 
 // Reads a message and moves its options into the lease that it grants.
 pub(crate) fn moved_to_lease(alloc: Global, bytes: &[u8]) -> Result<usize, DhcpError> {
-    let _lease = DhcpV6Lease::from_message(alloc, DhcpV6Message::parse(alloc, bytes)?)?;
-    Ok(bytes.len())
+    let message = DhcpV6Message::parse(alloc, bytes)?;
+    counted(DhcpV6Lease::from_message(alloc, message), bytes.len())
 }
 
 // Builds a Solicit of an identifier of this MAC address and writes it.

@@ -5,7 +5,7 @@ use Rattle.dhcp_clock.specs.declared.link.Handed.{Handed}
 use Rattle.dhcp_clock.specs.declared.link.Sent.{Sent}
 use Rattle.dhcp_clock.specs.declared.link.Sent.TheVariants.{Taken, Refused, NoMemory}
 use Rattle.dhcp_clock.specs.declared.mem_link.MemLink.TheInside.{Inside}
-use Rattle.dhcp_clock.specs.Link.{MemoryParts, Sends}
+use Rattle.dhcp_clock.specs.Link.{MemoryParts, Sends, Turn, Hands, Gives}
 
 -- what it shows, and its count
 abbrev pub parts_of : Inside → MemoryParts
@@ -46,3 +46,9 @@ pub record ListsMessage (message : Handed) (answer : Sent) (before after : Memor
     : Type 0 where
   pub sends : Sends message answer before.shown (Some after.shown)
   pub counts : after.faults ≡ counted answer before.faults
+
+-- The link does this turn: it lists the message that it is handed, or gives the packet that waits.
+abbrev pub Does : Turn → MemoryParts → MemoryParts → Type 0
+Does (Hands message answer) before after = ListsMessage message answer before after
+Does (Gives packet) before after =
+    (packet ≡ before.shown.waiting) × (after ≡ with_waiting None before)

@@ -1,8 +1,5 @@
 //! A link in memory, for scripts and tests.
 
-#[cfg(test)]
-mod tests;
-
 ghost use Rattle.std.specs.Prelude.{◌≡◌, Some, slice_get};
 
 use crate::{DhcpLink, Handed, Packet, Sent};
@@ -92,11 +89,13 @@ impl MemLink {
 
 impl DhcpLink for MemLink {
     ghost use Rattle.dhcp_clock.specs.declared.link.Handed.{Handed};
-    ghost use Rattle.dhcp_clock.specs.MemLink.{ListsMessage, with_waiting};
+    ghost use Rattle.dhcp_clock.specs.MemLink.{ListsMessage, Does, with_waiting};
 
     ghost shown = { λ link. Some link.shown };
 
     ghost faults = { λ link. link.faults };
+
+    ghost moves = { Does };
 
     fn send_frame(&mut self, bytes: Bytes) -> Sent
         ensures { ListsMessage (Handed.Frame bytes) result self.old self.new }

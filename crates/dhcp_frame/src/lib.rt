@@ -3,8 +3,6 @@
 
 mod checksum;
 mod frame;
-#[cfg(test)]
-mod tests;
 mod view;
 mod write;
 

@@ -15,6 +15,7 @@ use Rattle.dhcp_history.specs.History.{reading_of}
 use Rattle.dhcp_history.specs.Machine.{View, Phase, Unpolled, Pausing, Listening, Resting, Stopped, PollEffect, is_stopped, is_listening, is_unpolled, limit_is_over, limit_is_over_in, has_ended, stop, begin_in, begin_stay, attempt_now, transmit, clean_up, take_answer, receive, transmit_and_receive, poll, end_state, enter, exchange_at}
 use Rattle.dhcp_history.specs.Client.{view_of, silent}
 use Rattle.dhcp_history.specs.Schedule.{HasNextAttempt}
+use Rattle.dhcp_history.specs.Seen.{seen}
 use Rattle.dhcp_history.specs.Run.{input_of, waiting_of, UnlessNoMemory, OnNoMemory, sent_by, handed_by, answer_by, HasPolled, HasReceived, HasDrawn, HasTransmitted, IsUnsent, IsSent, is_waiting, quiet_poll, HasPolledQuietly, IsShut}
 use Rattle.dhcp_history.specs.Release.{release_by, HasReleased}
 
@@ -157,16 +158,16 @@ module _ {PublicState State Exchange Answer Lease : Type 0} (p : Protocol Public
       is_stopped client.standing.phase ≡ false → limit_is_over p now (view_of client words) ≡ false → has_ended p now (view_of client words) ≡ false →
       (is_unpolled client.standing.phase ≡ false → (begun ≡ client.standing) × (mid ≡ drawn)) →
       (is_unpolled client.standing.phase ≡ true → p.has_attempts client.state ≡ false → (begun ≡ silent now client.standing.exchange) × (mid ≡ drawn)) → new.timeout_sec ≡ client.timeout_sec →
-      (is_listening begun.phase ≡ false → IsShut result new client.state begun mid left before after failed failed') →
-      IfSome (quiet_poll p now (view_of client words)) (λ once. HasPolledQuietly p once result (view_of new words) drawn left before after failed failed')
+      (is_listening begun.phase ≡ false → IsShut result begun (seen client mid before failed) (seen new left after failed')) →
+      IfSome (quiet_poll p now (view_of client words)) (λ once. HasPolledQuietly p once result words (seen client drawn before failed) (seen new left after failed'))
   early_quiet now client new begun result drawn mid left before after failed failed' words b f e same none timeout shut = go (is_waiting p now (view_of client words)) refl (is_unpolled client.standing.phase) refl
     where
       go : (w : Bool) → is_waiting p now (view_of client words) ≡ w → (u : Bool) → is_unpolled client.standing.phase ≡ u →
-          IfSome (quiet_poll p now (view_of client words)) (λ once. HasPolledQuietly p once result (view_of new words) drawn left before after failed failed')
+          IfSome (quiet_poll p now (view_of client words)) (λ once. HasPolledQuietly p once result words (seen client drawn before failed) (seen new left after failed'))
       go false w u h = rw (quiet_busy now (view_of client words) b f e w) tt
       go true w false h =
           let waits : is_listening client.standing.phase ≡ false = waits_shut now (view_of client words) h w in
-          let is : IsShut result new client.state begun mid left before after failed failed' = shut (rw (same h).0 waits) in
+          let is : IsShut result begun (seen client mid before failed) (seen new left after failed') = shut (rw (same h).0 waits) in
           rw (quiet_waits now (view_of client words) b f e w, begun_polled now (view_of client words) h) (record {
             answer = is.answer;
             client = rw (is.state, is.standing, (same h).0, timeout);
@@ -176,7 +177,7 @@ module _ {PublicState State Exchange Answer Lease : Type 0} (p : Protocol Public
           })
       go true w true h =
           let quiet : p.has_attempts client.state ≡ false = waits_silent now (view_of client words) h w in
-          let is : IsShut result new client.state begun mid left before after failed failed' = shut (rw (none h quiet).0) in
+          let is : IsShut result begun (seen client mid before failed) (seen new left after failed') = shut (rw (none h quiet).0) in
           rw (quiet_waits now (view_of client words) b f e w, begun_silent now (view_of client words) h quiet) (record {
             answer = is.answer;
             client = rw (is.state, is.standing, (none h quiet).0, timeout);

@@ -13,13 +13,17 @@ use Rattle.dhcp_history.specs.Protocol.{Lawful, Protocol, has_come}
 use Rattle.dhcp_history.specs.Script.{Event, Output, Script, Nothing}
 use Rattle.dhcp_history.specs.Machine.{begin_stay, clean_up, first_view, is_listening, is_stopped, is_unpolled, limit_is_over, poll}
 use Rattle.dhcp_history.specs.History.{history, outputs}
-use Rattle.dhcp_history.specs.Client.{view_of}
+use Rattle.dhcp_history.specs.Client.{unpolled, view_of}
 use Rattle.dhcp_history.specs.Errors.{release_answer, run_answer, send_refused, sent_of, timed_out}
 use Rattle.dhcp_history.specs.EventLoop.{HasReported, events_at, last_moment}
 use Rattle.dhcp_history.specs.Release as release
 use Rattle.dhcp_history.specs.Release.{HasReleased, OnOutOfMemory, UnlessOutOfMemory}
-use Rattle.dhcp_history.specs.Run.{input_of, quiet_poll, HasPolled, HasPolledQuietly, IsSent, IsStill, IsUnsent, NeedsMemory, OnNoMemory, OnTimeout, UnlessNoMemory, UsesLink, WhereKnown}
-use Rattle.dhcp_history.specs.Schedule.{HasNextAttempt, IsActive, IsIdle, next_poll}
+use Rattle.dhcp_history.specs.Run.{input_of, quiet_poll, HasPolled, HasPolledQuietly, IsSent, IsUnsent, NeedsMemory, OnNoMemory, OnTimeout, UnlessNoMemory, UsesLink, WhereKnown}
+use Rattle.dhcp_history.specs.Kept.{DropsLease, Keeps}
+use Rattle.dhcp_history.specs.Listening.{may_ask}
+use Rattle.dhcp_history.specs.Schedule.{HasNextAttempt, IsActive, IsIdle, IsSettled, next_poll}
+use Rattle.dhcp_history.specs.Seen.{Seen, seen}
+use Rattle.dhcp_history.specs.Traced.{asks}
 
 -- 1. The calls of a client of some rules.
 
@@ -27,45 +31,48 @@ module _ {PublicState State Exchange Answer Lease : Type 0}
     (p : Protocol PublicState Packet Handed State Exchange Answer Lease) where
   -- One poll. Its answer is given as the rules have it; words and link may be known or not.
   pub record Polls (needs_memory : State → Exchange → Packet → Bool) (now : ℕ)
-      (answer : Result (Option PublicState) RunError) (old new : Client State Exchange)
-      (drawn left : Option (List ℕ)) (before after : Option Shown) (failed failed' : ℕ) :
+      (answer : Result (Option PublicState) RunError) (old new : Seen (Client State Exchange)) :
       Type 0 where
     -- where words and link are known, this is the poll of the protocol
-    pub polled : UnlessNoMemory answer (WhereKnown drawn before (λ words shown.
-        HasPolled p (poll p now shown.refuses (input_of shown.waiting) (view_of old words))
-        answer (view_of new) left shown after))
+    pub polled : UnlessNoMemory answer (WhereKnown old.words old.shown (λ words shown.
+        HasPolled p (poll p now shown.refuses (input_of shown.waiting) (view_of old.client words))
+        answer (view_of new.client) new.words shown new.shown))
     -- over all words and links: the steps that use neither
-    pub quiet : (words : List ℕ) → IfSome (quiet_poll p now (view_of old words)) (λ once.
-        HasPolledQuietly p once answer (view_of new words)
-        drawn left before after failed failed')
+    pub quiet : (words : List ℕ) → IfSome (quiet_poll p now (view_of old.client words)) (λ once.
+        HasPolledQuietly p once answer words old new)
     -- the time limit is over, now or since an earlier poll
-    pub cause : OnTimeout answer ((words : List ℕ) →
-        (is_stopped old.standing.phase || limit_is_over p now (view_of old words)) ≡ true)
-    pub timeout : new.timeout_sec ≡ old.timeout_sec
+    pub cause : OnTimeout answer ((words : List ℕ) → (is_stopped old.client.standing.phase
+        || limit_is_over p now (view_of old.client words)) ≡ true)
+    pub timeout : new.client.timeout_sec ≡ old.client.timeout_sec
     -- the client keeps the moment, unless out of memory
-    pub moment : UnlessNoMemory answer (new.last_moment ≡ now)
-    pub state : OnErr answer (new.state ≡ old.state)
-    -- without a change nothing is due yet, or an attempt is open, or the link refused
-    pub still : answer ≡ Ok None → IsStill now old new failed failed'
+    pub moment : UnlessNoMemory answer (new.client.last_moment ≡ now)
+    pub state : OnErr answer (new.client.state ≡ old.client.state)
+    -- without a change the state is as it was, and by a lawful protocol nothing is due
+    pub still : answer ≡ Ok None → new.client.state ≡ old.client.state
+    pub settles : Lawful p → answer ≡ Ok None → IsSettled p now new.client
     -- a change is that to the new state
     pub reported : IfOk answer (λ change. IfSome change (λ reported.
-        reported ≡ p.public_state new.state))
+        reported ≡ p.public_state new.client.state))
     -- in a state in which it sends, a client that was polled there has a next attempt
-    pub armed : HasNextAttempt p.has_attempts old → HasNextAttempt p.has_attempts new
+    pub armed : HasNextAttempt p.has_attempts old.client → HasNextAttempt p.has_attempts new.client
+    -- what every change of state preserves
+    pub keeps : Keeps p old.client.state new.client.state
     -- out of memory: as at entry, or right after the send
-    pub memory : OnNoMemory answer (IsUnsent old new before after
-        ⊎ IsSent p now (λ words. begin_stay p now (view_of old words)) new drawn before after)
+    pub memory : OnNoMemory answer (IsUnsent old.client new.client old.shown new.shown
+        ⊎ IsSent p now (λ words. begin_stay p now (view_of old.client words)) new.client old.words
+        old.shown new.shown)
     -- with no attempt due, only the reading of a packet needs memory
-    pub needed : OnNoMemory answer (is_unpolled old.standing.phase ≡ false →
-        has_come now old.standing.deadline ≡ false → NeedsMemory needs_memory old before)
+    pub needed : OnNoMemory answer (is_unpolled old.client.standing.phase ≡ false →
+        has_come now old.client.standing.deadline ≡ false →
+        NeedsMemory needs_memory old.client old.shown)
     -- so too at the first poll of a state, where the words are known
-    pub due : OnNoMemory answer (IfSome drawn (λ words.
-        (has_come now (begin_stay p now (view_of old words)).deadline ≡ true)
-        ⊎ NeedsMemory needs_memory old before))
+    pub due : OnNoMemory answer (IfSome old.words (λ words.
+        (has_come now (begin_stay p now (view_of old.client words)).deadline ≡ true)
+        ⊎ NeedsMemory needs_memory old.client old.shown))
     -- one message and one packet at most
-    pub uses : IfSome before (λ shown. IsSomeAnd after (λ later.
-        UsesLink (is_listening old.standing.phase) shown later))
-    pub later : failed ≤ failed'
+    pub uses : IfSome old.shown (λ before. IsSomeAnd new.shown (λ after.
+        UsesLink (is_listening old.client.standing.phase) before after))
+    pub later : old.faults ≤ new.faults
 
   -- A clean-up.
   pub record CleansUp (old new : Client State Exchange) : Type 0 where
@@ -73,43 +80,58 @@ module _ {PublicState State Exchange Answer Lease : Type 0}
     pub timeout : new.timeout_sec ≡ old.timeout_sec
     pub moment : new.last_moment ≡ old.last_moment
     pub armed : HasNextAttempt p.has_attempts new
+    pub keeps : Keeps p old.state new.state
+    -- no lease is held
+    pub dropped : DropsLease p → p.held_lease new.state ≡ None
+    -- it was not polled in its state yet, so that a script begins with it
+    pub anew : new.standing ≡ unpolled new.standing.exchange
 
-  -- What every release keeps: a client whose lease was not released is as it was but for its last
-  -- moment, of which nothing is said when out of memory.
-  pub record KeepsUnreleased {Returned : Type 0} (now : ℕ) (result : Result Returned ErrorParts)
-      (old new : Client State Exchange) (failed failed' : ℕ) : Type 0 where
-    -- the link refused the message only if its count of faults rose
-    pub faults : HasCause (sent_of result ≡ sent.Refused) failed failed'
+  -- What every release keeps of its client: one whose lease was not released is as it was.
+  pub record KeepsClient {Returned E : Type 0} (result : Result Returned E)
+      (old new : Client State Exchange) : Type 0 where
     pub timeout : new.timeout_sec ≡ old.timeout_sec
     pub state : OnErr result (new.state ≡ old.state)
     pub standing : OnErr result (new.standing ≡ old.standing)
     pub armed : HasNextAttempt p.has_attempts old → HasNextAttempt p.has_attempts new
+    pub keeps : Keeps p old.state new.state
+    -- after it no lease is held
+    pub dropped : DropsLease p → OnOk result (p.held_lease new.state ≡ None)
+
+  -- The same of a release at a moment, which the client keeps; of that nothing is said when out of
+  -- memory.
+  pub record KeepsUnreleased {Returned : Type 0} (now : ℕ) (result : Result Returned ErrorParts)
+      (old new : Client State Exchange) (faults faults' : ℕ) : Type 0 where
+    pub client : KeepsClient result old new
+    pub open client use *
+    -- the link refused the message only if its count of faults rose
+    pub cause : HasCause (sent_of result ≡ sent.Refused) faults faults'
     pub moment : UnlessOutOfMemory (release_answer result) (new.last_moment ≡ now)
 
   -- A release whose message this is, whatever its errors.
   pub record HandsRelease {Returned : Type 0} (message : Handed) (now : ℕ)
       (result : Result Returned ErrorParts) (old new : Client State Exchange)
-      (before after : Option Shown) (failed failed' : ℕ) : Type 0 where
-    pub kept : KeepsUnreleased now result old new failed failed'
+      (before after : Option Shown) (faults faults' : ℕ) : Type 0 where
+    pub kept : KeepsUnreleased now result old new faults faults'
     pub open kept use *
     pub handed : HandsOver message (sent_of result) before after
     -- the link took the message: a clean-up follows
     pub cleaned : OnOk result ((drawn : List ℕ) →
         view_of new drawn ≡ clean_up p (view_of old drawn))
+    pub anew : OnOk result (new.standing ≡ unpolled new.standing.exchange)
 
   -- A release whose message this is.
   pub record Releases {Returned : Type 0} (message : Handed) (now : ℕ)
       (result : Result Returned ErrorParts) (old new : Client State Exchange)
-      (before after : Option Shown) (failed failed' : ℕ) : Type 0 where
-    pub hands : HandsRelease message now result old new before after failed failed'
+      (before after : Option Shown) (faults faults' : ℕ) : Type 0 where
+    pub hands : HandsRelease message now result old new before after faults faults'
     pub open hands use *
     pub errors : IfErr result (λ error. (error ≡ send_refused) ⊎ (error ≡ no_memory))
 
   -- The release of the lease that is held, if one is.
   pub record ReleasesHeld (now : ℕ) (result : Result Bool ErrorParts)
-      (old new : Client State Exchange) (before after : Option Shown) (failed failed' : ℕ) :
+      (old new : Client State Exchange) (before after : Option Shown) (faults faults' : ℕ) :
       Type 0 where
-    pub kept : KeepsUnreleased now result old new failed failed'
+    pub kept : KeepsUnreleased now result old new faults faults'
     pub open kept use *
     -- where the link is known, this is the release of the protocol
     pub released : UnlessOutOfMemory (release_answer result) (IfSome before (λ shown.
@@ -120,6 +142,8 @@ module _ {PublicState State Exchange Answer Lease : Type 0}
     -- a clean-up follows if one was
     pub cleaned : IfOk result (λ released. (drawn : List ℕ) → view_of new drawn ≡
         (if released then clean_up p (view_of old drawn) else view_of old drawn))
+    pub anew : IfOk result (λ released. released ≡ true →
+        new.standing ≡ unpolled new.standing.exchange)
     -- out of memory: a lease is held, and nothing was sent
     pub needed : OnOutOfMemory (release_answer result) (is_some (p.held_lease old.state) ≡ true)
     pub unsent : OnOutOfMemory (release_answer result) (after ≡ before)
@@ -136,6 +160,7 @@ module _ {PublicState State Exchange Answer Lease : Type 0}
     -- the client keeps the moment of the last event
     pub moment : OnOk result (new.last_moment ≡ last_moment old.last_moment events)
     pub armed : HasNextAttempt p.has_attempts old → HasNextAttempt p.has_attempts new
+    pub keeps : Keeps p old.state new.state
     pub error : IfErr result (λ error. error ≡ no_memory)
 
   -- what is reported is that of the history of the script, where the client begins as that says
@@ -167,6 +192,18 @@ module _ {PublicState State Exchange Answer Lease : Type 0}
     pub after : (now : ℕ) (refuse : Bool) (drawn : List ℕ) → has_come now result ≡ true →
         IsActive (view_of client drawn) (poll p now refuse Nothing (view_of client drawn))
 
+  -- Whether a poll at this moment asks its link for a packet, unless the link refuses what the poll
+  -- sends.
+  pub record HasListening (now : ℕ) (result : Bool) (client : Client State Exchange) :
+      Type 0 where
+    pub listening : (drawn : List ℕ) → result ≡ may_ask p now (view_of client drawn)
+    -- a client that was polled in its state asks if and only if this is true
+    pub asking : is_unpolled client.standing.phase ≡ false → (drawn : List ℕ) →
+        result ≡ asks p now false (view_of client drawn)
+    -- if it is false no poll asks, over whatever link
+    pub deaf : result ≡ false → (refuse : Bool) (drawn : List ℕ) →
+        asks p now refuse (view_of client drawn) ≡ false
+
 -- 2. The calls of a client with its configuration.
 
 -- what contracts see of a client: its configuration, and the client of its rules
@@ -174,19 +211,26 @@ pub record ClientParts (Config State Exchange : Type 0) : Type 0 where
   pub config : Config
   pub client : Client State Exchange
 
+-- the client of its rules, with the same words and link
+abbrev pub rules_seen : {Config State Exchange : Type 0} →
+    Seen (ClientParts Config State Exchange) → Seen (Client State Exchange)
+rules_seen parts = seen parts.client.client parts.words parts.shown parts.faults
+
 module _ {Config PublicState State Exchange Answer Lease : Type 0}
     (protocol : Config → Protocol PublicState Packet Handed State Exchange Answer Lease) where
-  -- One poll, with the errors of a client's calls. What it returns is seen as a public state.
+  -- One poll, with the errors of a client's calls, by a client whose protocol is lawful. What it
+  -- returns is seen as a public state.
   pub record IsRun {Returned : Type 0} (view : Returned → PublicState)
       (needs_memory : State → Exchange → Packet → Bool) (now : ℕ)
-      (result : Result (Option Returned) ErrorParts) (old new : ClientParts Config State Exchange)
-      (drawn left : Option (List ℕ)) (before after : Option Shown) (failed failed' : ℕ) :
-      Type 0 where
-    pub polls : Polls (protocol old.config) needs_memory now (run_answer view result)
-        old.client new.client drawn left before after failed failed'
+      (result : Result (Option Returned) ErrorParts)
+      (old new : Seen (ClientParts Config State Exchange)) : Type 0 where
+    pub polls : Polls (protocol old.client.config) needs_memory now (run_answer view result)
+        (rules_seen old) (rules_seen new)
     pub open polls use *
+    -- without a change nothing is due
+    pub settled : result ≡ Ok None → IsSettled (protocol old.client.config) now new.client.client
     pub errors : IfErr result (λ error. (error ≡ timed_out) ⊎ (error ≡ no_memory))
-    pub config : new.config ≡ old.config
+    pub config : new.client.config ≡ old.client.config
 
   -- A clean-up.
   pub record IsCleanUp (old new : ClientParts Config State Exchange) : Type 0 where
@@ -197,18 +241,18 @@ module _ {Config PublicState State Exchange Answer Lease : Type 0}
   -- A release whose message this is.
   pub record IsRelease {Returned : Type 0} (message : Handed) (now : ℕ)
       (result : Result Returned ErrorParts) (old new : ClientParts Config State Exchange)
-      (before after : Option Shown) (failed failed' : ℕ) : Type 0 where
+      (before after : Option Shown) (faults faults' : ℕ) : Type 0 where
     pub releases : Releases (protocol old.config) message now result old.client new.client
-        before after failed failed'
+        before after faults faults'
     pub open releases use *
     pub config : new.config ≡ old.config
 
   -- The release of the lease that is held, if one is.
   pub record IsHeldRelease (now : ℕ) (result : Result Bool ErrorParts)
       (old new : ClientParts Config State Exchange) (before after : Option Shown)
-      (failed failed' : ℕ) : Type 0 where
+      (faults faults' : ℕ) : Type 0 where
     pub releases : ReleasesHeld (protocol old.config) now result old.client new.client
-        before after failed failed'
+        before after faults faults'
     pub open releases use *
     pub config : new.config ≡ old.config
 
@@ -218,6 +262,12 @@ module _ {Config PublicState State Exchange Answer Lease : Type 0}
     pub next : HasNextPoll (protocol parts.config) result parts.client
     pub open next use *
     pub stopped : is_some result ≡ not (is_stopped parts.client.standing.phase)
+
+  -- Whether a poll at this moment asks its link for a packet.
+  pub record IsListening (now : ℕ) (result : Bool) (parts : ClientParts Config State Exchange) :
+      Type 0 where
+    pub listens : HasListening (protocol parts.config) now result parts.client
+    pub open listens use *
 
   -- The events of a script, played, by a client whose protocol is lawful.
   pub record IsReplay {Returned : Type 0} (result : Result Returned ErrorParts)

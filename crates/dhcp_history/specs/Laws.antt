@@ -1,12 +1,13 @@
 -- What the laws say of the polls of a lawful protocol, over every event and script.
-use Rattle.std.specs.Prelude.{◌≡◌, ◌≤◌, ℕ}
+use Rattle.std.specs.Prelude.{◌≡◌, ◌≤◌, ℕ, List}
 use Rattle.dhcp_clock.specs.declared.link.Handed.{Handed}
 use Rattle.dhcp_clock.specs.declared.link.Packet.{Packet}
 use Rattle.dhcp_history.specs.Protocol.{Protocol}
 use Rattle.dhcp_history.specs.Script.{Event, Script}
 use Rattle.dhcp_history.specs.History.{history, outputs}
 use Rattle.dhcp_history.specs.Machine as machine
-use Rattle.dhcp_history.specs.Machine.{View, replay}
+use Rattle.dhcp_history.specs.Machine.{View, first_view, replay}
+use Rattle.dhcp_history.specs.RealRun.{Polled, Steady, events_of, run_from}
 use Rattle.dhcp_history.specs.Bounds.{IsWithinState, count_of, is_change, is_send, poll_count}
 
 module _ {PublicState State Exchange Answer Lease : Type 0}
@@ -35,6 +36,12 @@ module _ {PublicState State Exchange Answer Lease : Type 0}
   abbrev pub IsNeverOverdue : Type 0
   IsNeverOverdue = (event : Event Packet) (client : View State Exchange) →
       IsWithinState p event.moment (machine.polls p 7 event client).view
+
+  -- What a run over any link reports is what the history of the script reports that the run is.
+  abbrev pub RunsAreScripts : Type 0
+  RunsAreScripts = (script : Script Packet State Exchange) (qs : List Polled) →
+      Steady p (first_view script) qs → script.events ≡ events_of p (first_view script) qs →
+      (run_from p (first_view script) qs).outputs ≡ outputs p (history p script)
 
   -- what holds of the polls of a lawful protocol: all of these
   pub record KeepsLaws : Type 0 where

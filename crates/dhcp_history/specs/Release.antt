@@ -1,5 +1,5 @@
 -- What a release does, and what it leaves.
-use Rattle.std.specs.Prelude.{◌≡◌, Bool, true, false, Option, Some, None, Result, Ok, Err}
+use Rattle.std.specs.Prelude.{◌≡◌, Bool, true, false, Option, Some, None, option_map, Result, Ok, Err}
 use Rattle.dhcp_clock.specs.declared.link.Packet.{Packet}
 use Rattle.dhcp_clock.specs.declared.link.Handed.{Handed}
 use Rattle.dhcp_clock.specs.Link.{Shown}
@@ -29,6 +29,11 @@ pub record ReleaseEffect (State Exchange : Type 0) : Type 0 where
 
 module _ {PublicState State Exchange Answer Lease : Type 0}
     (p : Protocol PublicState Packet Handed State Exchange Answer Lease) where
+  -- the message that releases the lease that is held, if one is
+  abbrev pub held_message : State → Exchange → Option Handed
+  held_message state exchange =
+      option_map (λ lease. p.release_message lease exchange) (p.held_lease state)
+
   -- no lease is held; the link refuses the message; or it takes it, and a clean-up follows
   abbrev pub release_by : Option Lease → Bool → View State Exchange → ReleaseEffect State Exchange
   release_by None refuse view = record { view = view; handed = None; answer = Ok false }

@@ -5,7 +5,6 @@ use Rattle.dhcp_clock.specs.declared.link.Handed.{Handed}
 use Rattle.dhcp_clock.specs.declared.link.Sent.{Sent}
 use Rattle.dhcp_clock.specs.declared.link.Sent.TheVariants.{Taken, Refused}
 use Rattle.dhcp_clock.specs.Link.{Shown, with_message}
-use Rattle.dhcp_wire.specs.Fault.{Rose}
 use Rattle.dhcp_history.specs.declared.machine.RunError.{RunError}
 use Rattle.dhcp_history.specs.declared.machine.RunError.TheVariants as run
 use Rattle.dhcp_history.specs.declared.client.Client.{Client}
@@ -15,6 +14,7 @@ use Rattle.dhcp_history.specs.Protocol.{Protocol, has_come}
 use Rattle.dhcp_history.specs.Script.{Input, Nothing, Arrival, Release, CleanUp}
 use Rattle.dhcp_history.specs.History.{first_due}
 use Rattle.dhcp_history.specs.Client.{view_of}
+use Rattle.dhcp_history.specs.Seen.{Seen}
 use Rattle.dhcp_history.specs.Machine.{View, PollEffect, stop, begin_stay, end_state, attempt_now, transmit, is_unpolled, is_listening, is_stopped, limit_is_over, has_ended}
 
 -- 1. The link.
@@ -121,16 +121,16 @@ module _ {PublicState State Exchange Answer Lease : Type 0}
       })
       else None))
 
-  -- what such a poll leaves: its answer and the client; words and link are as they were
+  -- what such a poll leaves: its answer and the client, with these words left; words and link are
+  -- as they were
   pub record HasPolledQuietly (once : PollEffect Packet Handed State Exchange)
-      (result : Result (Option PublicState) RunError) (view : View State Exchange)
-      (drawn left : Option (List ℕ)) (before after : Option Shown) (failed failed' : ℕ) :
-      Type 0 where
+      (result : Result (Option PublicState) RunError) (drawn : List ℕ)
+      (old new : Seen (Client State Exchange)) : Type 0 where
     pub answer : result ≡ answer_of once
-    pub client : view ≡ once.view
-    pub words : left ≡ drawn
-    pub link : after ≡ before
-    pub faults : failed' ≡ failed
+    pub client : view_of new.client drawn ≡ once.view
+    pub words : new.words ≡ old.words
+    pub link : new.shown ≡ old.shown
+    pub faults : new.faults ≡ old.faults
 
   -- what a poll leaves: its answer, the client, the words and the link
   pub record HasPolled (once : PollEffect Packet Handed State Exchange)
@@ -178,14 +178,6 @@ module _ {PublicState State Exchange Answer Lease : Type 0}
         transmit p now shown.refuses (first words)))
     pub link : IfSome before (λ shown. IsSomeAnd after (λ later. HasHanded Taken shown later))
 
--- What stands after a poll that returns no change: the state is as it was; and nothing is due yet,
--- or an attempt is open, or the link's count of faults rose.
-pub record IsStill {State Exchange : Type 0} (now : ℕ) (old new : Client State Exchange)
-    (failed failed' : ℕ) : Type 0 where
-  pub state : new.state ≡ old.state
-  pub cause : (has_come now new.standing.deadline ≡ false) ⊎
-      ((is_listening new.standing.phase ≡ true) ⊎ Rose failed failed')
-
 -- the client is as this view, with these words left
 pub record HasDrawn {State Exchange : Type 0} (is : View State Exchange)
     (view : List ℕ → View State Exchange) (left : Option (List ℕ)) : Type 0 where
@@ -194,14 +186,13 @@ pub record HasDrawn {State Exchange : Type 0} (is : View State Exchange)
 
 -- A client that does not listen takes no packet: it stands so, and words and link are as they were.
 pub record IsShut {A E State Exchange : Type 0} (result : Result (Option A) E)
-    (client : Client State Exchange) (old_state : State) (begun : Standing Exchange)
-    (drawn left : Option (List ℕ)) (before after : Option Shown) (failed failed' : ℕ) : Type 0 where
+    (begun : Standing Exchange) (old new : Seen (Client State Exchange)) : Type 0 where
   pub answer : result ≡ Ok None
-  pub state : client.state ≡ old_state
-  pub standing : client.standing ≡ begun
-  pub words : left ≡ drawn
-  pub link : after ≡ before
-  pub faults : failed' ≡ failed
+  pub state : new.client.state ≡ old.client.state
+  pub standing : new.client.standing ≡ begun
+  pub words : new.words ≡ old.words
+  pub link : new.shown ≡ old.shown
+  pub faults : new.faults ≡ old.faults
 
 -- Out of memory came before a message was handed to the link: the client stands as it stood.
 pub record IsUnsent {State Exchange : Type 0} (old new : Client State Exchange)

@@ -1,7 +1,7 @@
 -- When a client next does something without a packet.
 use Rattle.std.specs.Prelude.{◌≡◌, ℕ, min, Bool, true, false, ◌&&◌, ◌||◌, is_some, Option, Some, None, if◌then◌else◌}
 use Rattle.dhcp_history.specs.declared.client.Client.{Client}
-use Rattle.dhcp_history.specs.Protocol.{Protocol}
+use Rattle.dhcp_history.specs.Protocol.{Protocol, has_come}
 use Rattle.dhcp_history.specs.Script.{Nothing}
 use Rattle.dhcp_history.specs.History.{limit_moment}
 use Rattle.dhcp_history.specs.Machine.{View, PollEffect, Phase, Unpolled, Pausing, Listening, Resting, Stopped, is_unpolled, begin_stay}
@@ -61,3 +61,10 @@ module _ {PublicState Packet Message State Exchange Answer Lease : Type 0}
       failed = false;
     }
     pub draws : (begin_stay p now view).words ≡ view.words
+
+  -- Nothing is due: the client was polled in its state, which has not ended, and has nothing to do
+  -- by itself until a later moment, if it ever has.
+  pub record IsSettled (now : ℕ) (client : Client State Exchange) : Type 0 where
+    pub polled : is_unpolled client.standing.phase ≡ false
+    pub lasts : has_come now (p.ending_moment client.state) ≡ false
+    pub later : has_come now (next_poll client) ≡ false

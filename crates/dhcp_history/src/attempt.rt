@@ -2,10 +2,13 @@
 
 ghost use Rattle.std.specs.Prelude.{◌≡◌, ◌≤◌, ◌<◌, ◌^◌, ◌⊎◌, true, false, not, Some, None, is_some, Ok, OnOk, OnErr, IfOk, IfSome};
 ghost use Rattle.dhcp_clock.specs.declared.link.Handed.{Handed};
-ghost use Rattle.dhcp_clock.specs.Link.{HandsOver, with_message, without_packet};
-ghost use Rattle.dhcp_wire.specs.Fault.{HasCause, Rose};
-ghost use Rattle.dhcp_history.specs.Machine.{is_unpolled, is_listening, receive};
+ghost use Rattle.dhcp_clock.specs.declared.link.Packet.{Packet};
+ghost use Rattle.dhcp_clock.specs.Link.{Gives, Hands, HandsOver, with_message, without_packet};
+ghost use Rattle.dhcp_wire.specs.Fault.{HasCause};
+ghost use Rattle.dhcp_history.specs.Machine.{is_unpolled, is_pausing, is_listening, receive};
 ghost use Rattle.dhcp_history.specs.Client.{view_of, view_with};
+ghost use Rattle.dhcp_history.specs.Seen.{seen};
+ghost use Rattle.dhcp_history.specs.Traced.{Hears, Transmits};
 ghost use Rattle.dhcp_history.specs.Run.{
   input_of,
   sent_by,
@@ -25,6 +28,7 @@ use std::alloc::AllocError;
 /// Hands a message to a link as its kind asks: a frame, or a payload over IPv4 or IPv6.
 pub fn send<L: DhcpLink>(link: &mut L, message: Handed) -> Sent
     ensures hands_over { HandsOver message result (L.shown link.old) (L.shown link.new) }
+    ensures moved { L.moves (Hands message result) link.old link.new }
     ensures faults { HasCause (result ≡ Sent.Refused) (L.faults link.old) (L.faults link.new) }
 {
     match message {
@@ -32,6 +36,20 @@ pub fn send<L: DhcpLink>(link: &mut L, message: Handed) -> Sent
         Handed::Udp4(from, to, bytes) => link.send_udp4(from, to, bytes),
         Handed::Udp6(from, index, bytes) => link.send_udp6(from, index, bytes),
     }
+}
+
+// Whether a client has sent nothing yet in its state.
+fn is_pausing(phase: Phase) -> bool
+    ensures { result ≡ is_pausing phase }
+{
+    phase == Phase::Pausing
+}
+
+// Whether an attempt is open.
+fn is_listening(phase: Phase) -> bool
+    ensures { result ≡ is_listening phase }
+{
+    phase == Phase::Listening
 }
 
 // Step 5: an attempt of a client that stands so once it was polled. When out of memory the client
@@ -50,11 +68,16 @@ pub(crate) fn transmit<R: Rules, W: Words, L: DhcpLink>(
         (W.left words.old) (L.shown link.old) (λ drawn before.
         HasTransmitted (R.protocol rules.now) now (view_with client.old begun drawn)
         (view_of client.new) (W.left words.new) before (L.shown link.new))) }
+    ensures traced { OnOk result (Transmits (R.protocol rules.now) W.gives L.moves now
+        (view_with client.old begun) (view_of client.new)
+        words.old words.new link.old link.new) }
     ensures state { client.new.state ≡ client.old.state }
     ensures timeout { client.new.timeout_sec ≡ client.old.timeout_sec }
     ensures moment { OnOk result (client.new.last_moment ≡ now) }
     ensures unchanged { OnErr result (IsUnsent client.old client.new
         (L.shown link.old) (L.shown link.new)) }
+    ensures unmade { OnErr result ((link.new ≡ link.old)
+        ⊎ ((message : Handed) × L.moves (Hands message Sent.NoMemory) link.old link.new)) }
     ensures quiet { OnErr result (IfSome (L.shown link.old)
         (λ before. L.shown link.new ≡ Some before)) }
     ensures sent { OnOk result (IfSome (L.shown link.old) (λ before. (message : Handed)
@@ -62,12 +85,10 @@ pub(crate) fn transmit<R: Rules, W: Words, L: DhcpLink>(
     ensures armed { OnOk result (is_some client.new.standing.deadline ≡ true) }
     ensures listens { OnOk result (IfSome (L.shown link.old) (λ before.
         is_listening client.new.standing.phase ≡ not before.refuses)) }
-    ensures cause { OnOk result ((is_listening client.new.standing.phase ≡ true)
-        ⊎ Rose (L.faults link.old) (L.faults link.new)) }
     ensures later { L.faults link.old ≤ L.faults link.new }
 {
     let start = AttemptStart {
-        is_first: begun.phase == Phase::Pausing,
+        is_first: is_pausing(begun.phase),
         entered: begun.entered,
         now,
     };
@@ -108,27 +129,32 @@ pub(crate) fn receive<R: Rules, W: Words, L: DhcpLink>(
         (receive (R.protocol rules.now) now (input_of before.waiting) None
         (view_of client.old drawn))
         change (view_of client.new) (W.left words.new) before (L.shown link.new))) }
+    ensures traced { IfOk result (λ change. Hears (R.protocol rules.now) W.gives L.moves
+        (is_listening client.old.standing.phase) now change
+        (view_of client.old) (view_of client.new) words.old words.new link.old link.new) }
     ensures timeout { client.new.timeout_sec ≡ client.old.timeout_sec }
     ensures moment { client.new.last_moment ≡ client.old.last_moment }
     ensures state { OnErr result (client.new.state ≡ client.old.state) }
     ensures standing { OnErr result (client.new.standing ≡ client.old.standing) }
     ensures needed { OnErr result (NeedsMemory (R.needs_memory rules.now)
         client.old (L.shown link.old)) }
-    ensures still { result ≡ Ok None → (client.new.standing ≡ client.old.standing)
-        × (client.new.state ≡ client.old.state) }
+    ensures lost { OnErr result
+        ((packet : Packet) × L.moves (Gives (Some packet)) link.old link.new) }
+    ensures still { result ≡ Ok None → client.new.state ≡ client.old.state }
     ensures reported { IfOk result (λ change. IfSome change (λ reported.
         reported ≡ (R.protocol rules.now).public_state client.new.state)) }
     ensures stays { ((client.new.standing ≡ client.old.standing)
         × (client.new.state ≡ client.old.state))
         ⊎ (is_unpolled client.new.standing.phase ≡ true) }
-    ensures shut { is_listening client.old.standing.phase ≡ false → IsShut result client.new
-        client.old.state client.old.standing (W.left words.old) (W.left words.new)
-        (L.shown link.old) (L.shown link.new) (L.faults link.old) (L.faults link.new) }
+    ensures shut { is_listening client.old.standing.phase ≡ false → IsShut result
+        client.old.standing
+        (seen client.old (W.left words.old) (L.shown link.old) (L.faults link.old))
+        (seen client.new (W.left words.new) (L.shown link.new) (L.faults link.new)) }
     ensures packet { IfSome (L.shown link.old) (λ before.
         (L.shown link.new ≡ Some before) ⊎ (L.shown link.new ≡ Some (without_packet before))) }
     ensures later { L.faults link.old ≤ L.faults link.new }
 {
-    if client.standing.phase != Phase::Listening {
+    if !is_listening(client.standing.phase) {
         return Ok(None);
     }
     let packet = match link.receive() {

@@ -7,6 +7,7 @@ ghost use Rattle.dhcp_history.specs.Calls.{Replays};
 ghost use Rattle.dhcp_history.specs.Script.{Release, input_after_call};
 ghost use Rattle.dhcp_history.specs.Machine.{poll, handed_output};
 ghost use Rattle.dhcp_history.specs.Client.{view_of};
+ghost use Rattle.dhcp_history.specs.Kept.{Keeps};
 ghost use Rattle.dhcp_history.specs.Schedule.{HasNextAttempt};
 ghost use Rattle.dhcp_history.specs.Run.{input_of};
 ghost use Rattle.dhcp_history.specs.EventLoop.{
@@ -167,6 +168,7 @@ fn poll_once<R: Rules, W: Words>(
     ensures moment { OnOk result (client.new.last_moment ≡ at.moment) }
     ensures armed { HasNextAttempt (R.protocol rules.now).has_attempts client.old →
         HasNextAttempt (R.protocol rules.now).has_attempts client.new }
+    ensures keeps { Keeps (R.protocol rules.now) client.old.state client.new.state }
 {
     let polled = run(rules, client, at.moment, words, link);
     let handed = take_message(link);
@@ -192,6 +194,7 @@ fn poll_event<R: Rules, W: Words>(
     ensures moment { OnOk result (client.new.last_moment ≡ at.moment) }
     ensures armed { HasNextAttempt (R.protocol rules.now).has_attempts client.old →
         HasNextAttempt (R.protocol rules.now).has_attempts client.new }
+    ensures keeps { Keeps (R.protocol rules.now) client.old.state client.new.state }
 {
     for _ in 0..7u32 {
         if !poll_once(rules, client, words, link, at, outputs)? {
@@ -217,6 +220,7 @@ fn release_event<R: Rules>(
     ensures link { OnOk result (link.new.shown ≡ link.old.shown) }
     ensures armed { HasNextAttempt (R.protocol rules.now).has_attempts client.old →
         HasNextAttempt (R.protocol rules.now).has_attempts client.new }
+    ensures keeps { Keeps (R.protocol rules.now) client.old.state client.new.state }
 {
     let released = release_held(rules, client, link);
     let handed = take_message(link);
@@ -243,6 +247,7 @@ fn call_event<R: Rules>(
     ensures packet { OnOk result (input_of link.new.shown.waiting ≡ input_after_call input) }
     ensures armed { HasNextAttempt (R.protocol rules.now).has_attempts client.old →
         HasNextAttempt (R.protocol rules.now).has_attempts client.new }
+    ensures keeps { Keeps (R.protocol rules.now) client.old.state client.new.state }
 {
     match input {
         Input::Nothing => Ok(()),
@@ -275,6 +280,7 @@ pub fn run_event<R: Rules, W: Words>(
     ensures moment { OnOk result (client.new.last_moment ≡ event.moment) }
     ensures armed { HasNextAttempt (R.protocol rules.now).has_attempts client.old →
         HasNextAttempt (R.protocol rules.now).has_attempts client.new }
+    ensures keeps { Keeps (R.protocol rules.now) client.old.state client.new.state }
 {
     let at = EventHead {
         number: event.number,
@@ -303,6 +309,7 @@ fn run_events<R: Rules, W: Words>(
         (client.new.last_moment ≡ last_moment client.old.last_moment events.items) }
     ensures armed { HasNextAttempt (R.protocol rules.now).has_attempts client.old →
         HasNextAttempt (R.protocol rules.now).has_attempts client.new }
+    ensures keeps { Keeps (R.protocol rules.now) client.old.state client.new.state }
 {
     let mut outputs = Vec::new(alloc);
     for event in events {

@@ -1,13 +1,21 @@
 //! The laws of histories, over all rules and every script; most ask that the rules are lawful. Each
 //! is the clause of a function that does nothing.
 
-ghost use Rattle.std.specs.Prelude.{◌≡◌, ◌≤◌, ℕ, All, Bool, true};
+ghost use Rattle.std.specs.Prelude.{◌≡◌, ◌≤◌, ◌⊎◌, ℕ, All, Bool, true, List, Option, Some, Ok};
+ghost use Rattle.dhcp_clock.specs.Link.{Turn};
+ghost use Rattle.dhcp_history.specs.declared.client.Client.{Client};
+ghost use Rattle.dhcp_history.specs.HeardBy.{IsEnded, IsHeard};
+ghost use Rattle.dhcp_history.specs.Machine.{View};
+ghost use Rattle.dhcp_history.specs.RealCalls.{AreRun, AreScript, Call, CallsLead, Disciplined};
+ghost use Rattle.dhcp_history.specs.Client.{unpolled};
+ghost use Rattle.dhcp_history.specs.Traced.{IsPollBy};
 ghost use Rattle.dhcp_clock.specs.declared.link.Packet.{Packet};
 ghost use Rattle.dhcp_history.specs.Protocol.{Lawful};
 ghost use Rattle.dhcp_history.specs.Script.{Script};
 ghost use Rattle.dhcp_history.specs.History.{history, outputs};
 ghost use Rattle.dhcp_history.specs.Laws.{
   PollsGiveTheHistory,
+  RunsAreScripts,
   HasSevenPolls,
   HasTwoMessages,
   IsNeverOverdue,
@@ -30,11 +38,59 @@ ghost use Rattle.dhcp_history.specs.Bounds.{
 };
 
 use crate::Rules;
+use dhcp_clock::{DhcpLink, Words};
 
 /// What the calls and polls of a script report, event by event, is what the history of the script
 /// reports.
 pub fn polls_give_the_history<R: Rules>(rules: &R)
     ensures { Lawful (R.protocol rules.now) → PollsGiveTheHistory (R.protocol rules.now) }
+{
+    let _rules = rules;
+}
+
+/// What a run of polls over any link reports is what the history of a script reports: the run is
+/// that script.
+pub fn runs_are_scripts<R: Rules>(rules: &R)
+    ensures { Lawful (R.protocol rules.now) → RunsAreScripts (R.protocol rules.now) }
+{
+    let _rules = rules;
+}
+
+/// Calls that follow one another, over any link and any source of words, are the polls of a run.
+pub fn calls_are_a_run<R: Rules, W: Words, L: DhcpLink>(rules: &R, words: &W, link: &L)
+    ensures { (calls : List (Call R.PublicState)) (old new : Client R.State R.Exchange)
+        (first last : W) (here there : L) →
+        CallsLead (R.protocol rules.now) W.gives L.moves calls old first here new last there →
+        AreRun (R.protocol rules.now) W.gives L.moves calls old first here new last there }
+{
+    let _rules = rules;
+    let _words = words;
+    let _link = link;
+}
+
+/// Calls over any link and any source of words, from a client that was not polled yet, that poll
+/// again at once after each change, are a script: what they report is what its history reports.
+pub fn calls_are_a_script<R: Rules, W: Words, L: DhcpLink>(rules: &R, words: &W, link: &L)
+    ensures { Lawful (R.protocol rules.now) →
+        (calls : List (Call R.PublicState)) (old new : Client R.State R.Exchange)
+        (first last : W) (here there : L) →
+        CallsLead (R.protocol rules.now) W.gives L.moves calls old first here new last there →
+        Disciplined calls → old.standing ≡ unpolled old.standing.exchange →
+        AreScript (R.protocol rules.now) W.gives L.moves calls old first here new last there }
+{
+    let _rules = rules;
+    let _words = words;
+    let _link = link;
+}
+
+/// A change that a poll reports, over any link, comes from the end of the state, or from a packet
+/// that this very poll was given and that answers the open attempt by the protocol.
+pub fn changes_are_heard<R: Rules>(rules: &R)
+    ensures { (now : ℕ) (refuse : Bool) (packet : Option Packet) (turns : List Turn)
+        (reported : R.PublicState) (old new : View R.State R.Exchange) →
+        IsPollBy (R.protocol rules.now) now refuse packet turns (Ok (Some reported)) old new →
+        IsEnded (R.protocol rules.now) now old new
+        ⊎ IsHeard (R.protocol rules.now) now refuse packet old new }
 {
     let _rules = rules;
 }

@@ -25,6 +25,6 @@ pub use machine::{RunError, run};
 pub use release::{ReleaseError, clean_up, release_by, release_held};
 pub use reported::{Plain, Reported};
 pub use rules::{AttemptStart, NewAttempt, Rules};
-pub use schedule::next_poll;
+pub use schedule::{is_listening, next_poll};
 pub use script::{Event, Failure, Input, Output, Report};
 pub use timed_release::{release_at, release_held_at};

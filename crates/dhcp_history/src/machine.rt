@@ -7,9 +7,14 @@ ghost use Rattle.dhcp_history.specs.Protocol.{has_come, pause_of};
 ghost use Rattle.dhcp_history.specs.History.{limit_moment, after_wait_if};
 ghost use Rattle.dhcp_history.specs.Machine.{is_unpolled, is_listening, is_stopped, limit_is_over, has_ended, exchange_at, enter, begin_stay, receive, transmit_and_receive, poll};
 ghost use Rattle.dhcp_history.specs.Calls.{Polls};
+ghost use Rattle.dhcp_history.specs.Seen.{seen};
+ghost use Rattle.dhcp_history.specs.Work.{HasWorked};
 ghost use Rattle.dhcp_history.specs.Schedule.{HasNextAttempt};
 ghost use Rattle.dhcp_history.specs.Client.{view_of, view_with, unpolled, silent};
-ghost use Rattle.dhcp_history.specs.Run.{input_of, UsesLink, WhereKnown, UnlessNoMemory, OnTimeout, HasPolled, HasDrawn, HasDue, IsShut, IsStill, NeedsMemory, IsUnsent, IsSent};
+ghost use Rattle.dhcp_clock.specs.Words.{DrawsBy};
+ghost use Rattle.dhcp_history.specs.Traced.{StepsBy, Traces, Works, due_of};
+ghost use Rattle.dhcp_history.specs.Turns.{PollsUnheard, RunsOut, TakesTurns, WorksUnheard};
+ghost use Rattle.dhcp_history.specs.Run.{input_of, UsesLink, WhereKnown, UnlessNoMemory, OnNoMemory, OnTimeout, HasPolled, HasDrawn, HasDue, IsShut, NeedsMemory, IsUnsent, IsSent};
 
 use crate::attempt::{receive, transmit};
 use crate::schedule::limit_moment;
@@ -26,7 +31,7 @@ pub enum RunError {
 }
 
 // Whether there is such a moment, and it has come.
-fn has_come(now: u64, moment: Option<u64>) -> bool
+pub(crate) fn has_come(now: u64, moment: Option<u64>) -> bool
     ensures { result ≡ has_come now moment }
 {
     match moment {
@@ -36,32 +41,22 @@ fn has_come(now: u64, moment: Option<u64>) -> bool
 }
 
 // Step 1: whether an error is kept.
-fn is_stopped(phase: Phase) -> bool
+pub(crate) fn is_stopped(phase: Phase) -> bool
     ensures { result ≡ is_stopped phase }
 {
     phase == Phase::Stopped
 }
 
-// Whether the time limit of the state is over, for a client that was polled in it.
-fn limit_has_come<R: Rules>(rules: &R, client: &Client<R::State, R::Exchange>, now: u64) -> bool
-    ensures { result ≡ has_come now (limit_moment (R.protocol rules.now)
-        client.now.timeout_sec client.now.standing.entered client.now.state) }
-{
-    has_come(now, limit_moment(rules, client))
-}
-
 // Step 2: whether the time limit is over; it counts from the first poll in a state on.
-fn limit_is_over<R: Rules>(rules: &R, client: &Client<R::State, R::Exchange>, now: u64) -> bool
+pub(crate) fn limit_is_over<R: Rules>(
+    rules: &R,
+    client: &Client<R::State, R::Exchange>,
+    now: u64,
+) -> bool
     ensures { (drawn : List ℕ) →
         result ≡ limit_is_over (R.protocol rules.now) now (view_of client.now drawn) }
 {
-    match client.standing.phase {
-        Phase::Unpolled => false,
-        Phase::Pausing => limit_has_come(rules, client, now),
-        Phase::Listening => limit_has_come(rules, client, now),
-        Phase::Resting => limit_has_come(rules, client, now),
-        Phase::Stopped => limit_has_come(rules, client, now),
-    }
+    client.standing.phase != Phase::Unpolled && has_come(now, limit_moment(rules, client))
 }
 
 // Whether the wait of an open attempt is over.
@@ -73,7 +68,11 @@ fn is_wait_over<X: Copy>(standing: Standing<X>, now: u64) -> bool
 
 // Step 3: whether the state ends, since its moment has come or the wait of its last attempt is
 // over.
-fn has_ended<R: Rules>(rules: &R, client: &Client<R::State, R::Exchange>, now: u64) -> bool
+pub(crate) fn has_ended<R: Rules>(
+    rules: &R,
+    client: &Client<R::State, R::Exchange>,
+    now: u64,
+) -> bool
     ensures { (drawn : List ℕ) →
         result ≡ has_ended (R.protocol rules.now) now (view_of client.now drawn) }
 {
@@ -133,6 +132,9 @@ fn first_due<R: Rules, W: Words>(
         HasDue (R.protocol rules.now) now client.now.state
         (pause_of (R.protocol rules.now) client.now.state client.now.standing.exchange drawn)
         result (W.left words.new)) }
+    ensures taken { DrawsBy W.gives
+        (due_of (R.protocol rules.now) now client.now.state client.now.standing.exchange)
+        words.old result words.new }
     ensures armed { (R.protocol rules.now).has_attempts client.now.state ≡ true →
         is_some result ≡ true }
     ensures silent { (R.protocol rules.now).has_attempts client.now.state ≡ false →
@@ -157,6 +159,8 @@ fn begin_stay<R: Rules, W: Words>(
     ensures drawn { IfSome (W.left words.old) (λ drawn.
         HasDrawn (begin_stay (R.protocol rules.now) now (view_of client.now drawn))
         (view_with client.now result) (W.left words.new)) }
+    ensures taken { StepsBy W.gives (begin_stay (R.protocol rules.now) now)
+        (view_of client.now) (view_with client.now result) words.old words.new }
     ensures listens { is_listening result.phase ≡ is_listening client.now.standing.phase }
     ensures open { is_listening result.phase ≡ true → result ≡ client.now.standing }
     ensures polled { is_unpolled client.now.standing.phase ≡ false →
@@ -193,24 +197,15 @@ fn receive_early<R: Rules, W: Words, L: DhcpLink>(
     requires small { begun.entered < 2 ^ 60 }
     requires early { has_come now begun.deadline ≡ false }
     requires open { is_listening begun.phase ≡ true → begun ≡ client.old.standing }
-    ensures polled { UnlessNoMemory result (WhereKnown
-        (W.left words.old) (L.shown link.old) (λ drawn before.
-        HasPolled (R.protocol rules.now)
-        (transmit_and_receive (R.protocol rules.now) now before.refuses (input_of before.waiting)
-        (view_with client.old begun drawn))
-        result (view_of client.new) (W.left words.new) before (L.shown link.new))) }
-    ensures shut { is_listening begun.phase ≡ false → IsShut result client.new
-        client.old.state begun
-        (W.left words.old) (W.left words.new) (L.shown link.old) (L.shown link.new)
-        (L.faults link.old) (L.faults link.new) }
-    ensures still { result ≡ Ok None → IsStill now client.old client.new
-        (L.faults link.old) (L.faults link.new) }
-    ensures reported { IfOk result (λ change. IfSome change (λ reported.
-        reported ≡ (R.protocol rules.now).public_state client.new.state)) }
-    ensures timeout { client.new.timeout_sec ≡ client.old.timeout_sec }
-    ensures moment { UnlessNoMemory result (client.new.last_moment ≡ now) }
-    ensures in_time { OnTimeout result ⊥ }
-    ensures state { OnErr result (client.new.state ≡ client.old.state) }
+    ensures worked { HasWorked (R.protocol rules.now) now result begun
+        (seen client.old (W.left words.old) (L.shown link.old) (L.faults link.old))
+        (seen client.new (W.left words.new) (L.shown link.new) (L.faults link.new)) }
+    ensures traced { UnlessNoMemory result (Works (R.protocol rules.now) W.gives L.moves now result
+        (view_with client.old begun) (view_of client.new)
+        words.old words.new link.old link.new) }
+    ensures shut { is_listening begun.phase ≡ false → IsShut result begun
+        (seen client.old (W.left words.old) (L.shown link.old) (L.faults link.old))
+        (seen client.new (W.left words.new) (L.shown link.new) (L.faults link.new)) }
     ensures needed { OnErr result (NeedsMemory (R.needs_memory rules.now)
         client.old (L.shown link.old)) }
     ensures armed { ((R.protocol rules.now).has_attempts client.old.state ≡ true →
@@ -218,9 +213,10 @@ fn receive_early<R: Rules, W: Words, L: DhcpLink>(
         HasNextAttempt (R.protocol rules.now).has_attempts client.new }
     ensures unsent { OnErr result (IsUnsent client.old client.new
         (L.shown link.old) (L.shown link.new)) }
+    ensures ran_out { OnErr result (RunsOut L.moves (λ message. ⊥)
+        client.old client.new link.old link.new) }
     ensures uses { IfSome (L.shown link.old) (λ before. IsSomeAnd (L.shown link.new) (λ after.
         UsesLink (is_listening begun.phase) before after)) }
-    ensures later { L.faults link.old ≤ L.faults link.new }
 {
     client.standing = begun;
     let change = receive(rules, client, now, words, link)?;
@@ -241,29 +237,24 @@ fn transmit_due<R: Rules, W: Words, L: DhcpLink>(
     requires moment { now < 2 ^ 60 }
     requires small { begun.entered < 2 ^ 60 }
     requires due { has_come now begun.deadline ≡ true }
-    ensures polled { UnlessNoMemory result (WhereKnown
-        (W.left words.old) (L.shown link.old) (λ drawn before.
-        HasPolled (R.protocol rules.now)
-        (transmit_and_receive (R.protocol rules.now) now before.refuses (input_of before.waiting)
-        (view_with client.old begun drawn))
-        result (view_of client.new) (W.left words.new) before (L.shown link.new))) }
-    ensures still { result ≡ Ok None → IsStill now client.old client.new
-        (L.faults link.old) (L.faults link.new) }
-    ensures reported { IfOk result (λ change. IfSome change (λ reported.
-        reported ≡ (R.protocol rules.now).public_state client.new.state)) }
-    ensures timeout { client.new.timeout_sec ≡ client.old.timeout_sec }
-    ensures moment { UnlessNoMemory result (client.new.last_moment ≡ now) }
-    ensures in_time { OnTimeout result ⊥ }
-    ensures state { OnErr result (client.new.state ≡ client.old.state) }
+    ensures worked { HasWorked (R.protocol rules.now) now result begun
+        (seen client.old (W.left words.old) (L.shown link.old) (L.faults link.old))
+        (seen client.new (W.left words.new) (L.shown link.new) (L.faults link.new)) }
+    ensures traced { UnlessNoMemory result (Works (R.protocol rules.now) W.gives L.moves now result
+        (view_with client.old begun) (view_of client.new)
+        words.old words.new link.old link.new) }
     ensures memory { OnErr result (IsUnsent client.old client.new
         (L.shown link.old) (L.shown link.new)
         ⊎ IsSent (R.protocol rules.now) now (view_with client.old begun) client.new
         (W.left words.old) (L.shown link.old) (L.shown link.new)) }
+    ensures ran_out { OnErr result (RunsOut L.moves (λ message.
+        WorksUnheard (R.protocol rules.now) W.gives now message
+        (view_with client.old begun) (view_of client.new) words.old)
+        client.old client.new link.old link.new) }
     ensures armed { HasNextAttempt (R.protocol rules.now).has_attempts client.old →
         HasNextAttempt (R.protocol rules.now).has_attempts client.new }
     ensures uses { IfSome (L.shown link.old) (λ before. IsSomeAnd (L.shown link.new) (λ after.
         UsesLink false before after)) }
-    ensures later { L.faults link.old ≤ L.faults link.new }
 {
     transmit(rules, client, begun, now, words, link)?;
     Ok(receive(rules, client, now, words, link)?)
@@ -281,10 +272,16 @@ pub fn run<R: Rules, W: Words, L: DhcpLink>(
     link: &mut L,
 ) -> Result<Option<R::PublicState>, RunError>
     requires { now < 2 ^ 60 }
-    ensures { Polls (R.protocol rules.now) (R.needs_memory rules.now) now result
-        client.old client.new
-        (W.left words.old) (W.left words.new) (L.shown link.old) (L.shown link.new)
-        (L.faults link.old) (L.faults link.new) }
+    ensures polls { Polls (R.protocol rules.now) (R.needs_memory rules.now) now result
+        (seen client.old (W.left words.old) (L.shown link.old) (L.faults link.old))
+        (seen client.new (W.left words.new) (L.shown link.new) (L.faults link.new)) }
+    ensures traced { UnlessNoMemory result (Traces (R.protocol rules.now) W.gives L.moves now result
+        client.old client.new words.old words.new link.old link.new) }
+    ensures ran_out { OnNoMemory result (RunsOut L.moves (λ message.
+        PollsUnheard (R.protocol rules.now) W.gives now message client.old client.new words.old)
+        client.old client.new link.old link.new) }
+    ensures used { TakesTurns L.moves (is_listening client.old.standing.phase)
+        link.old link.new }
 {
     if is_stopped(client.standing.phase) {
         client.last_moment = now;

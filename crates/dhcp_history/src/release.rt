@@ -1,14 +1,16 @@
 //! The release of a lease, and the clean-up.
 
-ghost use Rattle.std.specs.Prelude.{◌≡◌, ℕ, List, true, is_some, if◌then◌else◌, Err, OnErr, OnOk, IfOk, IfSome};
+ghost use Rattle.std.specs.Prelude.{◌≡◌, ℕ, List, true, is_some, None, if◌then◌else◌, Err, OnErr, OnOk, IfOk, IfSome};
 ghost use Rattle.dhcp_wire.specs.Fault.{HasCause};
-ghost use Rattle.dhcp_clock.specs.Link.{HandsOver};
+ghost use Rattle.dhcp_clock.specs.Link.{Hands, HandsOver};
 ghost use Rattle.dhcp_history.specs.Machine.{clean_up};
-ghost use Rattle.dhcp_history.specs.Calls.{CleansUp};
-ghost use Rattle.dhcp_history.specs.Client.{view_of};
+ghost use Rattle.dhcp_history.specs.Calls.{CleansUp, KeepsClient};
+ghost use Rattle.dhcp_history.specs.Client.{unpolled, view_of};
 ghost use Rattle.dhcp_history.specs.Schedule.{HasNextAttempt};
 ghost use Rattle.dhcp_history.specs.Errors.{sent_when};
-ghost use Rattle.dhcp_history.specs.Release.{OnOutOfMemory, UnlessOutOfMemory, release_held, HasReleased};
+ghost use Rattle.dhcp_history.specs.Kept.{DropsLease, Keeps};
+ghost use Rattle.dhcp_history.specs.Release.{OnOutOfMemory, UnlessOutOfMemory, held_message, release_held, HasReleased};
+ghost use Rattle.dhcp_history.specs.Turns.{TracesRelease};
 
 use crate::attempt::send;
 use crate::{Client, Rules, Standing};
@@ -48,16 +50,17 @@ pub fn release_held<R: Rules, L: DhcpLink>(
     ensures needed { OnOutOfMemory result
         (is_some ((R.protocol rules.now).held_lease client.old.state) ≡ true) }
     ensures unsent { OnOutOfMemory result (L.shown link.new ≡ L.shown link.old) }
+    ensures traced { TracesRelease L.moves
+        (held_message (R.protocol rules.now) client.old.state client.old.standing.exchange)
+        result link.old link.new }
     ensures cleaned { IfOk result (λ released. (drawn : List ℕ) →
         view_of client.new drawn ≡ (if released
         then clean_up (R.protocol rules.now) (view_of client.old drawn)
         else view_of client.old drawn)) }
-    ensures timeout { client.new.timeout_sec ≡ client.old.timeout_sec }
+    ensures anew { IfOk result (λ released. released ≡ true →
+        client.new.standing ≡ unpolled client.new.standing.exchange) }
+    ensures kept { KeepsClient (R.protocol rules.now) result client.old client.new }
     ensures moment { client.new.last_moment ≡ client.old.last_moment }
-    ensures state { OnErr result (client.new.state ≡ client.old.state) }
-    ensures standing { OnErr result (client.new.standing ≡ client.old.standing) }
-    ensures armed { HasNextAttempt (R.protocol rules.now).has_attempts client.old →
-        HasNextAttempt (R.protocol rules.now).has_attempts client.new }
     ensures faults { HasCause (result ≡ Err ReleaseError.Refused)
         (L.faults link.old) (L.faults link.new) }
 {
@@ -76,14 +79,12 @@ pub fn release_by<R: Rules, L: DhcpLink>(
     link: &mut L,
 ) -> Result<(), ReleaseError>
     ensures handed { HandsOver message (sent_when result) (L.shown link.old) (L.shown link.new) }
+    ensures moved { L.moves (Hands message (sent_when result)) link.old link.new }
     ensures cleaned { OnOk result ((drawn : List ℕ) → view_of client.new drawn
         ≡ clean_up (R.protocol rules.now) (view_of client.old drawn)) }
-    ensures timeout { client.new.timeout_sec ≡ client.old.timeout_sec }
+    ensures anew { OnOk result (client.new.standing ≡ unpolled client.new.standing.exchange) }
+    ensures kept { KeepsClient (R.protocol rules.now) result client.old client.new }
     ensures moment { client.new.last_moment ≡ client.old.last_moment }
-    ensures state { OnErr result (client.new.state ≡ client.old.state) }
-    ensures standing { OnErr result (client.new.standing ≡ client.old.standing) }
-    ensures armed { HasNextAttempt (R.protocol rules.now).has_attempts client.old →
-        HasNextAttempt (R.protocol rules.now).has_attempts client.new }
     ensures faults { HasCause (result ≡ Err ReleaseError.Refused)
         (L.faults link.old) (L.faults link.new) }
 {

@@ -3,6 +3,7 @@
 ghost use Rattle.std.specs.Prelude.{◌≡◌, ◌<◌, ◌^◌, Bool, true, false, is_some, None, Ok, option_map, IfOk, OnOk, OnErr};
 ghost use Rattle.dhcp_clock.specs.declared.link.Handed.{Handed};
 ghost use Rattle.dhcp_clock.specs.declared.link.Packet.{Packet};
+ghost use Rattle.dhcp_clock.specs.Words.{DrawsBy};
 ghost use Rattle.dhcp_history.specs.Rules.{GivesDrawn, IsNext};
 ghost use Rattle.dhcp_history.specs.Protocol.{Protocol};
 
@@ -74,6 +75,8 @@ pub trait Rules {
     fn pause<W: Words>(&self, state: &Self::State, exchange: Self::Exchange, words: &mut W) -> u64
         ensures drawn { GivesDrawn ((protocol self.now).pause state.now exchange)
             (W.left words.old) result (W.left words.new) }
+        ensures taken { DrawsBy W.gives ((protocol self.now).pause state.now exchange)
+            words.old result words.new }
         ensures below { result < 2 ^ 62 };
 
     /// An attempt in a state: its message, and how long an answer is awaited.
@@ -87,6 +90,9 @@ pub trait Rules {
         ensures drawn { IfOk result (λ attempt.
             GivesDrawn ((protocol self.now).attempt state.now exchange start)
             (W.left words.old) attempt (W.left words.new)) }
+        ensures taken { IfOk result (λ attempt.
+            DrawsBy W.gives ((protocol self.now).attempt state.now exchange start)
+            words.old attempt words.new) }
         ensures below { IfOk result (λ attempt. attempt.wait < 2 ^ 62) };
 
     /// What a packet answers to an open attempt in a state, if it answers.
@@ -100,6 +106,9 @@ pub trait Rules {
         ensures drawn { IfOk result (λ answer.
             GivesDrawn ((protocol self.now).reading state.now exchange packet)
             (W.left words.old) answer (W.left words.new)) }
+        ensures taken { IfOk result (λ answer.
+            DrawsBy W.gives ((protocol self.now).reading state.now exchange packet)
+            words.old answer words.new) }
         ensures free { needs_memory self.now state.now exchange packet ≡ false → result ≡ Ok None };
 
     /// Goes to the state after an answer, and returns what is reported of it. When out of memory

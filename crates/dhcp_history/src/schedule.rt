@@ -1,10 +1,14 @@
 //! When a client next does something without a packet.
 
-ghost use Rattle.std.specs.Prelude.{◌≡◌};
-ghost use Rattle.dhcp_history.specs.Calls.{HasNextPoll};
+ghost use Rattle.std.specs.Prelude.{◌≡◌, ◌||◌, ℕ, List, if◌then◌else◌};
+ghost use Rattle.dhcp_history.specs.Protocol.{has_come};
+ghost use Rattle.dhcp_history.specs.Machine.{has_ended, is_listening, is_stopped, is_unpolled, limit_is_over};
+ghost use Rattle.dhcp_history.specs.Client.{view_of};
+ghost use Rattle.dhcp_history.specs.Calls.{HasListening, HasNextPoll};
 ghost use Rattle.dhcp_history.specs.History.{limit_moment};
 ghost use Rattle.dhcp_history.specs.Schedule.{earlier, next_moment};
 
+use crate::machine::{has_come, has_ended, is_stopped, limit_is_over};
 use crate::{Client, Phase, Rules};
 
 // The earlier of two moments, where there are any.
@@ -63,4 +67,38 @@ pub fn next_poll<R: Rules>(rules: &R, client: &Client<R::State, R::Exchange>) ->
         Phase::Listening => next_moment(rules, client),
         Phase::Resting => next_moment(rules, client),
     }
+}
+
+// Whether a poll neither sends nor takes a packet: an error is kept, the time limit is over, or the
+// state ends.
+fn is_over<R: Rules>(rules: &R, client: &Client<R::State, R::Exchange>, now: u64) -> bool
+    ensures { (drawn : List ℕ) → result ≡ (is_stopped client.now.standing.phase
+        || (limit_is_over (R.protocol rules.now) now (view_of client.now drawn)
+        || has_ended (R.protocol rules.now) now (view_of client.now drawn))) }
+{
+    is_stopped(client.standing.phase)
+        || (limit_is_over(rules, client, now) || has_ended(rules, client, now))
+}
+
+// Whether an attempt is open or due; in the first poll of a state, whether the client sends there.
+fn has_attempt<R: Rules>(rules: &R, client: &Client<R::State, R::Exchange>, now: u64) -> bool
+    ensures { result ≡ (if is_unpolled client.now.standing.phase
+        then (R.protocol rules.now).has_attempts client.now.state
+        else (has_come now client.now.standing.deadline
+        || is_listening client.now.standing.phase)) }
+{
+    if client.standing.phase == Phase::Unpolled {
+        return rules.has_attempts(&client.state);
+    }
+    has_come(now, client.standing.deadline) || client.standing.phase == Phase::Listening
+}
+
+/// Whether a packet may be asked for at a moment, in milliseconds: an attempt is open then, or is
+/// due and made then. A poll of a client that was polled in its state asks its link for a packet if
+/// and only if this is true, unless the link refuses what the poll sends; in the first poll of a
+/// state its pause decides. If it is false, no poll at this moment asks.
+pub fn is_listening<R: Rules>(rules: &R, client: &Client<R::State, R::Exchange>, now: u64) -> bool
+    ensures { HasListening (R.protocol rules.now) now result client.now }
+{
+    !is_over(rules, client, now) && has_attempt(rules, client, now)
 }

@@ -2,9 +2,11 @@
 
 ghost use Rattle.std.specs.Prelude.{◌≡◌, ◌⊎◌, IfErr};
 ghost use Rattle.dhcp_wire.specs.Error.{no_memory};
+ghost use Rattle.dhcp_clock.specs.Link.{Hands};
 ghost use Rattle.dhcp_history.specs.Calls.{Releases, ReleasesHeld};
-ghost use Rattle.dhcp_history.specs.Errors.{release_answer, send_refused};
-ghost use Rattle.dhcp_history.specs.Release.{UnlessOutOfMemory};
+ghost use Rattle.dhcp_history.specs.Errors.{release_answer, send_refused, sent_of};
+ghost use Rattle.dhcp_history.specs.Release.{UnlessOutOfMemory, held_message};
+ghost use Rattle.dhcp_history.specs.Turns.{TracesRelease};
 
 use crate::{Client, ReleaseError, Rules, release_by, release_held};
 use dhcp_clock::{DhcpLink, Handed, Sent};
@@ -20,8 +22,9 @@ pub fn release_at<R: Rules, L: DhcpLink>(
     now: u64,
     link: &mut L,
 ) -> Result<(), DhcpError>
-    ensures { Releases (R.protocol rules.now) message now result client.old client.new
+    ensures releases { Releases (R.protocol rules.now) message now result client.old client.new
         (L.shown link.old) (L.shown link.new) (L.faults link.old) (L.faults link.new) }
+    ensures moved { L.moves (Hands message (sent_of result)) link.old link.new }
 {
     let released = release_by(rules, client, message, link);
     keep_moment(client, released, now)
@@ -36,8 +39,11 @@ pub fn release_held_at<R: Rules, L: DhcpLink>(
     now: u64,
     link: &mut L,
 ) -> Result<bool, DhcpError>
-    ensures { ReleasesHeld (R.protocol rules.now) now result client.old client.new
+    ensures releases { ReleasesHeld (R.protocol rules.now) now result client.old client.new
         (L.shown link.old) (L.shown link.new) (L.faults link.old) (L.faults link.new) }
+    ensures traced { TracesRelease L.moves
+        (held_message (R.protocol rules.now) client.old.state client.old.standing.exchange)
+        (release_answer result) link.old link.new }
 {
     let released = release_held(rules, client, link);
     keep_moment(client, released, now)

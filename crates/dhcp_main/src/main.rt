@@ -1,6 +1,6 @@
 //! The program: `run` plays the script on standard input, `upgrade` writes a script of version 1 in
 //! version 2, and `demo` with a number from 1 to 2,000 sums up a demonstration. The text goes to
-//! standard output; the exit status is a `Status` of dhcp_replay.
+//! standard output; the exit status is a `Status` of dhcp_tool.
 #![tactic(auto)]
 
 use dhcp_replay::{StdSink, StdSource, replay_tool, status_without_words};

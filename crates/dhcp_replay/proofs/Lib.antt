@@ -5,7 +5,7 @@ pub mod DuidLemmas
 pub mod Life4Lemmas
 pub mod Life6Lemmas
 pub mod LifeLemmas
-pub mod Played6Lemmas
+pub mod PlayLemmas
 pub mod ReplayLemmas
 pub mod RequestLemmas
 pub mod RisingLemmas

@@ -1,26 +1,22 @@
 -- The life of an IPv4 client that begins.
-use Rattle.std.proofs.Common.{◌≡◌, ℕ, List, [], Option, Some, ap, subst, ◌∙◌}
+use Rattle.std.proofs.Common.{◌≡◌, ℕ, List, [], Option, Some, refl, ap, subst, ◌∙◌}
 use Rattle.std.specs.Prelude.{IfSome, drop, map}
-use Rattle.dhcp_clock.specs.declared.link.Handed.{Handed}
 use Rattle.dhcp_clock.specs.declared.link.Packet.{Packet}
 use Rattle.dhcp_clock.specs.Words.{GivesNext, drawn_word, next_of}
 use Rattle.dhcp_history.specs.Client.{unpolled, view_of}
-use Rattle.dhcp_history.specs.EventLoop.{HasReported, events_at, last_moment}
+use Rattle.dhcp_history.specs.EventLoop.{HasReported, events_at}
 use Rattle.dhcp_history.specs.History.{history, outputs}
-use Rattle.dhcp_history.specs.Machine.{View, first_view}
+use Rattle.dhcp_history.specs.Machine.{View}
 use Rattle.dhcp_history.specs.Script.{Script}
-use Rattle.dhcp_history.specs.declared.script.Event.{Event as LifeEvent}
-use Rattle.dhcp_history.specs.declared.script.Output.{Output as LifeOutput}
 use Rattle.dhcp4_lease.specs.Config.{Config}
 use Rattle.dhcp4_lease.specs.Lease.{Lease}
 use Rattle.dhcp4_client.specs.Client.{Begins, ClientParts, first_exchange, first_state}
 use Rattle.dhcp4_client.specs.Rules.{protocol}
-use Rattle.dhcp4_client.specs.declared.state.PlainState.{PlainState}
 use Rattle.dhcp4_client.specs.declared.client_state.ClientState.{ClientState}
 use Rattle.dhcp4_client.specs.declared.client_state.Exchange.{Exchange}
-use Rattle.dhcp_script.specs.Output.{PlainOutput, changed_v4}
+use Rattle.dhcp_output.specs.Output.{PlainOutput, changed_v4}
 use Rattle.dhcp_script.specs.declared.event.Event.{Event}
-use Rattle.dhcp_replay.specs.Life.{EndsAs, last_moment_of, numbered, output_of}
+use Rattle.dhcp_replay.specs.Life.{EndsAs, IsPlayed, last_moment_of, numbered, output_of}
 use Rattle.dhcp_replay.specs.Promises4.{KeepsPromises}
 use Rattle.dhcp_replay.specs.Replayed4.{IsClientAfter, client_after, life_of, outputs4}
 use Rattle.dhcp_replay.proofs.LifeLemmas as lives
@@ -45,46 +41,42 @@ module _ (config : Config) (lease : Option Lease) (events : List Event) where
     }
 
     -- what is promised of it
-    pub promises4 : ((held : Option Lease) (words : List ℕ) (all : List Event) → KeepsPromises client.config held words all) → IfSome before (λ words. KeepsPromises config lease words events)
-    promises4 keeps =
+    pub promises4 : (given : ClientParts) → given ≡ client → ((held : Option Lease) (words : List ℕ) (all : List Event) → KeepsPromises given.config held words all) → IfSome before (λ words. KeepsPromises config lease words events)
+    promises4 given same keeps =
         lives.life_promises protocol drawn_word own life before after xid client.config client.client (next_drawn before after xid drawn) begun
-        (λ words. KeepsPromises config lease words events) (λ words is. subst (λ (c : Config). KeepsPromises c lease words events) is (keeps lease words events))
+        (λ words. KeepsPromises config lease words events)
+        (λ words is. subst (λ (c : Config). KeepsPromises c lease words events) (ap (λ (parts : ClientParts). parts.config) same ∙ is) (keeps lease words events))
 
-    module _ (made : List (LifeEvent Packet)) (items : List (LifeOutput PlainState Handed)) (made_is : made ≡ numbered 1 events) where
+    module _ (outs : List PlainOutput) (new : ClientParts) (left : Option (List ℕ)) (played : IsPlayed protocol changed_v4 events outs client new after left) where
       -- what is reported
       abbrev HasItems : Config → Script Packet ClientState Exchange → Type 0
-      HasItems c script = items ≡ outputs (protocol c) (history (protocol c) script)
+      HasItems c script = played.items ≡ outputs (protocol c) (history (protocol c) script)
 
-      abbrev HasReports : List ℕ → Type 0
-      HasReports left = (script : Script Packet ClientState Exchange) → view_of client.client left ≡ first_view script → script.events ≡ made → HasItems client.config script
-
-      pub reported4 : (outs : List PlainOutput) → IfSome after HasReports →
-          outs ≡ map (output_of changed_v4) items → IfSome before (λ words. outs ≡ outputs4 config lease words events)
+      pub reported4 : IfSome before (λ words. outs ≡ outputs4 config lease words events)
       unfolding outputs4
-      reported4 outs reports outs_is =
-          if_exposed (λ words. HasItems config (life words)) (λ words. outs ≡ outputs4 config lease words events) before (λ words is. outs_is ∙ ap (map (output_of changed_v4)) is)
-          (lives.life_reports protocol drawn_word own life before after xid client.config client.client (next_drawn before after xid drawn) begun made (λ words. made_is) HasItems reports)
+      reported4 =
+          if_exposed (λ words. HasItems config (life words)) (λ words. outs ≡ outputs4 config lease words events) before (λ words is. played.outputs_are ∙ ap (map (output_of changed_v4)) is)
+          (lives.life_reports protocol drawn_word own life before after xid client.config client.client (next_drawn before after xid drawn) begun (numbered 1 events) (λ words. refl) HasItems played.history_is)
 
       -- how it ends
-      abbrev HasLeft : ClientParts → Option (List ℕ) → List ℕ → Type 0
-      HasLeft new left words = HasReported (events_at (protocol client.config) (view_of client.client words) made) [] items (view_of new.client) left
+      abbrev HasLeft : List ℕ → Type 0
+      HasLeft words = HasReported (events_at (protocol client.config) (view_of client.client words) (numbered 1 events)) [] played.items (view_of new.client) left
 
-      module _ (new : ClientParts) (left : Option (List ℕ)) (leaves : IfSome after (HasLeft new left)) where
-        abbrev Ends : View ClientState Exchange → Type 0
-        Ends final = EndsAs final new.client left
+      abbrev Ends : View ClientState Exchange → Type 0
+      Ends final = EndsAs final new.client left
 
-        ends4 : IfSome before (λ words. Ends (client_after config lease words events))
-        ends4 =
-            lives.life_ends protocol drawn_word own life before after xid client.config client.client (next_drawn before after xid drawn) begun made (λ words. made_is) Ends
-            (if_exposed (HasLeft new left) (lives.Leaves protocol drawn_word own life before after xid client.config client.client (next_drawn before after xid drawn) begun made (λ words. made_is) Ends) after
-            (λ words is. record { stands = is.client; words = is.words }) leaves)
+      ends4 : IfSome before (λ words. Ends (client_after config lease words events))
+      ends4 =
+          lives.life_ends protocol drawn_word own life before after xid client.config client.client (next_drawn before after xid drawn) begun (numbered 1 events) (λ words. refl) Ends
+          (if_exposed HasLeft (lives.Leaves protocol drawn_word own life before after xid client.config client.client (next_drawn before after xid drawn) begun (numbered 1 events) (λ words. refl) Ends) after
+          (λ words is. record { stands = is.client; words = is.words }) played.reported)
 
-        pub client4 : new.config ≡ client.config → new.client.last_moment ≡ last_moment client.client.last_moment made → IfSome before (λ words. IsClientAfter config lease words events new)
-        client4 kept last =
-            let moment : new.client.last_moment ≡ last_moment_of 0 events = last ∙ (ap (λ (first : ℕ). last_moment first made) begins.moment ∙ ap (last_moment 0) made_is) in
-            if_exposed (λ words. Ends (client_after config lease words events)) (λ words. IsClientAfter config lease words events new) before
-            (λ words is. record { config_kept = kept ∙ begins.config; view = is.stands; moment = moment }) ends4
+      pub client4 : IfSome before (λ words. IsClientAfter config lease words events new)
+      client4 =
+          let moment : new.client.last_moment ≡ last_moment_of 0 events = played.moment ∙ ap (λ (first : ℕ). last_moment_of first events) begins.moment in
+          if_exposed (λ words. Ends (client_after config lease words events)) (λ words. IsClientAfter config lease words events new) before
+          (λ words is. record { config_kept = played.config_kept ∙ begins.config; view = is.stands; moment = moment }) ends4
 
-        -- and which words are left
-        pub words4 : IfSome before (λ words. left ≡ Some (client_after config lease words events).words)
-        words4 = if_exposed (λ words. Ends (client_after config lease words events)) (λ words. left ≡ Some (client_after config lease words events).words) before (λ words is. is.words) ends4
+      -- and which words are left
+      pub words4 : IfSome before (λ words. left ≡ Some (client_after config lease words events).words)
+      words4 = if_exposed (λ words. Ends (client_after config lease words events)) (λ words. left ≡ Some (client_after config lease words events).words) before (λ words is. is.words) ends4

@@ -1,8 +1,9 @@
 -- The life of an IPv6 client that begins.
-use Rattle.std.proofs.Common.{◌≡◌, ℕ, List, Option, Some, None, refl, ap, subst, ◌∙◌}
-use Rattle.std.specs.Prelude.{IfSome, map}
+use Rattle.std.proofs.Common.{◌≡◌, ℕ, List, [], Option, Some, None, refl, ap, subst, ◌∙◌}
+use Rattle.std.specs.Prelude.{All, IfSome, map}
 use Rattle.dhcp_clock.specs.declared.link.Packet.{Packet}
-use Rattle.dhcp_history.specs.Client.{unpolled}
+use Rattle.dhcp_history.specs.Client.{unpolled, view_of}
+use Rattle.dhcp_history.specs.EventLoop.{HasReported, events_at}
 use Rattle.dhcp_history.specs.History.{history, outputs}
 use Rattle.dhcp_history.specs.Machine.{View}
 use Rattle.dhcp_history.specs.Rules.{GivesDrawn}
@@ -13,13 +14,15 @@ use Rattle.dhcp6_client.specs.Client.{Begins, ClientParts, FirstDraws, drawn_for
 use Rattle.dhcp6_client.specs.Rules.{protocol}
 use Rattle.dhcp6_client.specs.declared.client_state.ClientState.{ClientState}
 use Rattle.dhcp6_client.specs.declared.client_state.Exchange.{Exchange}
-use Rattle.dhcp_script.specs.Output.{PlainOutput, changed_v6}
+use Rattle.dhcp_output.specs.Output.{HasFailureText, PlainOutput, changed_v6, plain_output}
+use Rattle.dhcp_output.specs.declared.output.Output.{Output}
 use Rattle.dhcp_script.specs.declared.event.Event.{Event}
-use Rattle.dhcp_replay.specs.Life.{EndsAs, last_moment_of, numbered, output_of}
+use Rattle.dhcp_replay.specs.Life.{EndsAs, IsPlayed, last_moment_of, numbered, output_of}
 use Rattle.dhcp_replay.specs.Promises6.{KeepsPromises, KeepsPromisesOver}
-use Rattle.dhcp_replay.specs.Replayed6.{IsClientAfter, IsLeftBy, IsReportedOf, client_after, config_in, life_of, outputs6}
+use Rattle.dhcp_replay.specs.Replayed6.{IsClientAfter, client_after, config_in, life_of, outputs6}
 use Rattle.dhcp_replay.proofs.LifeLemmas as lives
 use Rattle.dhcp_replay.proofs.LifeLemmas.{begun_view, if_exposed}
+use Rattle.dhcp_replay.proofs.TextLemmas.{texts6}
 
 module _ (config : Config) (lease : Option Lease) (start : ℕ) (events : List Event) where
   abbrev life : List ℕ → Script Packet ClientState Exchange
@@ -35,43 +38,54 @@ module _ (config : Config) (lease : Option Lease) (start : ℕ) (events : List E
     }
 
     -- what is promised of it
-    pub promises6 : ((given : Config) (held : Option Lease) (from : ℕ) (words : List ℕ) (all : List Event) → KeepsPromisesOver client.config held (life_of given held from words all)) →
-        IfSome before (λ words. KeepsPromises config lease start words events)
-    promises6 keeps =
+    pub promises6 : (given : ClientParts) → given ≡ client →
+        ((for : Config) (held : Option Lease) (from : ℕ) (words : List ℕ) (all : List Event) → KeepsPromisesOver given.config held (life_of for held from words all)) → IfSome before (λ words. KeepsPromises config lease start words events)
+    promises6 given same keeps =
         lives.life_promises protocol (first_draws config) (config_in config) life before after (drawn_for client) client.config client.client drawn begun
-        (λ words. KeepsPromises config lease start words events) (λ words is. subst (λ (c : Config). KeepsPromisesOver c lease (life words)) is (keeps config lease start words events))
+        (λ words. KeepsPromises config lease start words events)
+        (λ words is. subst (λ (c : Config). KeepsPromisesOver c lease (life words)) (ap (λ (parts : ClientParts). parts.config) same ∙ is) (keeps config lease start words events))
 
-    -- what is said of no words
-    pub says6 : (Says : Type 0) → IfSome after (λ words. Says) → IfSome before (λ words. Says)
-    says6 Says says = lives.life_says protocol (first_draws config) (config_in config) life before after (drawn_for client) client.config client.client drawn begun Says says
+    module _ (outs : List PlainOutput) (new : ClientParts) (left : Option (List ℕ)) (played : IsPlayed protocol changed_v6 events outs client new after left) where
+      -- what is reported
+      abbrev HasItems : Config → Script Packet ClientState Exchange → Type 0
+      HasItems c script = played.items ≡ outputs (protocol c) (history (protocol c) script)
 
-    -- what is reported
-    abbrev HasOuts : List PlainOutput → Config → Script Packet ClientState Exchange → Type 0
-    HasOuts outs c script = outs ≡ map (output_of changed_v6) (outputs (protocol c) (history (protocol c) script))
+      pub reported6 : IfSome before (λ words. outs ≡ outputs6 config lease start words events)
+      unfolding outputs6
+      reported6 =
+          if_exposed (λ words. HasItems (config_in config words) (life words)) (λ words. outs ≡ outputs6 config lease start words events) before
+          (λ words is. played.outputs_are ∙ ap (map (output_of changed_v6)) is)
+          (lives.life_reports protocol (first_draws config) (config_in config) life before after (drawn_for client) client.config client.client drawn begun (numbered 1 events) (λ words. refl) HasItems played.history_is)
 
-    pub reported6 : (outs : List PlainOutput) → IfSome after (λ left. IsReportedOf client left events outs) → IfSome before (λ words. outs ≡ outputs6 config lease start words events)
-    unfolding outputs6
-    reported6 outs reports =
-        lives.life_reports protocol (first_draws config) (config_in config) life before after (drawn_for client) client.config client.client drawn begun (numbered 1 events) (λ words. refl) (HasOuts outs) reports
+      -- all of it has a text
+      pub failures6 : (outputs : List Output) → map plain_output outputs ≡ outs → IfSome before (λ words. All HasFailureText outputs)
+      failures6 outputs is =
+          lives.life_says protocol (first_draws config) (config_in config) life before after (drawn_for client) client.config client.client drawn begun (All HasFailureText outputs)
+          (texts6 client.config (view_of client.client) (numbered 1 events) outputs played.items (view_of new.client) left after (is ∙ played.outputs_are) played.reported)
 
-    -- how it ends
-    module _ (new : ClientParts) (left : Option (List ℕ)) (leaves : IfSome after (λ words. IsLeftBy client words events new left)) where
+      -- how it ends
+      abbrev HasLeft : List ℕ → Type 0
+      HasLeft words = HasReported (events_at (protocol client.config) (view_of client.client words) (numbered 1 events)) [] played.items (view_of new.client) left
+
       abbrev Ends : View ClientState Exchange → Type 0
       Ends final = EndsAs final new.client left
 
       ends6 : IfSome before (λ words. Ends (client_after config lease start words events))
-      ends6 = lives.life_ends protocol (first_draws config) (config_in config) life before after (drawn_for client) client.config client.client drawn begun (numbered 1 events) (λ words. refl) Ends leaves
+      ends6 =
+          lives.life_ends protocol (first_draws config) (config_in config) life before after (drawn_for client) client.config client.client drawn begun (numbered 1 events) (λ words. refl) Ends
+          (if_exposed HasLeft (lives.Leaves protocol (first_draws config) (config_in config) life before after (drawn_for client) client.config client.client drawn begun (numbered 1 events) (λ words. refl) Ends) after
+          (λ words is. record { stands = is.client; words = is.words }) played.reported)
 
-      pub client6 : new.config ≡ client.config → new.client.last_moment ≡ last_moment_of client.client.last_moment events → IfSome before (λ words. IsClientAfter config lease start words events new)
-      client6 kept last = go before drawn ends6
+      pub client6 : IfSome before (λ words. IsClientAfter config lease start words events new)
+      client6 = go before drawn ends6
         where
           moment : new.client.last_moment ≡ last_moment_of start events
-          moment = last ∙ ap (λ (first : ℕ). last_moment_of first events) begins.moment
+          moment = played.moment ∙ ap (λ (first : ℕ). last_moment_of first events) begins.moment
 
           go : (exposed : Option (List ℕ)) → GivesDrawn (first_draws config) exposed (drawn_for client) after → IfSome exposed (λ words. Ends (client_after config lease start words events)) →
               IfSome exposed (λ words. IsClientAfter config lease start words events new)
           go None drawn is = tt
-          go (Some words) drawn is = record { config_kept = kept ∙ (begun words drawn.0).config; view = is.stands; moment = moment }
+          go (Some words) drawn is = record { config_kept = played.config_kept ∙ (begun words drawn.0).config; view = is.stands; moment = moment }
 
       -- and which words are left
       pub words6 : IfSome before (λ words. left ≡ Some (client_after config lease start words events).words)

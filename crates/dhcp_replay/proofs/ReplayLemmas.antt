@@ -1,12 +1,12 @@
 -- The events of a script by their numbers.
-use Rattle.std.proofs.Common.{◌≡◌, ℕ, suc, ◌+◌, ◌<◌, ◌≤◌, ◌^◌, Bool, true, false, List, [], ◌∷◌, ◌++◌, length, take, get_or, refl, subst, sym, ap, ◌∙◌, arith}
-use Rattle.std.specs.Prelude.{◌&&◌, nat_le, nat_lt, All}
+use Rattle.std.proofs.Common.{Result, Ok, Err, ◌≡◌, ℕ, suc, ◌+◌, ◌<◌, ◌≤◌, ◌^◌, Bool, true, false, List, [], ◌∷◌, ◌++◌, length, take, get_or, refl, subst, sym, ap, ◌∙◌, arith}
+use Rattle.std.specs.Prelude.{◌&&◌, nat_le, nat_lt, All, IfErr, OnOk}
 use Rattle.std.specs.List.{AllPass, list_all}
 use Rattle.std.proofs.Math.Seq.{take-suc}
 use Rattle.std.proofs.lemmas.List.{length-take-le}
 use Rattle.std.proofs.lemmas.List.Elements.{All-cons, All-head, All-nil, All-tail}
 use Rattle.std.proofs.lemmas.List.Sums.{AllPass-from_list_all}
-use Rattle.std.proofs.lemmas.Bool.{and_parts, leb-true, ltb-true}
+use Rattle.std.proofs.lemmas.Bool.{false≢true, and_parts, leb-true, ltb-true}
 use Rattle.dhcp_wire.specs.Error.{ErrorParts, no_memory}
 use Rattle.dhcp_wire.specs.declared.error.ErrorKind.TheVariants.{InvalidArgument}
 use Rattle.dhcp_clock.specs.declared.link.Packet.{Packet}
@@ -14,7 +14,7 @@ use Rattle.dhcp_history.specs.declared.script.Event.{Event as LifeEvent}
 use Rattle.dhcp_history.specs.declared.script.Input.{Input}
 use Rattle.dhcp_script.specs.Event.{are_in_order, are_valid, is_within_limits, moment_limit, most_events, most_packet_bytes, packet_of}
 use Rattle.dhcp_script.specs.declared.event.Event.{Event}
-use Rattle.dhcp_replay.specs.Life.{IsRefusal, input_of, numbered, numbered_event}
+use Rattle.dhcp_replay.specs.Life.{CanPlay, IsBoxError, IsRefusal, input_of, numbered, numbered_event}
 
 numbered-append : (n : ℕ) (events : List Event) (event : Event) → numbered n (events ++ event ∷ []) ≡ numbered n events ++ numbered_event (n + length events) event ∷ []
 numbered-append n [] event = ap (λ m. numbered_event m event ∷ []) (omega arith)
@@ -23,7 +23,7 @@ numbered-append n (first ∷ events) event =
     ap (λ rest. numbered_event n first ∷ rest) (numbered-append (suc n) events event ∙ ap (λ m. numbered (suc n) events ++ numbered_event m event ∷ []) shifted)
 
 -- one event more
-pub numbered_more : (i : ℕ) (events : List Event) (event : Event) → i < length events → event ≡ get_or events i event → numbered 1 (take (i + 1) events) ≡ numbered 1 (take i events) ++ numbered_event (1 + i) event ∷ []
+numbered_more : (i : ℕ) (events : List Event) (event : Event) → i < length events → event ≡ get_or events i event → numbered 1 (take (i + 1) events) ≡ numbered 1 (take i events) ++ numbered_event (1 + i) event ∷ []
 numbered_more i events event below is =
     let next : i + 1 ≡ suc i = omega arith in
     let longer : take (i + 1) events ≡ take i events ++ event ∷ [] =
@@ -69,31 +69,34 @@ pub start_below : (start : ℕ) (events : List Event) → are_valid start events
 start_below start events valid = ltb-true start moment_limit (valid_parts start events valid).begins
 
 -- valid events are few
-pub few_events : (start : ℕ) (events : List Event) → are_valid start events ≡ true → length events ≤ 20000
+few_events : (start : ℕ) (events : List Event) → are_valid start events ≡ true → length events ≤ 20000
 few_events start events valid = leb-true (length events) most_events (valid_parts start events valid).few
 
 -- and their moments are below 2^60
-pub moments_below : (start : ℕ) (events : List Event) (made : List (LifeEvent Packet)) → made ≡ numbered 1 events → are_valid start events ≡ true → All (λ (event : LifeEvent Packet). event.moment < 2 ^ 60) made
+moments_below : (start : ℕ) (events : List Event) (made : List (LifeEvent Packet)) → made ≡ numbered 1 events → are_valid start events ≡ true → All (λ (event : LifeEvent Packet). event.moment < 2 ^ 60) made
 moments_below start events made is valid =
     let Below : List (LifeEvent Packet) → Type 0 = λ all. All (λ (event : LifeEvent Packet). event.moment < 2 ^ 60) all in
     subst Below (sym is) (numbered_below 1 events (AllPass-from_list_all is_within_limits events (valid_parts start events valid).within))
 
--- the error of a call that was valid
-pub error_of_valid : (valid : Bool) (error : ErrorParts) → valid ≡ true → IsRefusal valid error → error ≡ no_memory
-error_of_valid true error is refusal = refusal
-error_of_valid false error is refusal = absurd cc
+-- so they can be played
+pub can_play : (start : ℕ) (events : List Event) → are_valid start events ≡ true → CanPlay events
+can_play start events valid = record { few = few_events start events valid; moments = moments_below start events (numbered 1 events) refl valid }
 
--- an error is out of memory where all is valid, and else InvalidArgument
-pub refusal_of_valid : (valid : Bool) (error : ErrorParts) → valid ≡ true → error ≡ no_memory → IsRefusal valid error
-refusal_of_valid true error is memory = memory
-refusal_of_valid false error is memory = absurd cc
+-- where what is given is within its limits, the error of the rest is that of the whole
+refusal_of_rest : (valid can : Bool) (error : ErrorParts) → valid ≡ true → IsRefusal can error → IsRefusal (valid && can) error
+refusal_of_rest true can error is refusal = refusal
+refusal_of_rest false can error is refusal = absurd cc
 
-pub refusal_of_invalid : (valid : Bool) (error : ErrorParts) → valid ≡ false → error.kind ≡ InvalidArgument → IsRefusal valid error
-refusal_of_invalid true error is kind = absurd cc
-refusal_of_invalid false error is kind = kind
+-- the error of a client that was to be put into a box
+refusal_of_box : {X : Type 0} (made : Result X ErrorParts) (can : Bool) (error : ErrorParts) → IsBoxError made error → OnOk made (can ≡ true) →
+    (can ≡ false → IfErr made (λ e. e.kind ≡ InvalidArgument)) → (can ≡ true → IfErr made (λ e. e ≡ no_memory)) → IsRefusal can error
+refusal_of_box (Ok x) true error box begins refused errors = box
+refusal_of_box (Ok x) false error box begins refused errors = absurd (false≢true begins)
+refusal_of_box (Err e) true error box begins refused errors = box ∙ errors refl
+refusal_of_box (Err e) false error box begins refused errors = ap (λ (parts : ErrorParts). parts.kind) box ∙ refused refl
 
--- the error of a beginning that is told by whether the client can begin
-pub refusal_of_begin : (valid can : Bool) (error : ErrorParts) → valid ≡ true → (can ≡ false → error.kind ≡ InvalidArgument) → (can ≡ true → error ≡ no_memory) → IsRefusal (valid && can) error
-refusal_of_begin true true error is refused memory = memory refl
-refusal_of_begin true false error is refused memory = refused refl
-refusal_of_begin false can error is refused memory = absurd cc
+-- the same of what the call returns that puts the client into a box, once what it is given is within its limits
+pub boxed_refusal : {X Y : Type 0} (result : Result Y ErrorParts) (made : Result X ErrorParts) (valid can : Bool) → valid ≡ true → IfErr result (IsBoxError made) → OnOk made (can ≡ true) →
+    (can ≡ false → IfErr made (λ e. e.kind ≡ InvalidArgument)) → (can ≡ true → IfErr made (λ e. e ≡ no_memory)) → IfErr result (IsRefusal (valid && can))
+boxed_refusal (Ok y) made valid can is box begins refused errors = tt
+boxed_refusal (Err error) made valid can is box begins refused errors = refusal_of_rest valid can error is (refusal_of_box made can error box begins refused errors)

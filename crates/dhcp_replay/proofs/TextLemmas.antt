@@ -31,11 +31,11 @@ use Rattle.dhcp6_client.specs.declared.state.PlainState as states6
 use Rattle.dhcp6_client.specs.declared.client_state.ClientState.{ClientState}
 use Rattle.dhcp6_client.specs.declared.client_state.ClientState.TheVariants.{Solicit, Request, Done, Temporary, Renew, Rebind}
 use Rattle.dhcp6_client.specs.declared.client_state.Exchange.{Exchange}
-use Rattle.dhcp_script.specs.Output.{HasFailureText, HasReportText, HasStateText6, PlainOutput, PlainReport, changed_v4, changed_v6, failed, handed, refused, plain_output, plain_report}
-use Rattle.dhcp_script.specs.declared.output.Output.{Output}
-use Rattle.dhcp_script.specs.declared.output.OutputWhat.{OutputWhat}
-use Rattle.dhcp_script.specs.declared.output.OutputWhat.TheVariants as what
-use Rattle.dhcp_script.specs.declared.output.Reported.TheVariants.{V4, V6}
+use Rattle.dhcp_output.specs.Output.{HasFailureText, HasReportText, HasStateText6, PlainOutput, PlainReport, changed_v4, changed_v6, failed, handed, refused, plain_output, plain_report}
+use Rattle.dhcp_output.specs.declared.output.Output.{Output}
+use Rattle.dhcp_output.specs.declared.output.OutputWhat.{OutputWhat}
+use Rattle.dhcp_output.specs.declared.output.OutputWhat.TheVariants as what
+use Rattle.dhcp_output.specs.declared.output.Reported.TheVariants.{V4, V6}
 use Rattle.dhcp_replay.specs.Life.{output_of, report_of}
 use Rattle.dhcp_replay.proofs.ChangeLemmas.{AllSaid, SaysReport, events_said, said_of_each}
 

@@ -6,5 +6,6 @@ pub mod Replayed
 pub mod Replayed4
 pub mod Replayed6
 pub mod Request
+pub mod RequestLaws
 pub mod Settles
 pub mod Tool

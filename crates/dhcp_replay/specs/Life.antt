@@ -1,14 +1,18 @@
 -- What the lives of the clients of both families share: the events that come to a client, and what
 -- is reported of it.
-use Rattle.std.specs.Prelude.{◌≡◌, ℕ, suc, Bool, true, false, List, [], ◌∷◌, Option, Some}
+use Rattle.std.specs.Prelude.{◌≡◌, ℕ, suc, ◌≤◌, ◌<◌, ◌^◌, Bool, true, false, List, [], ◌∷◌, length, map, All, Option, Some, IfSome, Result, Ok, Err}
 use Rattle.dhcp_wire.specs.Error.{ErrorParts, no_memory}
 use Rattle.dhcp_wire.specs.declared.error.ErrorKind.TheVariants.{Timeout, IoError, InvalidArgument}
 use Rattle.dhcp_clock.specs.declared.link.Handed.{Handed}
 use Rattle.dhcp_clock.specs.declared.link.Packet.{Packet}
 use Rattle.dhcp_clock.specs.declared.link.PacketKind.TheVariants as carriers
+use Rattle.dhcp_history.specs.Calls.{ClientParts}
 use Rattle.dhcp_history.specs.Client.{view_of}
-use Rattle.dhcp_history.specs.EventLoop.{last_moment}
-use Rattle.dhcp_history.specs.Machine.{View}
+use Rattle.dhcp_history.specs.EventLoop.{HasReported, events_at, last_moment}
+use Rattle.dhcp_history.specs.History.{history, outputs}
+use Rattle.dhcp_history.specs.Machine.{View, first_view}
+use Rattle.dhcp_history.specs.Protocol.{Protocol}
+use Rattle.dhcp_history.specs.Script.{Script}
 use Rattle.dhcp_history.specs.declared.client.Client.{Client}
 use Rattle.dhcp_history.specs.declared.script.Event.{Event as LifeEvent}
 use Rattle.dhcp_history.specs.declared.script.Failure.TheVariants as failures
@@ -17,7 +21,7 @@ use Rattle.dhcp_history.specs.declared.script.Input.TheVariants as inputs
 use Rattle.dhcp_history.specs.declared.script.Output.{Output as LifeOutput}
 use Rattle.dhcp_history.specs.declared.script.Report.{Report}
 use Rattle.dhcp_history.specs.declared.script.Report.TheVariants as reports
-use Rattle.dhcp_script.specs.Output.{PlainOutput, PlainReport, handed, refused, failed}
+use Rattle.dhcp_output.specs.Output.{PlainOutput, PlainReport, handed, refused, failed}
 use Rattle.dhcp_script.specs.declared.event.Event.{Event}
 use Rattle.dhcp_script.specs.declared.event.EventWhat.{EventWhat}
 use Rattle.dhcp_script.specs.declared.event.EventWhat.TheVariants.{Nothing, Frame, Payload, Release, CleanUp}
@@ -26,6 +30,12 @@ use Rattle.dhcp_script.specs.declared.event.EventWhat.TheVariants.{Nothing, Fram
 abbrev pub IsRefusal : Bool → ErrorParts → Type 0
 IsRefusal true error = error ≡ no_memory
 IsRefusal false error = error.kind ≡ InvalidArgument
+
+-- The error of a call that puts what another returned into a box: that of the other, or out of
+-- memory.
+abbrev pub IsBoxError : {X : Type 0} → Result X ErrorParts → ErrorParts → Type 0
+IsBoxError (Ok x) error = error ≡ no_memory
+IsBoxError (Err e) error = error ≡ e
 
 -- 1. Events.
 
@@ -77,3 +87,28 @@ pub record EndsAs {State Exchange : Type 0} (final : View State Exchange)
     (client : Client State Exchange) (left : Option (List ℕ)) : Type 0 where
   pub stands : view_of client final.words ≡ final
   pub words : left ≡ Some final.words
+
+-- 4. A play.
+
+-- events can be played: they are at most 20,000, and their moments are below 2^60
+pub record CanPlay (events : List Event) : Type 0 where
+  pub few : length events ≤ 20000
+  pub moments : All (λ event. event.moment < 2 ^ 60) (numbered 1 events)
+
+module _ {Config PublicState State Exchange Answer Lease : Type 0}
+    (protocol : Config → Protocol PublicState Packet Handed State Exchange Answer Lease)
+    (changed : PublicState → PlainReport) where
+  -- A client of this protocol plays events: these outputs are what it reports of them, one by one,
+  -- and what the history of each life reports that it begins and that has these events.
+  pub record IsPlayed (events : List Event) (outs : List PlainOutput)
+      (old new : ClientParts Config State Exchange) (drawn left : Option (List ℕ)) : Type 0 where
+    pub items : List (LifeOutput PublicState Handed)
+    pub outputs_are : outs ≡ map (output_of changed) items
+    pub reported : IfSome drawn (λ words.
+        HasReported (events_at (protocol old.config) (view_of old.client words)
+        (numbered 1 events)) [] items (view_of new.client) left)
+    pub history_is : IfSome drawn (λ words. (life : Script Packet State Exchange) →
+        view_of old.client words ≡ first_view life → life.events ≡ numbered 1 events →
+        items ≡ outputs (protocol old.config) (history (protocol old.config) life))
+    pub config_kept : new.config ≡ old.config
+    pub moment : new.client.last_moment ≡ last_moment_of old.client.last_moment events

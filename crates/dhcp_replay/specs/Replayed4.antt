@@ -16,7 +16,7 @@ use Rattle.dhcp4_client.specs.Rules.{protocol}
 use Rattle.dhcp4_client.specs.declared.client_state.ClientState.{ClientState}
 use Rattle.dhcp4_client.specs.declared.client_state.Exchange.{Exchange}
 use Rattle.dhcp_script.specs.Event.{are_valid}
-use Rattle.dhcp_script.specs.Output.{PlainOutput, changed_v4}
+use Rattle.dhcp_output.specs.Output.{PlainOutput, changed_v4}
 use Rattle.dhcp_script.specs.declared.event.Event.{Event}
 use Rattle.dhcp_replay.specs.Life.{last_moment_of, numbered, output_of}
 

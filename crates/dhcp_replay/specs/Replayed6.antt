@@ -1,6 +1,6 @@
 -- The life of an IPv6 client over the events of a script: its history, and what is reported of it.
 pub use Rattle.dhcp_replay.specs.Life.{IsRefusal}
-use Rattle.std.specs.Prelude.{◌≡◌, ℕ, ◌≤◌, ◌<◌, ◌^◌, Bool, true, ◌&&◌, nat_le, List, length, map, All, Option}
+use Rattle.std.specs.Prelude.{◌≡◌, ℕ, Bool, true, ◌&&◌, nat_le, List, length, map, Option}
 use Rattle.std.specs.Option.{option_map_or}
 use Rattle.dhcp_clock.specs.declared.link.Handed.{Handed}
 use Rattle.dhcp_clock.specs.declared.link.Packet.{Packet}
@@ -18,10 +18,10 @@ use Rattle.dhcp6_client.specs.declared.client_state.ClientState.{ClientState}
 use Rattle.dhcp6_client.specs.declared.client_state.Exchange.{Exchange}
 use Rattle.dhcp_script.specs.Duid.{is_duid, is_duid_or_none}
 use Rattle.dhcp_script.specs.Event.{are_valid}
-use Rattle.dhcp_script.specs.Output.{PlainOutput, changed_v6}
+use Rattle.dhcp_output.specs.Output.{PlainOutput, changed_v6}
 use Rattle.dhcp_script.specs.Script6.{most_codes}
 use Rattle.dhcp_script.specs.declared.event.Event.{Event}
-use Rattle.dhcp_replay.specs.Life.{EndsAs, last_moment_of, numbered, output_of}
+use Rattle.dhcp_replay.specs.Life.{last_moment_of, numbered, output_of}
 
 -- Whether a configuration and a lease are within the limits of a script: the client's identifier is
 -- absent or has 2 to 130 bytes, at most 1,000 options are asked for, and the identifier of the
@@ -82,22 +82,3 @@ unfoldable pub outputs6 : Config → Option Lease → ℕ → List ℕ → List 
 outputs6 config lease start words events =
     map (output_of changed_v6) (outputs (protocol (config_in config words))
     (history6 config lease start words events))
-
--- events can be played: they are at most 20,000, and their moments are below 2^60
-pub record CanPlay (events : List Event) : Type 0 where
-  pub few : length events ≤ 20000
-  pub moments : All (λ event. event.moment < 2 ^ 60) (numbered 1 events)
-
--- these outputs are those of the life that the client begins, with these words left
-abbrev pub IsReportedOf : ClientParts → List ℕ → List Event → List PlainOutput → Type 0
-IsReportedOf client drawn events outs =
-    (life : Script Packet ClientState Exchange) → view_of client.client drawn ≡ first_view life →
-    life.events ≡ numbered 1 events →
-    outs ≡ map (output_of changed_v6)
-    (outputs (protocol client.config) (history (protocol client.config) life))
-
--- the calls and polls of that life leave the client and the words so
-abbrev pub IsLeftBy : ClientParts → List ℕ → List Event → ClientParts → Option (List ℕ) → Type 0
-IsLeftBy client drawn events new left =
-    EndsAs (events_at (protocol client.config) (view_of client.client drawn)
-    (numbered 1 events)).view new.client left

@@ -2,12 +2,13 @@
 //! outputs of what it reports.
 
 ghost use Rattle.std.specs.Prelude.{◌≡◌, ◌≤◌, IfOk, length, map};
-ghost use Rattle.dhcp_script.specs.Output.{plain_output, plain_report};
+ghost use Rattle.dhcp_output.specs.Output.{plain_output, plain_report};
 ghost use Rattle.dhcp_replay.specs.Life as lives;
 
 use dhcp_clock::{Handed, Packet, PacketKind};
 use dhcp_history::{Failure, Input, Report};
-use dhcp_script::{Event, EventWhat, Output, OutputWhat, Reported};
+use dhcp_output::{Output, OutputWhat, Reported};
+use dhcp_script::{Event, EventWhat};
 use dhcp_wire::{Bytes, ErrorKind, Sequence};
 use dhcp4_client::DhcpV4State;
 use dhcp6_client::DhcpV6State;
@@ -16,8 +17,8 @@ use std::alloc::{AllocError, Global};
 /// A state as the client of one family reports it.
 pub trait FamilyState: Drop {
     ghost use Rattle.std.specs.Prelude.{◌≡◌};
-    ghost use Rattle.dhcp_script.specs.Output.{PlainReport, plain_report};
-    ghost use Rattle.dhcp_script.specs.declared.output.OutputWhat.TheVariants.{Changed};
+    ghost use Rattle.dhcp_output.specs.Output.{PlainReport, plain_report};
+    ghost use Rattle.dhcp_output.specs.declared.output.OutputWhat.TheVariants.{Changed};
 
     /// What is reported of a client that comes to it.
     ghost changed: { Self → PlainReport };
@@ -28,7 +29,7 @@ pub trait FamilyState: Drop {
 }
 
 impl FamilyState for dhcp_history::Reported<DhcpV4State> {
-    ghost use Rattle.dhcp_script.specs.Output.{changed_v4};
+    ghost use Rattle.dhcp_output.specs.Output.{changed_v4};
 
     ghost changed = { changed_v4 };
 
@@ -38,7 +39,7 @@ impl FamilyState for dhcp_history::Reported<DhcpV4State> {
 }
 
 impl FamilyState for dhcp_history::Reported<DhcpV6State> {
-    ghost use Rattle.dhcp_script.specs.Output.{changed_v6};
+    ghost use Rattle.dhcp_output.specs.Output.{changed_v6};
 
     ghost changed = { changed_v6 };
 

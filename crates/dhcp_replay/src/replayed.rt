@@ -1,7 +1,7 @@
 //! A script of either family, played.
 
 ghost use Rattle.std.specs.Prelude.{◌≡◌, IfErr, IfOk, OnOk, All, map, true};
-ghost use Rattle.dhcp_script.specs.Output.{HasFailureText, plain_output};
+ghost use Rattle.dhcp_output.specs.Output.{HasFailureText, plain_output};
 ghost use Rattle.dhcp_script.specs.Script as scripts;
 ghost use Rattle.dhcp_script.specs.Script4 as v4;
 ghost use Rattle.dhcp_script.specs.Script6 as v6;
@@ -14,7 +14,8 @@ ghost use Rattle.dhcp_replay.specs.Replayed.{outputs_in};
 
 use crate::{Replayed4, Replayed6, replay4, replay6};
 use dhcp_clock::WordList;
-use dhcp_script::{Output, Script, Script4, Script6};
+use dhcp_output::Output;
+use dhcp_script::{Script, Script4, Script6};
 use dhcp_wire::{DhcpError, ErrorKind, FixedText};
 use std::alloc::Global;
 
@@ -22,9 +23,9 @@ use std::alloc::Global;
 #[derive(Drop)]
 pub enum Replayed {
     /// Of an IPv4 script.
-    V4(Replayed4),
+    V4(Box<Replayed4>),
     /// Of an IPv6 script.
-    V6(Replayed6),
+    V6(Box<Replayed6>),
 }
 
 impl Replayed {
@@ -51,8 +52,14 @@ pub fn replay(alloc: Global, script: &Script) -> Result<Replayed, DhcpError>
     ensures promises { OnOk result (KeepsPromisesOf script.now) }
 {
     match script {
-        Script::V4(script) => Ok(Replayed::V4(replay_script4(alloc, script)?)),
-        Script::V6(script) => Ok(Replayed::V6(replay_script6(alloc, script)?)),
+        Script::V4(script) => {
+            let replayed = replay_script4(alloc, script)?;
+            Ok(Replayed::V4(Box::new(alloc, replayed)?))
+        }
+        Script::V6(script) => {
+            let replayed = replay_script6(alloc, script)?;
+            Ok(Replayed::V6(Box::new(alloc, replayed)?))
+        }
     }
 }
 
@@ -69,9 +76,9 @@ fn replay_script4(alloc: Global, script: &Script4) -> Result<Replayed4, DhcpErro
     if !script.is_valid() {
         return Err(DhcpError::new_fixed(ErrorKind::InvalidArgument, FixedText::Script));
     }
-    let config = script.config(alloc)?;
-    let lease = script.held_lease(alloc)?;
     let mut words = WordList::new(script.words.as_slice().to_vec(alloc)?);
+    let lease = script.held_lease(alloc)?;
+    let config = script.config(alloc)?;
     let events = script.events.as_slice();
     replay4(alloc, config, lease, &mut words, script.start, events)
 }
@@ -89,9 +96,9 @@ fn replay_script6(alloc: Global, script: &Script6) -> Result<Replayed6, DhcpErro
     if !script.is_valid() {
         return Err(DhcpError::new_fixed(ErrorKind::InvalidArgument, FixedText::Script));
     }
-    let config = script.config(alloc)?;
-    let lease = script.held_lease(alloc)?;
     let mut words = WordList::new(script.words.as_slice().to_vec(alloc)?);
+    let lease = script.held_lease(alloc)?;
+    let config = script.config(alloc)?;
     let events = script.events.as_slice();
     replay6(alloc, config, lease, &mut words, script.start, events)
 }

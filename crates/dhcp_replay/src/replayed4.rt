@@ -1,14 +1,17 @@
 //! The life of an IPv4 client over the events of a script.
 
 ghost use Rattle.std.specs.Prelude.{◌≡◌, All, IfErr, IfOk, IfSome, OnOk, Some, map, true};
-ghost use Rattle.dhcp_script.specs.Output.{HasFailureText, plain_output};
+ghost use Rattle.dhcp_clock.specs.Words.{GivesNext};
+ghost use Rattle.dhcp4_client.specs.Client.{Begins};
+ghost use Rattle.dhcp_output.specs.Output.{HasFailureText, plain_output};
 ghost use Rattle.dhcp_replay.specs.Promises4.{KeepsPromises};
 ghost use Rattle.dhcp_replay.specs.Replayed4 as lives;
 
+use crate::family::{boxed, play};
 use crate::laws;
-use crate::life::{numbered, outputs_of};
 use dhcp_clock::Words;
-use dhcp_script::{Event, Output, are_valid};
+use dhcp_output::Output;
+use dhcp_script::{Event, are_valid};
 use dhcp_wire::{DhcpError, ErrorKind, FixedText, Sequence};
 use dhcp4_client::DhcpV4Client;
 use dhcp4_lease::{DhcpV4Config, DhcpV4Lease};
@@ -20,7 +23,7 @@ pub struct Replayed4 {
     /// What is reported of each event, in order.
     pub outputs: Sequence<Output>,
     /// The client as it is after the last event.
-    pub client: DhcpV4Client,
+    pub client: Box<DhcpV4Client>,
 }
 
 /// Plays the events of a script with a client of this configuration, and with a lease that it held
@@ -41,21 +44,37 @@ pub fn replay4<W: Words>(
     ensures outputs { IfOk result (λ replayed. IfSome (W.left words.old) (λ drawn.
         map plain_output replayed.outputs ≡ lives.outputs4 config lease drawn events.now)) }
     ensures client { IfOk result (λ replayed. IfSome (W.left words.old) (λ drawn.
-        lives.IsClientAfter config lease drawn events.now replayed.client)) }
+        lives.IsClientAfter config lease drawn events.now replayed.client.value)) }
     ensures words { IfOk result (λ replayed. IfSome (W.left words.old) (λ drawn.
         W.left words.new ≡ Some (lives.client_after config lease drawn events.now).words)) }
     ensures failures { IfOk result (λ replayed. All HasFailureText replayed.outputs) }
     ensures promises { OnOk result (IfSome (W.left words.old) (λ drawn.
         KeepsPromises config lease drawn events.now)) }
 {
+    let mut client = begun4(alloc, config, lease, words, start, events)?;
+    laws::promises_are_kept(&client);
+    let outputs = play(alloc, &mut *client, words, events)?;
+    Ok(Replayed4 { outputs, client })
+}
+
+// A client that begins, in a box, if start and events are within the limits of a script.
+fn begun4<W: Words>(
+    alloc: Global,
+    config: DhcpV4Config,
+    lease: Option<DhcpV4Lease>,
+    words: &mut W,
+    start: u64,
+    events: &[Event],
+) -> Result<Box<DhcpV4Client>, DhcpError>
+    ensures valid { OnOk result (lives.can_replay config lease start events.now ≡ true) }
+    ensures refused { IfErr result
+        (lives.IsRefusal (lives.can_replay config lease start events.now)) }
+    ensures begun { IfOk result (λ client. Begins config lease client.value) }
+    ensures drawn { IfOk result (λ client. GivesNext (W.left words.old)
+        client.value.client.standing.exchange.xid (W.left words.new)) }
+{
     if !are_valid(start, events) {
         return Err(DhcpError::new_fixed(ErrorKind::InvalidArgument, FixedText::Script));
     }
-    let mut client = DhcpV4Client::init(alloc, config, lease, words)?;
-    laws::promises_are_kept(&client);
-    let reported = client.replay(words, numbered(alloc, events)?)?;
-    Ok(Replayed4 {
-        outputs: outputs_of(alloc, reported)?,
-        client,
-    })
+    boxed(alloc, DhcpV4Client::init(alloc, config, lease, words))
 }

@@ -1,18 +1,20 @@
 //! The life of an IPv6 client over the events of a script.
 
-ghost use Rattle.std.specs.Prelude.{◌≡◌, All, IfErr, IfOk, IfSome, OnOk, Some, map, true};
-ghost use Rattle.dhcp_wire.specs.Error.{no_memory};
+ghost use Rattle.std.specs.Prelude.{◌≡◌, ◌&&◌, All, IfErr, IfOk, IfSome, OnOk, Some, is_ok, map, true};
 ghost use Rattle.dhcp6_opt.specs.Duid.{written_duid};
+ghost use Rattle.dhcp_history.specs.Rules.{GivesDrawn};
+ghost use Rattle.dhcp6_client.specs.Client.{Begins, drawn_for, first_draws};
 ghost use Rattle.dhcp_script.specs.Duid as duids;
-ghost use Rattle.dhcp_script.specs.Output.{HasFailureText, plain_output};
-ghost use Rattle.dhcp_replay.specs.Life.{last_moment_of};
+ghost use Rattle.dhcp_script.specs.Event.{are_valid as are_within_limits};
+ghost use Rattle.dhcp_output.specs.Output.{HasFailureText, plain_output};
 ghost use Rattle.dhcp_replay.specs.Promises6.{KeepsPromises};
 ghost use Rattle.dhcp_replay.specs.Replayed6 as lives;
 
+use crate::family::{boxed, play};
 use crate::laws;
-use crate::life::{numbered, outputs_of};
 use dhcp_clock::Words;
-use dhcp_script::{Event, Output, are_valid};
+use dhcp_output::Output;
+use dhcp_script::{Event, are_valid};
 use dhcp_wire::{DhcpError, ErrorKind, FixedText, Sequence};
 use dhcp6_client::DhcpV6Client;
 use dhcp6_msg::{DhcpV6Config, DhcpV6Lease};
@@ -30,7 +32,7 @@ pub struct Replayed6 {
     /// What is reported of each event, in order.
     pub outputs: Sequence<Output>,
     /// The client as it is after the last event.
-    pub client: DhcpV6Client,
+    pub client: Box<DhcpV6Client>,
 }
 
 /// Plays the events of a script with a client of this configuration, and with a lease that it held
@@ -54,7 +56,7 @@ pub fn replay6<W: Words>(
         map plain_output replayed.outputs
         ≡ lives.outputs6 config lease start drawn events.now)) }
     ensures client { IfOk result (λ replayed. IfSome (W.left words.old) (λ drawn.
-        lives.IsClientAfter config lease start drawn events.now replayed.client)) }
+        lives.IsClientAfter config lease start drawn events.now replayed.client.value)) }
     ensures words { IfOk result (λ replayed. IfSome (W.left words.old) (λ drawn.
         W.left words.new ≡ Some (lives.client_after config lease start drawn events.now).words)) }
     ensures failures { IfOk result (λ replayed. IfSome (W.left words.old) (λ drawn.
@@ -62,16 +64,53 @@ pub fn replay6<W: Words>(
     ensures promises { OnOk result (IfSome (W.left words.old) (λ drawn.
         KeepsPromises config lease start drawn events.now)) }
 {
+    let mut client = begun6(alloc, config, lease, words, start, events)?;
+    laws::promises6_are_kept(&client);
+    let outputs = play(alloc, &mut *client, words, events)?;
+    Ok(Replayed6 { outputs, client })
+}
+
+// A client that begins, in a box, if all that it is given is within the limits of a script.
+fn begun6<W: Words>(
+    alloc: Global,
+    config: DhcpV6Config,
+    lease: Option<DhcpV6Lease>,
+    words: &mut W,
+    start: u64,
+    events: &[Event],
+) -> Result<Box<DhcpV6Client>, DhcpError>
+    ensures valid { OnOk result (lives.can_replay config lease start events.now ≡ true) }
+    ensures refused { IfErr result
+        (lives.IsRefusal (lives.can_replay config lease start events.now)) }
+    ensures begun { IfOk result (λ client. Begins config lease start client.value) }
+    ensures drawn { IfOk result (λ client. GivesDrawn (first_draws config)
+        (W.left words.old) (drawn_for client.value) (W.left words.new)) }
+{
+    check_limits(&config, &lease, start, events)?;
+    boxed(
+        alloc,
+        DhcpV6Client::init(alloc, config, lease, start, words),
+    )
+}
+
+// Whether all that a client is given is within the limits of a script; the error names what is not.
+fn check_limits(
+    config: &DhcpV6Config,
+    lease: &Option<DhcpV6Lease>,
+    start: u64,
+    events: &[Event],
+) -> Result<(), DhcpError>
+    ensures within { is_ok result
+        ≡ are_within_limits start events.now && lives.fit_a_script config.now lease.now }
+    ensures refused { IfErr result (λ error. error.kind ≡ ErrorKind.InvalidArgument) }
+{
     if !are_valid(start, events) {
         return Err(DhcpError::new_fixed(ErrorKind::InvalidArgument, FixedText::Script));
     }
-    if !fit_a_script(&config, &lease) {
+    if !fit_a_script(config, lease) {
         return Err(DhcpError::new_fixed(ErrorKind::InvalidArgument, FixedText::Config));
     }
-    let mut client = DhcpV6Client::init(alloc, config, lease, start, words)?;
-    laws::promises6_are_kept(&client);
-    let outputs = play(alloc, &mut client, words, events)?;
-    Ok(Replayed6 { outputs, client })
+    Ok(())
 }
 
 // Whether a configuration and a lease are within the limits of a script.
@@ -93,27 +132,4 @@ fn is_script_duid(duid: &DhcpV6Duid) -> bool
 {
     let len = duid.written_len();
     2 <= len && len <= MAX_DUID_LEN
-}
-
-// What is reported of a client over these events.
-fn play<W: Words>(
-    alloc: Global,
-    client: &mut DhcpV6Client,
-    words: &mut W,
-    events: &[Event],
-) -> Result<Sequence<Output>, DhcpError>
-    requires { lives.CanPlay events.now }
-    ensures outputs { IfOk result (λ outputs. IfSome (W.left words.old) (λ drawn.
-        lives.IsReportedOf client.old drawn events.now (map plain_output outputs))) }
-    ensures client { IfOk result (λ outputs. IfSome (W.left words.old) (λ drawn.
-        lives.IsLeftBy client.old drawn events.now client.new (W.left words.new))) }
-    ensures moment { OnOk result (client.new.client.last_moment
-        ≡ last_moment_of client.old.client.last_moment events.now) }
-    ensures failures { IfOk result (λ outputs. IfSome (W.left words.old) (λ drawn.
-        All HasFailureText outputs)) }
-    ensures config { client.new.config ≡ client.old.config }
-    ensures error { IfErr result (λ error. error ≡ no_memory) }
-{
-    let reported = client.replay(words, numbered(alloc, events)?)?;
-    Ok(outputs_of(alloc, reported)?)
 }

@@ -2,93 +2,46 @@
 //! next version; or a demonstration is summed up.
 
 ghost use Rattle.std.specs.Prelude.{◌≡◌, ◌≢◌, ◌≤◌, ◌⊎◌, ◌↔◌, ℕ, Some, OnOk, length, map, string_bytes, true};
-ghost use Rattle.std.specs.IoError.{error_kind};
-ghost use Rattle.dhcp_wire.specs.Error.{no_memory};
 ghost use Rattle.dhcp_wire.specs.Outcome.{Makes};
 ghost use Rattle.dhcp_wire.specs.Fault.{Rose};
 ghost use Rattle.dhcp_stream.specs.Stream.{behind};
 ghost use Rattle.dhcp_stream.specs.Whole.{most_bytes};
+ghost use Rattle.dhcp_tool.specs.Job.{AnswersPrinting};
+ghost use Rattle.dhcp_tool.specs.Texts.{AnswersText};
+ghost use Rattle.dhcp_tool.specs.Words.{AsksForRun};
+ghost use Rattle.dhcp_output.specs.Output.{summary_text};
 ghost use Rattle.dhcp_script.specs.Demo.{most_rounds};
 ghost use Rattle.dhcp_script.specs.Script.{IsScript, is_valid, script_text};
 ghost use Rattle.dhcp_script.specs.declared.script.Script.{Script};
 ghost use Rattle.dhcp_replay.specs.Promises.{KeepsPromisesOf};
-ghost use Rattle.dhcp_replay.specs.Replayed.{events_of};
+ghost use Rattle.dhcp_replay.specs.Replayed.{events_of, outputs_of};
 ghost use Rattle.dhcp_replay.specs.Request.{AsksFor, AsksForNothing, IsRequest};
 ghost use Rattle.dhcp_replay.specs.Tool.{
   demo_summary,
-  status_number,
-  AnswersDemo,
-  AnswersRequest,
+  job_of,
   AnswersScript,
-  AnswersSource,
-  AnswersText,
-  AsksForRun,
   Ends,
-  ReadsInput,
   printed,
   scripts,
   scripts_v1,
 };
 ghost use Rattle.dhcp_replay.specs.declared.request.Request.{Request};
 ghost use Rattle.dhcp_replay.specs.declared.request.Request.TheVariants.{Demo};
-ghost use Rattle.dhcp_replay.specs.declared.tool.Status.TheVariants.{NoMemory, WrongWords};
 
 use crate::replay;
 use crate::request::{Request, request_of};
-use dhcp_script::{Script, demo_script, print_outputs, print_summary, read_script, upgrade};
-use dhcp_stream::{Sink, Source, Whole, read_whole, write_whole};
+use dhcp_output::{print_outputs, print_summary};
+use dhcp_script::{Script, demo_script, read_script, upgrade};
+use dhcp_stream::{Sink, Source};
+use dhcp_tool::{Status, ToolRequest, out_of_memory, run_tool};
 use dhcp_wire::{Bytes, DhcpError};
 use std::alloc::Global;
-use std::io;
-use std::io::ErrorKind;
-
-/// How a run of the program ends, with the number of its exit status.
-#[derive(Clone, Copy, Debug, PartialEq, Eq)]
-pub enum Status {
-    /// What the words ask for was done, and all of it written.
-    Done = 0,
-    /// The words are none of `run`, `upgrade`, or `demo` and a number from 1 to 2,000.
-    WrongWords = 1,
-    /// The bytes are the text of no script.
-    NoScript = 2,
-    /// The source failed.
-    ReadFault = 3,
-    /// The sink failed.
-    WriteFault = 4,
-    /// Out of memory.
-    NoMemory = 5,
-    /// There are more than 16,777,216 bytes.
-    TooLong = 6,
-    /// The script is not within its limits.
-    Invalid = 7,
-}
-
-impl From<Status> for u8 {
-    ghost from_gives = { λ status number. number ≡ status_number status };
-
-    fn from(status: Status) -> u8 {
-        status as u8
-    }
-}
-
-/// The status where the words of the command line cannot be read, by the error of `env::args`: out
-/// of memory, and for every other error wrong words, since a word that is not UTF-8 is no `run`.
-pub fn status_without_words(error: &io::Error) -> Status
-    ensures memory { error_kind error.now ≡ ErrorKind.OutOfMemory → result ≡ NoMemory }
-    ensures other { error_kind error.now ≢ ErrorKind.OutOfMemory → result ≡ WrongWords }
-{
-    match error.kind() {
-        ErrorKind::OutOfMemory => Status::NoMemory,
-        _ => Status::WrongWords,
-    }
-}
 
 /// Does what the words ask for, and returns the exit status. `run` runs the script that the source
 /// holds, and writes the text of what is reported of its client; `upgrade` writes the text in
 /// version 2 of the script whose text in version 1 the source holds; `demo` and a number from 1 to
 /// 2,000 writes the summary of a demonstration of so many rounds, and reads nothing. With every
 /// status but 0 and 4 nothing is written.
-#[tactic(auto, using(crate::proofs::ToolLemmas::asked_for))]
 pub fn replay_tool<S: Source, K: Sink>(
     alloc: Global,
     words: &[String],
@@ -130,90 +83,41 @@ pub fn replay_tool<S: Source, K: Sink>(
         source.new ≡ source.old }
     ensures nothing_written { result ≢ 0 → result ≢ 4 → sink.new ≡ sink.old }
 {
-    match request_of(words) {
-        None => Status::WrongWords.into(),
-        Some(request) => carry_out(alloc, request, source, sink).into(),
+    run_tool::<Request, S, K>(alloc, words, source, sink)
+}
+
+impl ToolRequest for Request {
+    ghost use Rattle.dhcp_script.specs.declared.script.Script.{Script};
+    ghost use Rattle.dhcp_replay.specs.Request.{AsksFor};
+    ghost use Rattle.dhcp_replay.specs.Tool.{job_of};
+    ghost use Rattle.dhcp_replay.specs.RequestLaws.{one_request};
+
+    ghost Script = { Script };
+
+    ghost AsksFor = { AsksFor };
+
+    ghost job = { job_of };
+
+    fn of_words(words: &[String]) -> Option<Self> {
+        request_of(words)
     }
-}
 
-// Does what is asked for.
-#[tactic(auto, using(crate::proofs::ToolLemmas::carried_out))]
-fn carry_out<S: Source, K: Sink>(
-    alloc: Global,
-    request: Request,
-    source: &mut S,
-    sink: &mut K,
-) -> Status
-    requires { IsRequest request }
-    ensures ends { Ends request (status_number result) (record {
-      left = S.left source.old;
-      left_after = S.left source.new;
-      faults = S.faults source.old;
-      faults_after = S.faults source.new;
-      taken = K.taken sink.old;
-      taken_after = K.taken sink.new;
-      sink_faults = K.faults sink.old;
-      sink_faults_after = K.faults sink.new;
-    }) }
-    ensures asked { status_number result ≢ 1 }
-    ensures nothing_read { (rounds : ℕ) → request ≡ Demo rounds → source.new ≡ source.old }
-    ensures nothing_written { status_number result ≢ 0 → status_number result ≢ 4 →
-        sink.new ≡ sink.old }
-{
-    let text = match text_of(alloc, request, source) {
-        Ok(text) => text,
-        Err(status) => return status,
-    };
-    if write_whole(sink, text.as_slice()) {
-        Status::Done
-    } else {
-        Status::WriteFault
+    fn reads(&self) -> bool {
+        match self {
+            Request::Run | Request::Upgrade => true,
+            Request::Demo(_) => false,
+        }
     }
-}
 
-// The text to print for a request, or the status.
-fn text_of<S: Source>(alloc: Global, request: Request, source: &mut S) -> Result<Bytes, Status>
-    requires { IsRequest request }
-    ensures answers { AnswersRequest request result (S.left source.old) (S.left source.new)
-        (S.faults source.old) (S.faults source.new) }
-    ensures nothing_read { (rounds : ℕ) → request ≡ Demo rounds → source.new ≡ source.old }
-{
-    match request {
-        Request::Run => played_text(alloc, source),
-        Request::Upgrade => upgraded_text(alloc, source),
-        Request::Demo(rounds) => demo_text(alloc, rounds),
+    fn answer(&self, alloc: Global, bytes: &[u8]) -> Result<Bytes, Status> {
+        match self {
+            Request::Run => run_answer(alloc, bytes),
+            Request::Upgrade => upgrade_answer(alloc, bytes),
+            Request::Demo(rounds) => demo_answer(alloc, *rounds),
+        }
     }
-}
 
-// The text to print for the script that the source holds, or the status.
-fn played_text<S: Source>(alloc: Global, source: &mut S) -> Result<Bytes, Status>
-    ensures { AnswersSource scripts result (S.left source.old) (S.left source.new)
-        (S.faults source.old) (S.faults source.new) }
-{
-    let bytes = input(alloc, source)?;
-    answer(alloc, bytes.as_slice())
-}
-
-// The text in version 2 of the script whose text in version 1 the source holds, or the status.
-fn upgraded_text<S: Source>(alloc: Global, source: &mut S) -> Result<Bytes, Status>
-    ensures { AnswersSource scripts_v1 result (S.left source.old) (S.left source.new)
-        (S.faults source.old) (S.faults source.new) }
-{
-    let bytes = input(alloc, source)?;
-    upgrade_answer(alloc, bytes.as_slice())
-}
-
-// What the source holds, or the status.
-fn input<S: Source>(alloc: Global, source: &mut S) -> Result<Bytes, Status>
-    ensures { ReadsInput result (S.left source.old) (S.left source.new)
-        (S.faults source.old) (S.faults source.new) }
-{
-    match read_whole(alloc, source) {
-        Ok(Whole::All(bytes)) => Ok(bytes),
-        Ok(Whole::Failed) => Err(Status::ReadFault),
-        Ok(Whole::TooLong) => Err(Status::TooLong),
-        Err(error) => Err(out_of_memory(error)),
-    }
+    ghost one_request = { one_request };
 }
 
 // The text in version 2 of the script with these bytes as its text in version 1, or the status.
@@ -228,10 +132,10 @@ fn upgrade_answer(alloc: Global, bytes: &[u8]) -> Result<Bytes, Status>
 }
 
 // The summary of a demonstration of so many rounds, or the status.
-fn demo_text(alloc: Global, rounds: u32) -> Result<Bytes, Status>
+fn demo_answer(alloc: Global, rounds: u32) -> Result<Bytes, Status>
     requires some { 1 ≤ rounds }
     requires few { rounds ≤ most_rounds }
-    ensures { AnswersDemo (demo_summary rounds) result }
+    ensures { AnswersPrinting (demo_summary rounds) result }
 {
     match summary_of(alloc, rounds) {
         Ok(text) => Ok(text),
@@ -247,8 +151,17 @@ fn summary_of(alloc: Global, rounds: u32) -> Result<Bytes, DhcpError>
     ensures { Makes (λ text. text) result (demo_summary rounds) }
 {
     let script = demo_script(alloc, rounds)?;
-    let replayed = replay(alloc, &script)?;
-    print_summary(alloc, event_count(&script), replayed.outputs())
+    summary_for(alloc, &script)
+}
+
+// The summary of a script.
+fn summary_for(alloc: Global, script: &Script) -> Result<Bytes, DhcpError>
+    requires { is_valid script.now ≡ true }
+    ensures { Makes (λ text. text) result
+        (summary_text (length (events_of script.now)) (outputs_of script.now)) }
+{
+    let replayed = replay(alloc, script)?;
+    print_summary(alloc, event_count(script), replayed.outputs())
 }
 
 // How many events a script has.
@@ -261,8 +174,8 @@ fn event_count(script: &Script) -> usize
     }
 }
 
-// The text to print for these bytes, or the status.
-fn answer(alloc: Global, bytes: &[u8]) -> Result<Bytes, Status>
+// The text to print for the script with these bytes as its text, or the status.
+fn run_answer(alloc: Global, bytes: &[u8]) -> Result<Bytes, Status>
     ensures { AnswersText scripts result bytes.now }
 {
     match read_script(alloc, bytes) {
@@ -294,13 +207,4 @@ fn text_for(alloc: Global, script: &Script) -> Result<Bytes, DhcpError>
 {
     let replayed = replay(alloc, script)?;
     print_outputs(alloc, replayed.outputs())
-}
-
-// The status of an error that can only be out of memory: no other error has it.
-fn out_of_memory(error: DhcpError) -> Status
-    requires { error ≡ no_memory }
-    ensures { result ≡ NoMemory }
-{
-    drop(error);
-    Status::NoMemory
 }

@@ -6,7 +6,6 @@ pub mod HeldLaws
 pub mod Lease4Laws
 pub mod Lease6Laws
 pub mod LifeLaws
-pub mod OutputLemmas
 pub mod PrintLemmas
 pub mod Script4Laws
 pub mod Script6Laws

@@ -42,12 +42,16 @@ with_numbers fields lease = record lease {
   srv_ip = fields.srv_ip;
 }
 
--- the lease with these fields, and with those of the empty lease in all others
-unfoldable pub lease_with : Lease6 → Lease
-lease_with fields = record (with_numbers fields empty_lease) {
+-- a lease with the identifiers of server and client of these fields
+abbrev pub with_duids : Lease6 → Lease → Lease
+with_duids fields lease = record lease {
   srv_duid = duid_of fields.srv_duid;
   cli_duid = duid_of fields.cli_duid;
 }
+
+-- the lease with these fields, and with those of the empty lease in all others
+unfoldable pub lease_with : Lease6 → Lease
+lease_with fields = with_duids fields (with_numbers fields empty_lease)
 
 -- the fields of a lease of this type that its text has
 abbrev pub fields_of : DhcpV6IaType → Lease → Lease6

@@ -10,7 +10,6 @@ pub mod Lease6
 pub mod Lease6Reader
 pub mod Life
 pub mod LifeReader
-pub mod Output
 pub mod Puts
 pub mod Script
 pub mod Script4

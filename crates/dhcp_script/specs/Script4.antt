@@ -56,17 +56,21 @@ is_valid script =
 abbrev pub request_list : Option (List ℕ) → List DhcpV4OptionCode → List DhcpV4OptionCode
 request_list listed by_default = lists.request_list rising_codes listed by_default
 
--- the configuration of the script's client; the interface has no name
-unfoldable pub config_of : Script4 → Config
-config_of script = record (configs.config_of []) {
+-- a configuration with what a script says
+abbrev pub with_fields : Script4 → Config → Config
+with_fields script config = record config {
   iface_index = script.iface_index;
   is_proxy = script.is_proxy;
   timeout_sec = script.timeout_sec;
   src_mac = script.mac;
   client_id = script.client;
   host_name = script.host;
-  request_opts = request_list script.codes (configs.config_of []).request_opts;
+  request_opts = request_list script.codes config.request_opts;
 }
+
+-- the configuration of the script's client; the interface has no name
+unfoldable pub config_of : Script4 → Config
+config_of script = with_fields script (configs.config_of [])
 
 -- the interface
 abbrev pub iface_text : Script4 → List ℕ

@@ -39,17 +39,20 @@ is_valid script =
     && is_duid_or_none script.duid && are_few most_codes script.codes
     && is_lease_valid script.lease && are_valid script.start script.events
 
--- the configuration of the script's client; the interface has no name
-unfoldable pub config_of : Script6 → Config
-config_of script = record (configs.config_of [] script.mode) {
+-- a configuration with what a script says
+abbrev pub with_fields : Script6 → Config → Config
+with_fields script config = record config {
   iface_index = script.iface_index;
   duid = duid_of script.duid;
   src_ip = script.src_ip;
   timeout_sec = script.timeout_sec;
-  request_opts =
-      request_list rising_codes script.codes (configs.config_of [] script.mode).request_opts;
+  request_opts = request_list rising_codes script.codes config.request_opts;
   src_mac = script.mac;
 }
+
+-- the configuration of the script's client; the interface has no name
+unfoldable pub config_of : Script6 → Config
+config_of script = with_fields script (configs.config_of [] script.mode)
 
 -- what a client asks for; of a prefix its length too
 abbrev pub mode_text : DhcpV6Mode → List ℕ

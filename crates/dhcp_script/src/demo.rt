@@ -48,6 +48,8 @@ pub fn demo_script(alloc: Global, n: u32) -> Result<Script, DhcpError>
     ensures made { Makes (λ script. script) result (V4 (demo.demo_script n)) }
     ensures valid { IfOk result (λ script. scripts.is_valid script ≡ true) }
 {
+    let codes = Bytes::from_slice(alloc, &[1, 3, 6])?;
+    let events = demo_events(alloc, n)?;
     Ok(Script::V4(Script4 {
         iface_index: 1,
         mac: [2, 0, 0, 0, 0, 1],
@@ -55,11 +57,11 @@ pub fn demo_script(alloc: Global, n: u32) -> Result<Script, DhcpError>
         timeout_sec: 0,
         host: Bytes::new(alloc),
         client: Bytes::new(alloc),
-        codes: Some(Bytes::from_slice(alloc, &[1, 3, 6])?),
+        codes: Some(codes),
         lease: None,
         words: Sequence::new(alloc),
         start: 0,
-        events: demo_events(alloc, n)?,
+        events,
     }))
 }
 

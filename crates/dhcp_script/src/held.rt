@@ -1,11 +1,13 @@
-//! The line of the lease that a client held before, in a script of either family.
+//! The line of the lease that a client held before, in a script of either family, and what follows.
 
 ghost use Rattle.std.specs.Prelude.{◌≡◌, ◌++◌, OnOk, codes, string_bytes};
 ghost use Rattle.dhcp_stream.specs.Line.{line};
-ghost use Rattle.dhcp_stream.specs.TextReader.{Takes};
+ghost use Rattle.dhcp_stream.specs.TextReader.{after_tag, both, Takes};
 ghost use Rattle.dhcp_script.specs.Field.{unless_none};
 ghost use Rattle.dhcp_script.specs.FieldReader.{held_at};
+ghost use Rattle.dhcp_script.specs.LifeReader.{life_at};
 
+use crate::life::{Life, read_life};
 use crate::version::Version;
 use dhcp_stream::{ReadError, TextReader};
 use std::alloc::{AllocError, Global};
@@ -33,9 +35,9 @@ pub trait HeldLease: Drop {
             (string_bytes text.new ≡ string_bytes text.old ++ lease_text self.now) };
 }
 
-/// Reads a lease or the word `none`, to the end of the line.
+// Reads a lease or the word `none`, to the end of the line.
 #[tactic(auto, unfolding(crate::specs::FieldReader::held_at))]
-pub fn read_held_lease<L: HeldLease>(
+fn read_held_lease<L: HeldLease>(
     alloc: Global,
     version: Version,
     text: &mut TextReader,
@@ -46,6 +48,22 @@ pub fn read_held_lease<L: HeldLease>(
         return Ok(None);
     }
     Ok(Some(L::read(alloc, version, text)?))
+}
+
+/// Reads the line of a lease, and then the lines from `words` to `end`. `Malformed` only if the text
+/// does not go on with them; out of memory is the only other error.
+pub fn read_lease_and_life<L: HeldLease>(
+    alloc: Global,
+    version: Version,
+    text: &mut TextReader,
+) -> Result<(Option<L>, Life), ReadError>
+    ensures { Takes result text.new
+        (both (after_tag (codes "lease ") (held_at (L.lease_at version))) life_at text.old) }
+{
+    text.tag(b"lease ")?;
+    let lease = read_held_lease(alloc, version, text)?;
+    let life = read_life(alloc, text)?;
+    Ok((lease, life))
 }
 
 /// Puts the line of a lease at the end of a text.

@@ -71,9 +71,17 @@ impl Lease4 {
     {
         let mut lease = DhcpV4Lease::empty(alloc);
         self.put_numbers(&mut lease);
-        self.put_servers(alloc, &mut lease)?;
-        self.put_names(alloc, &mut lease)?;
+        self.put_lists(alloc, &mut lease)?;
         Ok(lease)
+    }
+
+    // Puts its lists, its names and its routes into a lease.
+    fn put_lists(&self, alloc: Global, lease: &mut DhcpV4Lease) -> Result<(), DhcpError>
+        ensures { Puts result lease.new
+            (leases.with_names self.now (leases.with_servers self.now lease.old)) }
+    {
+        self.put_servers(alloc, lease)?;
+        self.put_names(alloc, lease)
     }
 
     // Puts its single addresses, its times and its MTU into a lease.

@@ -6,6 +6,7 @@ pub mod reader;
 ghost use Rattle.std.specs.Prelude.{◌≡◌, Some, unwrap_or};
 ghost use Rattle.dhcp_wire.specs.Outcome.{Makes};
 ghost use Rattle.dhcp_script.specs.Lease6 as leases;
+ghost use Rattle.dhcp_script.specs.Puts.{Puts};
 
 use self::printer::push_fields;
 use self::reader::read_lease;
@@ -16,6 +17,7 @@ use dhcp_stream::{ReadError, TextReader};
 use dhcp_wire::{Bytes, DhcpError};
 use dhcp6_msg::{DhcpV6IaType, DhcpV6Lease};
 use std::alloc::{AllocError, Global};
+use std::mem;
 use std::net::Ipv6Addr;
 
 /// The fields of an IPv6 lease that its text has: all public ones but the names of its time
@@ -79,8 +81,7 @@ impl Lease6 {
     {
         let mut lease = DhcpV6Lease::empty(alloc);
         self.put_numbers(&mut lease);
-        lease.srv_duid = duid_of(alloc, self.srv_duid.as_slice())?;
-        lease.cli_duid = duid_of(alloc, self.cli_duid.as_slice())?;
+        self.put_duids(alloc, &mut lease)?;
         Ok(lease)
     }
 
@@ -104,6 +105,17 @@ impl Lease6 {
             cli_duid: bytes_of(alloc, &lease.cli_duid)?,
             srv_ip: lease.srv_ip,
         })
+    }
+
+    // Puts the identifiers of server and client into a lease.
+    fn put_duids(&self, alloc: Global, lease: &mut DhcpV6Lease) -> Result<(), DhcpError>
+        ensures { Puts result lease.new (leases.with_duids self.now lease.old) }
+    {
+        let server = duid_of(alloc, self.srv_duid.as_slice())?;
+        let client = duid_of(alloc, self.cli_duid.as_slice())?;
+        drop(mem::replace(&mut lease.srv_duid, server));
+        drop(mem::replace(&mut lease.cli_duid, client));
+        Ok(())
     }
 
     // Puts all its fields but the two identifiers of client and server into a lease.

@@ -1,5 +1,4 @@
-//! Scripts of a client's life, and what is reported of them: their types, their limits and their
-//! texts.
+//! Scripts of a client's life: their types, their limits and their texts.
 #![tactic(auto)]
 
 mod codes;
@@ -13,7 +12,6 @@ pub mod laws;
 mod lease4;
 mod lease6;
 mod life;
-mod output;
 mod script;
 mod script4;
 mod script6;
@@ -24,10 +22,11 @@ mod widths;
 
 pub use demo::demo_script;
 pub use event::{Event, EventWhat, MAX_EVENTS, MAX_PACKET_LEN, MOMENT_LIMIT, are_valid};
+pub use hex_text::push_hex;
 pub use lease4::Lease4;
+pub use lease4::printer::push_lease as push_lease4;
 pub use lease6::Lease6;
-pub use output::summary::print_summary;
-pub use output::{Output, OutputWhat, Reported, print_outputs};
+pub use lease6::printer::push_lease as push_lease6;
 pub use script::{Script, read_script, read_script_v1, upgrade, write_script};
 pub use script4::Script4;
 pub use script6::Script6;

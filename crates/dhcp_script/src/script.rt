@@ -2,7 +2,7 @@
 
 pub mod reader;
 
-ghost use Rattle.std.specs.Prelude.{◌≡◌, Some};
+ghost use Rattle.std.specs.Prelude.{◌≡◌, Some, option_map};
 ghost use Rattle.dhcp_wire.specs.Outcome.{Makes};
 ghost use Rattle.dhcp_stream.specs.Reading.{GivesReading};
 ghost use Rattle.dhcp_script.specs.declared.script.Script.{Script};
@@ -75,9 +75,17 @@ pub fn upgrade(alloc: Global, text: &[u8]) -> Result<Option<Bytes>, DhcpError>
     ensures one { (script : Script) → IsScriptV1 script → script_text_v1 script ≡ text.now →
         Makes (λ new. new) result (Some (script_text script)) }
 {
-    match read_script_v1(alloc, text)? {
+    let script = read_script_v1(alloc, text)?;
+    text_of(alloc, &script)
+}
+
+// The text of a script, if there is one.
+fn text_of(alloc: Global, script: &Option<Script>) -> Result<Option<Bytes>, DhcpError>
+    ensures { Makes (λ text. text) result (option_map script_text script.now) }
+{
+    match script {
         None => Ok(None),
-        Some(script) => Ok(Some(write_script(alloc, &script)?)),
+        Some(script) => Ok(Some(write_script(alloc, script)?)),
     }
 }
 

@@ -85,14 +85,23 @@ impl Script4 {
         ensures { Makes (λ config. config) result (config_of self.now) }
     {
         let mut config = DhcpV4Config::new(alloc, "")?;
+        self.put_fields(alloc, &mut config)?;
+        Ok(config)
+    }
+
+    // Puts what it says into a configuration that has no client identifier.
+    fn put_fields(&self, alloc: Global, config: &mut DhcpV4Config) -> Result<(), DhcpError>
+        requires host { IsUtf8 self.now.host }
+        requires client { config.old.client_id ≡ [] }
+        ensures { Puts result config.new (scripts.with_fields self.now config.old) }
+    {
         config.iface_index = self.iface_index;
         config.is_proxy = self.is_proxy;
         config.timeout_sec = self.timeout_sec;
-        put_mac(&mut config, &self.mac)?;
-        put_host(alloc, &mut config, self.host.as_slice())?;
-        put_client(alloc, &mut config, self.client.as_slice())?;
-        put_codes(alloc, &mut config, &self.codes)?;
-        Ok(config)
+        put_mac(config, &self.mac)?;
+        put_host(alloc, config, self.host.as_slice())?;
+        put_client(alloc, config, self.client.as_slice())?;
+        put_codes(alloc, config, &self.codes)
     }
 
     /// The lease that its client held before, if there is one. Out of memory is the only error.

@@ -3,7 +3,7 @@
 pub mod printer;
 pub mod reader;
 
-ghost use Rattle.std.specs.Prelude.{◌≡◌, option_map};
+ghost use Rattle.std.specs.Prelude.{◌≡◌, None, option_map};
 ghost use Rattle.dhcp_wire.specs.Outcome.{Makes};
 ghost use Rattle.dhcp6_msg.specs.Config.{rising_codes};
 ghost use Rattle.dhcp_script.specs.Codes.{request_list};
@@ -18,6 +18,7 @@ use crate::{Event, Lease6, are_valid};
 use dhcp_wire::{Bytes, DhcpError, Sequence};
 use dhcp6_msg::{DhcpV6Config, DhcpV6Lease, DhcpV6Mode};
 use std::alloc::Global;
+use std::mem;
 use std::net::Ipv6Addr;
 
 /// A script of an IPv6 client: its configuration, a lease that it held before, the random words
@@ -77,13 +78,22 @@ impl Script6 {
         ensures { Makes (λ config. config) result (config_of self.now) }
     {
         let mut config = DhcpV6Config::new(alloc, "", self.mode)?;
+        self.put_fields(alloc, &mut config)?;
+        Ok(config)
+    }
+
+    // Puts what it says into a configuration that has no MAC address.
+    fn put_fields(&self, alloc: Global, config: &mut DhcpV6Config) -> Result<(), DhcpError>
+        requires { config.old.src_mac ≡ None }
+        ensures { Puts result config.new (scripts.with_fields self.now config.old) }
+    {
         config.iface_index = self.iface_index;
         config.src_ip = self.src_ip;
         config.timeout_sec = self.timeout_sec;
-        put_mac(&mut config, self.mac);
-        config.duid = duid_of(alloc, self.duid.as_slice())?;
-        put_codes(alloc, &mut config, &self.codes)?;
-        Ok(config)
+        put_mac(config, self.mac);
+        let duid = duid_of(alloc, self.duid.as_slice())?;
+        drop(mem::replace(&mut config.duid, duid));
+        put_codes(alloc, config, &self.codes)
     }
 
     /// The lease that its client held before, if there is one. Out of memory is the only error.

@@ -9,8 +9,6 @@ mod memory;
 mod number;
 mod standard;
 mod stream;
-#[cfg(test)]
-mod tests;
 mod text_reader;
 mod whole;
 

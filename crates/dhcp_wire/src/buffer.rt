@@ -1,8 +1,5 @@
 //! Reading fields from the front of a slice.
 
-#[cfg(test)]
-mod tests;
-
 ghost use Rattle.std.specs.Prelude.{◌≡◌, ◌↔◌, ℕ, ◌==◌, List, [], drop, length, position, ok_or, IsTrue, MatchResult, option_copied, string_bytes};
 ghost use Rattle.dhcp_wire.specs.Error.{no_memory};
 ghost use Rattle.std.specs.Int.{w8, w16, w32, w128};

@@ -1,16 +1,22 @@
 -- What a network manager does with what its client reports.
-use Rattle.std.specs.Prelude.{◌≡◌, ◌<◌, ◌≤◌, ◌⊎◌, ◌+◌, ℕ, Bool, false, List, Option, Some, None, Result, Ok, Err, count_ones}
+use Rattle.std.specs.Prelude.{◌≡◌, ◌<◌, ◌⊎◌, ℕ, Bool, List, [], ◌∷◌, ◌++◌, length, map, Option, Some, None, Result, Ok, Err, count_ones}
 use Rattle.std.specs.Net.Addr.{ipv4_bits}
 use Rattle.std.specs.declared.net.Ipv4Addr.{Ipv4Addr}
 use Rattle.std.specs.declared.net.Ipv6Addr.{Ipv6Addr}
 use Rattle.dhcp_wire.specs.Error.{ErrorParts}
-use Rattle.dhcp_clock.specs.Link.{Shown}
-use Rattle.dhcp_history.specs.Client.{view_of}
-use Rattle.dhcp_history.specs.Machine.{is_stopped, poll}
-use Rattle.dhcp_history.specs.Protocol.{Protocol, has_come}
-use Rattle.dhcp_history.specs.Schedule.{IsIdle}
+use Rattle.dhcp_clock.specs.declared.link.Handed.{Handed}
+use Rattle.dhcp_clock.specs.declared.link.Packet.{Packet}
+use Rattle.dhcp_clock.specs.Leads.{Leads}
+use Rattle.dhcp_clock.specs.Link.{Shown, Turn}
+use Rattle.dhcp_history.specs.Calls.{Polls}
+use Rattle.dhcp_history.specs.Errors.{run_answer}
+use Rattle.dhcp_history.specs.Protocol.{Protocol}
+use Rattle.dhcp_history.specs.RealCalls.{Call, CallsLead}
+use Rattle.dhcp_history.specs.Run.{UnlessNoMemory}
+use Rattle.dhcp_history.specs.Schedule.{IsSettled}
+use Rattle.dhcp_history.specs.Seen.{seen}
+use Rattle.dhcp_history.specs.Traced.{Traces}
 use Rattle.dhcp_history.specs.declared.client.Client.{Client}
-use Rattle.dhcp_history.specs.declared.script.Input.TheVariants.{Nothing}
 use Rattle.dhcp4_client.specs.declared.state.PlainState as plain4
 use Rattle.dhcp4_client.specs.declared.state.PlainState.TheVariants as states4
 use Rattle.dhcp6_client.specs.declared.state.PlainState as plain6
@@ -54,57 +60,77 @@ abbrev pub interface_after6 : plain6.PlainState → Interface → Interface
 interface_after6 state interface =
     record interface { address6 = address_after6 state interface.address6 }
 
--- A client that keeps no error has nothing to do before a moment: until a packet comes, a poll at
--- any moment before it, but not before its last one, returns nothing, sends nothing and draws
--- nothing.
-abbrev pub SleepsUntil : {PublicState Packet Message State Exchange Answer Lease : Type 0} →
-    Protocol PublicState Packet Message State Exchange Answer Lease → Option ℕ →
-    Client State Exchange → Type 0
-SleepsUntil protocol moment client =
-    (later : ℕ) (refuse : Bool) (drawn : List ℕ) →
-    is_stopped client.standing.phase ≡ false →
-    client.last_moment ≤ later → has_come later moment ≡ false →
-    IsIdle protocol later (view_of client drawn)
-    (poll protocol later refuse Nothing (view_of client drawn))
+-- a client of some rules, with its source of words and its link
+pub record Linked (State Exchange Source Link : Type 0) : Type 0 where
+  pub client : Client State Exchange
+  pub words : Source
+  pub link : Link
 
--- a client, the words that are left, what its link exposes, and how often that has failed
-pub record Seen (Client : Type 0) : Type 0 where
-  pub client : Client
-  pub words : Option (List ℕ)
-  pub shown : Option Shown
-  pub faults : ℕ
+abbrev pub linked : {State Exchange Source Link : Type 0} → Client State Exchange → Source →
+    Link → Linked State Exchange Source Link
+linked client words link = record { client = client; words = words; link = link }
 
-abbrev pub seen : {Client : Type 0} → Client → Option (List ℕ) → Option Shown → ℕ → Seen Client
-seen client words shown faults =
-    record { client = client; words = words; shown = shown; faults = faults }
+-- the calls at a moment that return these changes, one after the other
+abbrev pub calls_at : {PublicState : Type 0} → ℕ → List (Option PublicState) →
+    List (Call PublicState)
+calls_at now [] = []
+calls_at now (change ∷ changes) =
+    record { moment = now; answer = Ok change } ∷ calls_at now changes
 
--- The turns of a manager, over what one poll returns and does, and what an interface does to follow
--- a state.
-module _ {Client Interface State : Type 0}
-    (polled : Result (Option State) ErrorParts → Seen Client → Seen Client → Type 0)
-    (follows : State → Interface → Interface → Type 0) where
-  -- this many polls, each of which reports a state that the interface follows
-  pub data Changes (old : Seen Client) (before : Interface) :
-      ℕ → Seen Client → Interface → Type 0 where
-    none : Changes old before 0 old before
-    one_more : {count : ℕ} {between new : Seen Client} {followed after : Interface}
-        {state : State} → Changes old before count between followed →
-        polled (Ok (Some state)) between new → follows state followed after →
-        Changes old before (count + 1) new after
+-- A manager's polls, over every link and every source of words.
+module _ {PublicState State Exchange Answer Lease Source Link : Type 0}
+    (p : Protocol PublicState Packet Handed State Exchange Answer Lease)
+    (gives : ℕ → Source → Source → Type 0) (moves : Turn → Link → Link → Type 0)
+    {Reported : Type 0} (view : Reported → PublicState) where
+  -- One poll: what the clause of a client's `run` says. First what holds where the words are known
+  -- that are left and what the link exposes, and what holds of every source and every link; then by
+  -- which words of its source, and by which turns of its link, it is the poll of the protocol.
+  pub record Polled (needs_memory : State → Exchange → Packet → Bool)
+      (left : Source → Option (List ℕ)) (shown : Link → Option Shown) (faults : Link → ℕ)
+      (now : ℕ) (result : Result (Option Reported) ErrorParts)
+      (old new : Linked State Exchange Source Link) : Type 0 where
+    pub polls : Polls p needs_memory now (run_answer view result)
+        (seen old.client (left old.words) (shown old.link) (faults old.link))
+        (seen new.client (left new.words) (shown new.link) (faults new.link))
+    -- without a change nothing is due
+    pub settled : result ≡ Ok None → IsSettled p now new.client
+    pub traced : UnlessNoMemory (run_answer view result) (Traces p gives moves now
+        (run_answer view result) old.client new.client old.words new.words old.link new.link)
 
-  -- at most six such polls, and then one with this answer
-  pub record EndsWith (answer : Result (Option State) ErrorParts) (old : Seen Client)
-      (before : Interface) (new : Seen Client) (after : Interface) : Type 0 where
-    pub count : ℕ
-    pub between : Seen Client
-    pub few : count < 7
-    pub changes : Changes old before count between after
-    pub last : polled answer between new
+  module _ {Interface : Type 0} (follows : Reported → Interface → Interface → Type 0) (now : ℕ)
+    where
+      -- So many polls at a moment report a state each, which the interface follows, and further ones
+      -- return these changes: all of them, in this order, are polls that follow one another.
+      pub record Follows (further : List (Option PublicState)) (count : ℕ)
+          (old : Linked State Exchange Source Link) (before : Interface)
+          (new : Linked State Exchange Source Link) (after : Interface) : Type 0 where
+        pub states : List Reported
+        pub counted : length states ≡ count
+        pub followed : Leads follows before states after
+        pub ran : CallsLead p gives moves
+            (calls_at now (map (λ state. Some (view state)) states ++ further))
+            old.client old.words old.link new.client new.words new.link
 
-  -- A turn that returns a moment polls until no change is reported, or seven times; one that fails
-  -- has the error of its last poll.
-  unfoldable pub HasTurned : {Moment : Type 0} → Result Moment ErrorParts →
-      Seen Client → Interface → Seen Client → Interface → Type 0
-  HasTurned (Ok moment) old before new after =
-      EndsWith (Ok None) old before new after ⊎ Changes old before 7 new after
-  HasTurned (Err error) old before new after = EndsWith (Err error) old before new after
+      -- at most six polls that report a state, and a last one with this answer
+      pub record FailsWith (polled : Result (Option Reported) ErrorParts →
+          Linked State Exchange Source Link → Linked State Exchange Source Link → Type 0)
+          (error : ErrorParts) (old : Linked State Exchange Source Link) (before : Interface)
+          (new : Linked State Exchange Source Link) (after : Interface) : Type 0 where
+        pub count : ℕ
+        pub few : count < 7
+        pub between : Linked State Exchange Source Link
+        pub reported : Follows [] count old before between after
+        pub last : polled (Err error) between new
+
+      -- A turn that returns a moment polls until no change is reported, or seven times; one that
+      -- fails has the error of its last poll.
+      unfoldable pub HasTurned : {Moment : Type 0} →
+          (Result (Option Reported) ErrorParts → Linked State Exchange Source Link →
+          Linked State Exchange Source Link → Type 0) → Result Moment ErrorParts →
+          Linked State Exchange Source Link → Interface → Linked State Exchange Source Link →
+          Interface → Type 0
+      HasTurned polled (Ok moment) old before new after =
+          ((count : ℕ) × ((count < 7) × Follows (None ∷ []) count old before new after))
+          ⊎ Follows [] 7 old before new after
+      HasTurned polled (Err error) old before new after =
+          FailsWith polled error old before new after

@@ -5,10 +5,12 @@ mod interface;
 #[cfg(test)]
 mod tests;
 
-ghost use Rattle.std.specs.Prelude.{◌≡◌, ◌<◌, ◌^◌, ◌⊎◌, ℕ, Bool, Option, Result, IfErr, IfOk, is_some, not};
-ghost use Rattle.dhcp_wire.specs.Error.{ErrorParts, no_memory};
+ghost use Rattle.std.specs.Prelude.{◌≡◌, ◌<◌, ◌^◌, ◌⊎◌, Bool, IfErr, IfOk, is_some, not};
+ghost use Rattle.dhcp_wire.specs.Error.{no_memory};
+ghost use Rattle.dhcp_history.specs.Calls.{HasNextPoll};
 ghost use Rattle.dhcp_history.specs.Errors.{timed_out};
-ghost use Rattle.uses.specs.Manager.{HasTurned, Seen, seen};
+ghost use Rattle.dhcp_history.specs.Machine.{is_stopped};
+ghost use Rattle.uses.specs.Manager.{HasTurned, Polled, linked};
 
 pub use clients::{new_client, new_client6};
 use dhcp_clock::{DhcpLink, Words};
@@ -17,17 +19,41 @@ pub use interface::Interface;
 
 /// A client of either family, as its manager runs it.
 pub trait ManagedClient {
+    ghost use Rattle.dhcp_clock.specs.declared.link.Handed.{Handed};
+    ghost use Rattle.dhcp_clock.specs.declared.link.Packet.{Packet};
+    ghost use Rattle.dhcp_history.specs.Calls.{HasNextPoll};
+    ghost use Rattle.dhcp_history.specs.Machine.{is_stopped};
+    ghost use Rattle.dhcp_history.specs.Protocol.{Protocol};
+    ghost use Rattle.dhcp_history.specs.declared.client.Client.{Client};
+    ghost use Rattle.uses.specs.Manager.{Polled, linked};
+
     /// A state that it reports.
     type State: Drop;
 
-    /// What one poll at a moment returns and does, to the client, its words and its link.
-    ghost polled: { ℕ → Result (Option Self.State) ErrorParts → Seen Self → Seen Self → Type 0 };
+    // What contracts see of a reported state, of what the client is in, of what it keeps from one
+    // attempt to the next, of what a packet answers, and of a lease.
+    ghost PublicState: { Type 0 };
 
-    /// That it has nothing to do before a moment, unless it keeps an error.
-    ghost sleeps_until: { Option ℕ → Self → Type 0 };
+    ghost ClientState: { Type 0 };
 
-    /// Whether it keeps an error, and does nothing any more.
-    ghost has_stopped: { Self → Bool };
+    ghost Exchange: { Type 0 };
+
+    ghost Answer: { Type 0 };
+
+    ghost Lease: { Type 0 };
+
+    /// What contracts compare of a reported state.
+    ghost public_state: { Self.State → PublicState };
+
+    /// Its table of states.
+    ghost protocol: { Self →
+        Protocol PublicState Packet Handed ClientState Exchange Answer Lease };
+
+    /// The client of its rules.
+    ghost client: { Self → Client ClientState Exchange };
+
+    /// Whether the reading of a packet may need memory.
+    ghost needs_memory: { ClientState → Exchange → Packet → Bool };
 
     /// One poll at a moment, in milliseconds: the new state, or none if it has not changed.
     fn run<W: Words, L: DhcpLink>(
@@ -37,16 +63,19 @@ pub trait ManagedClient {
         link: &mut L,
     ) -> Result<Option<Self::State>, DhcpError>
         requires { now < 2 ^ 60 }
-        ensures polled { polled now result
-            (seen self.old (W.left words.old) (L.shown link.old) (L.faults link.old))
-            (seen self.new (W.left words.new) (L.shown link.new) (L.faults link.new)) }
+        ensures polled { Polled (protocol self.old) W.gives L.moves public_state
+            needs_memory W.left L.shown L.faults now result
+            (linked (client self.old) words.old link.old)
+            (linked (client self.new) words.new link.new) }
+        ensures same { protocol self.new ≡ protocol self.old }
         ensures errors { IfErr result (λ error. (error ≡ timed_out) ⊎ (error ≡ no_memory)) };
 
     /// The moment, in milliseconds, before which it has nothing to do without a packet; none if and
     /// only if it keeps an error.
     fn next_poll(&self) -> Option<u64>
-        ensures asleep { sleeps_until result self.now }
-        ensures stopped { is_some result ≡ not (has_stopped self.now) };
+        ensures next { HasNextPoll (protocol self.now) result (client self.now) }
+        ensures stopped { is_some result ≡
+            not (is_stopped (client self.now).standing.phase) };
 }
 
 /// What is set up as the states of a client ask.
@@ -71,11 +100,16 @@ pub fn turn<C: ManagedClient, I: Follow<C::State>, W: Words, L: DhcpLink>(
     link: &mut L,
 ) -> Result<Option<u64>, DhcpError>
     requires { now < 2 ^ 60 }
-    ensures turned { HasTurned (C.polled now) I.follows result
-        (seen client.old (W.left words.old) (L.shown link.old) (L.faults link.old)) interface.old
-        (seen client.new (W.left words.new) (L.shown link.new) (L.faults link.new)) interface.new }
-    ensures asleep { IfOk result (λ moment. C.sleeps_until moment client.new) }
-    ensures stopped { IfOk result (λ moment. is_some moment ≡ not (C.has_stopped client.new)) }
+    ensures turned { HasTurned (C.protocol client.old) W.gives L.moves C.public_state
+        I.follows now (Polled (C.protocol client.old) W.gives L.moves C.public_state
+        C.needs_memory W.left L.shown L.faults now) result
+        (linked (C.client client.old) words.old link.old) interface.old
+        (linked (C.client client.new) words.new link.new) interface.new }
+    ensures same { C.protocol client.new ≡ C.protocol client.old }
+    ensures next { IfOk result (λ moment.
+        HasNextPoll (C.protocol client.new) moment (C.client client.new)) }
+    ensures stopped { IfOk result (λ moment. is_some moment ≡
+        not (is_stopped (C.client client.new).standing.phase)) }
     ensures errors { IfErr result (λ error. (error ≡ timed_out) ⊎ (error ≡ no_memory)) }
 {
     for _ in 0..7u32 {

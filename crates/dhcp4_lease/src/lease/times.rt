@@ -2,7 +2,7 @@
 
 ghost use Rattle.std.specs.Prelude.{◌≡◌, ◌≤◌, ◌<◌, ◌-◌, ◌*◌, ◌/◌, ◌^◌, IfSome, IsTrue};
 ghost use Rattle.dhcp4_lease.specs.Lease as leases;
-ghost use Rattle.dhcp_clock.specs.Words.{Draws};
+ghost use Rattle.dhcp_clock.specs.Words.{Draws, DrawsBy};
 
 use dhcp_clock::Words;
 use dhcp4_msg::{DhcpV4OptionCode, DhcpV4Options};
@@ -34,6 +34,7 @@ impl LeaseTimes {
 pub fn read_times<W: Words>(options: &DhcpV4Options, words: &mut W) -> Option<LeaseTimes>
     ensures drawn { Draws (W.left words.old) (W.left words.new)
         (leases.read_times options.now) (λ times. times ≡ result) }
+    ensures taken { DrawsBy W.gives (leases.read_times options.now) words.old result words.new }
     ensures in_order { IfSome result (λ times. IsTrue (leases.are_in_order times)) }
 {
     let lease_time_sec = options.seconds(DhcpV4OptionCode::IpAddressLeaseTime)?;
@@ -48,8 +49,10 @@ pub fn read_times<W: Words>(options: &DhcpV4Options, words: &mut W) -> Option<Le
 // The times of a lease that lasts so long.
 #[tactic(auto, unfolding(crate::specs::Lease::times_of, dhcp4_msg::specs::OptionCode::number_of))]
 fn times_of<W: Words>(options: &DhcpV4Options, lease_time_sec: u32, words: &mut W) -> LeaseTimes
-    ensures { Draws (W.left words.old) (W.left words.new)
+    ensures drawn { Draws (W.left words.old) (W.left words.new)
         (leases.times_of options.now lease_time_sec) (λ times. times ≡ result) }
+    ensures taken { DrawsBy W.gives (leases.times_of options.now lease_time_sec)
+        words.old result words.new }
 {
     let renewal = options.seconds(DhcpV4OptionCode::RenewalTime);
     let t1_sec = said_or_drawn(renewal, lease_time_sec / 2, words);
@@ -73,8 +76,9 @@ fn seven_eighths(seconds: u32) -> u32
 #[tactic(auto, unfolding(crate::specs::Lease::said_or_drawn))]
 fn said_or_drawn<W: Words>(said: Option<u32>, base: u32, words: &mut W) -> u32
     requires { base < 2 ^ 32 - 1 }
-    ensures { Draws (W.left words.old) (W.left words.new)
+    ensures drawn { Draws (W.left words.old) (W.left words.new)
         (leases.said_or_drawn said base) (λ time. time ≡ result) }
+    ensures taken { DrawsBy W.gives (leases.said_or_drawn said base) words.old result words.new }
 {
     match said {
         Some(seconds) => seconds,

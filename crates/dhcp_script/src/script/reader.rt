@@ -1,5 +1,6 @@
 //! The reader of a script of either family.
 
+ghost use Rattle.std.specs.Prelude.{if◌then◌else◌, ◌==◌, length, None, Some};
 ghost use Rattle.dhcp_stream.specs.TextReader.{tag_at, Finds, Skips, Takes};
 ghost use Rattle.dhcp_script.specs.ScriptReader.{script_at, script_in};
 ghost use Rattle.dhcp_script.specs.Version.{first_line4, first_line6};
@@ -18,10 +19,18 @@ pub fn read_whole_script(alloc: Global, version: Version, text: &[u8]) -> Result
 {
     let mut text = TextReader::new(text);
     let script = read_front(alloc, version, &mut text)?;
-    if !text.is_at_end() {
-        return Err(ReadError::Malformed);
+    at_end(&text, script)
+}
+
+// What was read, if it was the whole text.
+fn at_end<T: Drop>(text: &TextReader, read: T) -> Result<T, ReadError>
+    ensures { Finds result (if length text.now == 0 then Some read else None) }
+{
+    if text.is_at_end() {
+        Ok(read)
+    } else {
+        Err(ReadError::Malformed)
     }
-    Ok(script)
 }
 
 // Reads a script in a version from the front of a text.

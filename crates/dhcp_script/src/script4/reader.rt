@@ -6,8 +6,7 @@ ghost use Rattle.dhcp_script.specs.ScriptReader.{identity4_at, iface4_at, script
 use crate::Script4;
 use crate::codes::read_codes;
 use crate::field::flag;
-use crate::held::read_held_lease;
-use crate::life::read_life;
+use crate::held::read_lease_and_life;
 use crate::version::Version;
 use dhcp_stream::{ReadError, TextReader};
 use dhcp_wire::Bytes;
@@ -42,9 +41,7 @@ pub fn read_script4(
 {
     let iface = read_iface(text)?;
     let identity = read_identity(alloc, text)?;
-    text.tag(b"lease ")?;
-    let lease = read_held_lease(alloc, version, text)?;
-    let life = read_life(alloc, text)?;
+    let (lease, life) = read_lease_and_life(alloc, version, text)?;
     let mac = iface.mac;
     Ok(Script4 {
         iface_index: iface.index,

@@ -12,8 +12,7 @@ ghost use Rattle.dhcp_script.specs.ScriptReader.{
 use crate::Script6;
 use crate::codes::read_codes;
 use crate::field::read_field;
-use crate::held::read_held_lease;
-use crate::life::read_life;
+use crate::held::read_lease_and_life;
 use crate::version::Version;
 use dhcp_stream::{ReadError, TextReader, mac_field};
 use dhcp_wire::{Bytes, Sequence};
@@ -50,9 +49,7 @@ pub fn read_script6(
 {
     let iface = read_iface(alloc, text)?;
     let identity = read_identity(alloc, text)?;
-    text.tag(b"lease ")?;
-    let lease = read_held_lease(alloc, version, text)?;
-    let life = read_life(alloc, text)?;
+    let (lease, life) = read_lease_and_life(alloc, version, text)?;
     let mac = iface.mac;
     Ok(Script6 {
         iface_index: iface.index,

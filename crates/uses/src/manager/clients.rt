@@ -2,18 +2,24 @@
 
 ghost use Rattle.std.specs.Prelude.{◌≡◌, ◌⊎◌, false, true, None, IfErr, IfOk, OnOk};
 ghost use Rattle.dhcp_wire.specs.Error.{no_memory};
-ghost use Rattle.dhcp_history.specs.Calls.{IsRun};
-ghost use Rattle.dhcp_history.specs.Machine.{is_stopped};
 ghost use Rattle.dhcp4_client.specs.Client as client4;
 ghost use Rattle.dhcp4_client.specs.Rules as rules4;
 ghost use Rattle.dhcp4_client.specs.State as states4;
+ghost use Rattle.dhcp4_client.specs.declared.answer.Answer as answer4;
+ghost use Rattle.dhcp4_client.specs.declared.client_state.ClientState as held4;
+ghost use Rattle.dhcp4_client.specs.declared.client_state.Exchange as exchange4;
+ghost use Rattle.dhcp4_client.specs.declared.state.PlainState as plain4;
+ghost use Rattle.dhcp4_lease.specs.Lease as lease4;
 ghost use Rattle.dhcp6_msg.specs.Config.{ethernet_duid};
 ghost use Rattle.dhcp6_msg.specs.Lease.{is_unspecified};
 ghost use Rattle.dhcp6_client.specs.Client as client6;
 ghost use Rattle.dhcp6_client.specs.Rules as rules6;
 ghost use Rattle.dhcp6_client.specs.State as states6;
+ghost use Rattle.dhcp6_client.specs.declared.client_state.ClientState as held6;
+ghost use Rattle.dhcp6_client.specs.declared.client_state.Exchange as exchange6;
+ghost use Rattle.dhcp6_client.specs.declared.state.PlainState as plain6;
+ghost use Rattle.dhcp6_msg.specs.Lease as lease6;
 ghost use Rattle.uses.specs.Configs.{config4, config6, mac};
-ghost use Rattle.uses.specs.Manager.{SleepsUntil};
 
 use super::ManagedClient;
 use dhcp_clock::{DhcpLink, Words};
@@ -28,14 +34,23 @@ use std::net::Ipv6Addr;
 impl ManagedClient for DhcpV4Client {
     type State = DhcpV4State;
 
-    ghost polled = { λ now result old new.
-        IsRun rules4.protocol states4.plain_state rules4.needs_memory now result
-        old.client new.client old.words new.words old.shown new.shown old.faults new.faults };
+    ghost PublicState = { plain4.PlainState };
 
-    ghost sleeps_until = { λ moment parts.
-        SleepsUntil (rules4.protocol parts.config) moment parts.client };
+    ghost ClientState = { held4.ClientState };
 
-    ghost has_stopped = { λ parts. is_stopped parts.client.standing.phase };
+    ghost Exchange = { exchange4.Exchange };
+
+    ghost Answer = { answer4.Answer };
+
+    ghost Lease = { lease4.Lease };
+
+    ghost public_state = { states4.plain_state };
+
+    ghost protocol = { λ parts. rules4.protocol parts.config };
+
+    ghost client = { λ parts. parts.client };
+
+    ghost needs_memory = { rules4.needs_memory };
 
     fn run<W: Words, L: DhcpLink>(
         &mut self,
@@ -54,14 +69,23 @@ impl ManagedClient for DhcpV4Client {
 impl ManagedClient for DhcpV6Client {
     type State = DhcpV6State;
 
-    ghost polled = { λ now result old new.
-        IsRun rules6.protocol states6.plain_state rules6.needs_memory now result
-        old.client new.client old.words new.words old.shown new.shown old.faults new.faults };
+    ghost PublicState = { plain6.PlainState };
 
-    ghost sleeps_until = { λ moment parts.
-        SleepsUntil (rules6.protocol parts.config) moment parts.client };
+    ghost ClientState = { held6.ClientState };
 
-    ghost has_stopped = { λ parts. is_stopped parts.client.standing.phase };
+    ghost Exchange = { exchange6.Exchange };
+
+    ghost Answer = { lease6.Lease };
+
+    ghost Lease = { lease6.Lease };
+
+    ghost public_state = { states6.plain_state };
+
+    ghost protocol = { λ parts. rules6.protocol parts.config };
+
+    ghost client = { λ parts. parts.client };
+
+    ghost needs_memory = { rules6.needs_memory };
 
     fn run<W: Words, L: DhcpLink>(
         &mut self,

@@ -1,5 +1,7 @@
 use super::{Interface, new_client, new_client6, turn};
-use crate::{configuration, discover_payload};
+use crate::{
+    QueueLink, SystemWords, configuration, discover_payload, follow_poll6, give_up6, keep_turn,
+};
 use dhcp_clock::{MemLink, WordList};
 use std::net::Ipv6Addr;
 use std::test::Fail;
@@ -43,5 +45,38 @@ fn a_configuration_gives_a_discover(rt: HostRuntime) -> Result<(), Fail> {
     let alloc = rt.alloc();
     let config = configuration(alloc)?;
     assert!(rt; discover_payload(alloc, 7, &config)?.is_some());
+    Ok(())
+}
+
+#[test]
+fn a_link_of_ones_own_keeps_what_is_to_be_sent(rt: HostRuntime) -> Result<(), Fail> {
+    let alloc = rt.alloc();
+    let mut words = SystemWords {
+        left: Vec::new(alloc),
+    };
+    let mut client = new_client(alloc, &mut words).expect(&rt, "memory");
+    let mut interface = Interface::default();
+    let mut link = QueueLink::new(alloc);
+    let wake = keep_turn(&mut client, &mut interface, 0, &mut words, &mut link);
+    assert_eq!(rt; wake, Ok(Some(3_000)));
+    assert_eq!(rt; link.to_send.len(), 1);
+    Ok(())
+}
+
+#[test]
+fn a_client_without_a_lease_has_nothing_to_give_up(rt: HostRuntime) -> Result<(), Fail> {
+    let alloc = rt.alloc();
+    let mut words = SystemWords {
+        left: Vec::new(alloc),
+    };
+    let mut client = new_client6(alloc, Ipv6Addr::LOCALHOST, &mut words).expect(&rt, "memory");
+    let mut interface = Interface::default();
+    let mut link = QueueLink::new(alloc);
+    let changed = follow_poll6(&mut client, &mut interface, 0, &mut words, &mut link);
+    assert_eq!(rt; changed, Ok(false));
+    assert_eq!(rt;
+        give_up6(&mut client, &mut interface, 0, &mut link),
+        Ok(false)
+    );
     Ok(())
 }

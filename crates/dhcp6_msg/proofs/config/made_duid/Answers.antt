@@ -8,4 +8,4 @@ returns-in-Some-clause-sendable g c =
     made_is_duid c.ethernet_duid.result (ethernet_duid c.in-Some.mac) (is_duid-ethernet_duid c.in-Some.mac c.has_six_bytes.ensures) c.ethernet_duid.ensures
 
 pub returns-in-None-clause-sendable : goal.returns-in-None-clause-sendable
-returns-in-None-clause-sendable g c = drawn_is_duid _ _ c.random.result c.random.ensures
+returns-in-None-clause-sendable g c = drawn_is_duid _ _ c.random.result c.random.ensures.drawn

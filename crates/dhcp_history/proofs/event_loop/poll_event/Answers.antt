@@ -25,6 +25,7 @@ loop-preserved g c =
       refuses = c.poll_once.ensures.refuses ∙ c.loop.invariant.refuses;
       polled = inr c.in_ok-poll_once.ensures.moment;
       armed = λ first. c.poll_once.ensures.armed (c.loop.invariant.armed first);
+      keeps = λ holds preserves first. c.poll_once.ensures.keeps holds preserves (c.loop.invariant.keeps holds preserves first);
     }
 
 pub returns-clause-reported : goal.returns-clause-reported

@@ -1,6 +1,7 @@
 use Rattle.std.proofs.Common.{◌≡◌, ◌-◌, ◌⊎◌, []}
 use Rattle.std.specs.Prelude.{IfSome, IsSomeAnd}
 use Rattle.dhcp_history.specs.Client.{view_of}
+use Rattle.dhcp_history.specs.Kept.{Keeps}
 use Rattle.dhcp_history.specs.Schedule.{HasNextAttempt}
 use Rattle.dhcp_history.specs.Run.{input_of}
 use Rattle.dhcp_history.specs.EventLoop.{event_of, polls_at, MakesUp}
@@ -19,4 +20,5 @@ invariant-loop g l =
       refuses : l.link.shown.refuses ≡ l.at.refuse;
       polled : (l.counter ≡ 0) ⊎ (l.client.last_moment ≡ l.at.moment);
       armed : HasNextAttempt p.has_attempts l.fn.client → HasNextAttempt p.has_attempts l.client;
+      keeps : Keeps p l.fn.client.state l.client.state;
     }

@@ -8,6 +8,7 @@ returns g c = record {
     reported = c.in_ok-run_events.ensures.reported;
     moment = c.in_ok-run_events.ensures.moment;
     armed = c.run_events.ensures.armed;
+    keeps = c.run_events.ensures.keeps;
     error = tt;
   };
   history = loop_history (g.R.Rules.protocol c.args.rules.now) (g.W.Words.left c.args.words.now) (g.W.Words.left c.run_events.new.words) (view_of c.args.client.now) (view_of c.run_events.new.client)

@@ -25,6 +25,7 @@ loop-event-preserved g c =
       moment = rw c.in_ok-run_event.ensures.moment
           (subst (λ (events : List (Event Packet)). last_moment c.loop-event.client.last_moment events ≡ last_moment c.args.client.now.last_moment whole) c.in-Some.ensures.steps.0 c.loop-event.invariant.moment);
       armed = λ first. c.run_event.ensures.armed (c.loop-event.invariant.armed first);
+      keeps = λ holds preserves first. c.run_event.ensures.keeps holds preserves (c.loop-event.invariant.keeps holds preserves first);
       moments = All-tail (λ (event : Event Packet). event.moment < 2 ^ 60) c.in-Some.event rest
           (subst (λ (events : List (Event Packet)). All (λ (event : Event Packet). event.moment < 2 ^ 60) events) c.in-Some.ensures.steps.0 c.loop-event.invariant.moments);
     }

@@ -1,7 +1,7 @@
 use Rattle.std.proofs.Common.{◌≡◌, ◌++◌}
 use Rattle.std.specs.Prelude.{map}
 use Rattle.std.specs.Vec.Iter.{into_iter_items}
-use Rattle.dhcp_script.specs.Output.{plain_output}
+use Rattle.dhcp_output.specs.Output.{plain_output}
 use Rattle.dhcp_replay.specs.Life.{output_of}
 use Rattle.dhcp_replay.proofs.life.outputs_of.Given as goal
 

@@ -1,12 +1,14 @@
-use Rattle.uses.specs.Manager.{Changes, seen}
+use Rattle.std.proofs.Common.{◌≡◌, []}
+use Rattle.uses.specs.Manager.{Follows, linked}
 use Rattle.uses.proofs.manager.turn.Given as goal
 
--- each poll so far reported a state that the interface followed
+-- each poll so far reported a state that the interface followed, and the table is as it was
 abbrev pub invariant-loop : goal.invariant-loop
-invariant-loop g l =
-    let left = g.W.Words.left in
-    let shown = g.L.DhcpLink.shown in
-    let faults = g.L.DhcpLink.faults in
-    Changes (g.C.ManagedClient.polled l.now) g.I.Follow.follows
-    (seen l.fn.client (left l.fn.words) (shown l.fn.link) (faults l.fn.link)) l.fn.interface
-    l.counter (seen l.client (left l.words) (shown l.link) (faults l.link)) l.interface
+invariant-loop g l = record {
+  polls :
+      Follows (g.C.ManagedClient.protocol l.fn.client) g.W.Words.gives g.L.DhcpLink.moves
+      g.C.ManagedClient.public_state g.I.Follow.follows l.now [] l.counter
+      (linked (g.C.ManagedClient.client l.fn.client) l.fn.words l.fn.link) l.fn.interface
+      (linked (g.C.ManagedClient.client l.client) l.words l.link) l.interface;
+  same : g.C.ManagedClient.protocol l.client ≡ g.C.ManagedClient.protocol l.fn.client;
+}

@@ -1,12 +1,21 @@
 -- T1 is drawn, and T2 after it.
 use Rattle.dhcp4_msg.specs.OptionCode.{number_of}
+use Rattle.dhcp4_lease.proofs.TakenTimes.{taken_times}
 use Rattle.dhcp4_lease.proofs.TimesLemmas.{draws_times}
 use Rattle.dhcp4_lease.proofs.lease.times.times_of.Goals as goal
 
-pub returns : goal.returns
+pub returns-clause-drawn : goal.returns-clause-drawn
 unfolding number_of
-returns g c =
+returns-clause-drawn g c =
     let t1 = c.said_or_drawn-t1_sec in
     let t2 = c.said_or_drawn-t2_sec in
     draws_times _ _ _ c.args.options.now c.args.lease_time_sec _ _ c.seven_eighths.result t1.result t2.result
-    c.seconds-renewal.ensures c.seconds-rebinding.ensures c.seven_eighths.ensures t1.ensures t2.ensures
+    c.seconds-renewal.ensures c.seconds-rebinding.ensures c.seven_eighths.ensures t1.ensures.drawn t2.ensures.drawn
+
+pub returns-clause-taken : goal.returns-clause-taken
+unfolding number_of
+returns-clause-taken g c =
+    let t1 = c.said_or_drawn-t1_sec in
+    let t2 = c.said_or_drawn-t2_sec in
+    taken_times g.W.Words.gives _ _ _ c.args.options.now c.args.lease_time_sec _ _ c.seven_eighths.result t1.result t2.result
+    c.seconds-renewal.ensures c.seconds-rebinding.ensures c.seven_eighths.ensures t1.ensures.taken t2.ensures.taken

@@ -1,6 +1,14 @@
--- The release of the rules, of the client that contracts see.
+-- The release of the rules, of the client that contracts see; the times of the lease stay in order.
 use Rattle.std.proofs.Common.{refl}
+use Rattle.dhcp6_client.specs.Held.{has_times_in_order}
+use Rattle.dhcp6_client.proofs.Held.{order_preserved}
 use Rattle.dhcp6_client.proofs.client.DhcpV6Client.release_held.Goals as goal
 
-pub returns : goal.returns
-returns g c = rw (← c.self.view_is) (record { releases = c.release_held_at.ensures; config = refl })
+pub invariant_of-self : goal.invariant_of-self
+invariant_of-self g c = (
+  c.release_held_at.ensures.releases.armed c.self.invariant.0,
+  c.release_held_at.ensures.releases.keeps has_times_in_order (order_preserved c.self.inside.rules.config) c.self.invariant.1,
+)
+
+pub returns-clause-released : goal.returns-clause-released
+returns-clause-released g c = rw (← c.self.view_is) (record { releases = c.release_held_at.ensures.releases; config = refl })

@@ -1,15 +1,68 @@
 -- The poll of the rules, of the client that contracts see.
-use Rattle.std.proofs.Common.{◌≡◌, refl, arith, rules, Ok}
+use Rattle.std.proofs.Common.{◌≡◌, ◌∙◌, ap, sym, subst, refl, arith, rules}
+use Rattle.std.specs.Prelude.{Option, Ok, option_map}
 use Rattle.dhcp_history.specs.Errors.{run_answer}
+use Rattle.dhcp_history.proofs.ErrorLemmas.{on_failure}
+use Rattle.dhcp6_client.specs.declared.state.PlainState.{PlainState}
+use Rattle.dhcp6_client.specs.Client.{ClientParts}
+use Rattle.dhcp6_client.specs.Held.{KeepsLease, has_times_in_order}
 use Rattle.dhcp6_client.specs.State.{plain_state}
+use Rattle.dhcp6_client.proofs.HeardLeases.{Law, heard_by, traced_as}
+use Rattle.dhcp6_client.proofs.Held.{keeps_lease, order_preserved}
 use Rattle.dhcp6_client.proofs.client.DhcpV6Client.run.Goals as goal
 
-pub returns-in_err-reported : goal.returns-in_err-reported
-returns-in_err-reported g c =
-    let same : run_answer plain_state c.from_residual.result ≡ c.run.result = grind arith in
-    rw (← c.self.view_is) (record { polls = rw same c.run.ensures; errors = grind arith; config = refl })
+pub invariant_of-self-2 : goal.invariant_of-self-2
+invariant_of-self-2 g c = (
+  c.run.ensures.polls.armed c.self.invariant.0,
+  c.run.ensures.polls.keeps has_times_in_order (order_preserved c.self.inside.rules.config) c.self.invariant.1,
+)
 
-pub returns : goal.returns
-returns g c =
+pub returns-in_err-reported-clause-ran : goal.returns-in_err-reported-clause-ran
+returns-in_err-reported-clause-ran g c =
+    let same : run_answer plain_state c.from_residual.result ≡ c.run.result = grind arith in
+    rw (← c.self.view_is) (record { polls = rw same c.run.ensures.polls; settled = search rules; errors = grind arith; config = refl })
+
+pub returns-in_err-reported-clause-traced : goal.returns-in_err-reported-clause-traced
+returns-in_err-reported-clause-traced g c =
+    let same : run_answer plain_state c.from_residual.result ≡ c.run.result = grind arith in
+    rw (← c.self.view_is) (rw same c.run.ensures.traced)
+
+pub returns-in_err-reported-clause-ran_out : goal.returns-in_err-reported-clause-ran_out
+returns-in_err-reported-clause-ran_out g c =
+    rw (← c.self.view_is) (on_failure (Option PlainState) plain_state c.from_residual.result c.in_err-reported.field-0.0 _ c.from_residual.ensures.1 c.in_err-reported.ensures.ran_out)
+
+pub returns-clause-ran : goal.returns-clause-ran
+returns-clause-ran g c =
     let same : run_answer plain_state (Ok c.map.result) ≡ c.run.result = grind arith in
-    rw (← c.self.view_is) (record { polls = rw same c.run.ensures; errors = search rules; config = refl })
+    rw (← c.self.view_is) (record {
+      polls = rw same c.run.ensures.polls;
+      settled = λ none. c.run.ensures.polls.settles (c.table_is_lawful.ensures c.self.inside.rules.config) (sym same ∙ ap (run_answer plain_state) none);
+      errors = search rules;
+      config = refl;
+    })
+
+pub returns-clause-traced : goal.returns-clause-traced
+returns-clause-traced g c =
+    let same : run_answer plain_state (Ok c.map.result) ≡ c.run.result = grind arith in
+    rw (← c.self.view_is)
+    (traced_as g.W.Words.gives g.L.DhcpLink.moves c.self.inside.rules.config c.args.now (run_answer plain_state (Ok c.map.result)) c.run.result c.self.inside.client c.run.new.client
+    c.args.words.now c.run.new.words c.args.link.now c.run.new.link same c.run.ensures.traced)
+
+pub returns-clause-leases : goal.returns-clause-leases
+returns-clause-leases g c =
+    let same : option_map plain_state c.map.result ≡ c.in_ok-reported.reported = search rules in
+    rw (← c.self.view_is)
+    (subst (λ (change : Option PlainState). KeepsLease c.self.inside.rules.config.mode c.args.now (Ok change) c.self.inside.client c.run.new.client) (sym same)
+    (keeps_lease g.W.Words.gives g.L.DhcpLink.moves c.self.inside.rules.config c.args.now (Ok c.in_ok-reported.reported) c.self.inside.client c.run.new.client
+    c.args.words.now c.run.new.words c.args.link.now c.run.new.link
+    c.in_ok-reported.ensures.traced tt c.in_ok-reported.ensures.polls.still c.in_ok-reported.ensures.polls.reported
+    (λ is. (c.in_ok-reported.ensures.polls.settles (c.table_is_lawful.ensures c.self.inside.rules.config) is).lasts)
+    (c.run.ensures.polls.keeps has_times_in_order (order_preserved c.self.inside.rules.config) c.self.invariant.1)))
+
+pub returns-clause-heard : goal.returns-clause-heard
+returns-clause-heard g c =
+    let same : run_answer plain_state (Ok c.map.result) ≡ c.run.result = grind arith in
+    rw (← c.self.view_is)
+    (heard_by g.W.Words.gives g.L.DhcpLink.moves c.args.now (Ok c.map.result) c.run.result (record { config = c.self.inside.rules.config; client = c.self.inside.client })
+    (record { config = c.self.inside.rules.config; client = c.run.new.client }) c.args.words.now c.run.new.words c.args.link.now c.run.new.link
+    (subst (λ (parts : ClientParts). Law parts.config) (sym c.self.view_is) c.leases_are_granted.ensures) same c.run.ensures.traced c.run.ensures.polls.reported)

@@ -1,0 +1,10 @@
+-- The times of the lease stay in order.
+use Rattle.dhcp4_client.specs.Held.{has_times_in_order}
+use Rattle.dhcp4_client.proofs.Held.{order_preserved}
+use Rattle.dhcp4_client.proofs.client.DhcpV4Client.replay.Goals as goal
+
+pub invariant_of-self : goal.invariant_of-self
+invariant_of-self g c = (
+  c.replay.ensures.plays.armed c.self.invariant.0,
+  c.replay.ensures.plays.keeps has_times_in_order (order_preserved c.self.inside.rules.config) c.self.invariant.1,
+)

@@ -1,0 +1,13 @@
+use Rattle.std.proofs.Common.{◌∙◌, refl, sym, arith}
+use Rattle.dhcp_history.proofs.Traced.{hears_shut, hears_none}
+use Rattle.dhcp_history.proofs.attempt.receive.Goals as goal
+
+pub returns-then-not-is_listening-clause-traced : goal.returns-then-not-is_listening-clause-traced
+returns-then-not-is_listening-clause-traced g c =
+    hears_shut (g.R.Rules.protocol c.args.rules.now) g.W.Words.gives g.L.DhcpLink.moves c.args.now c.args.client.now _ refl c.args.words.now c.args.link.now
+    (sym c.is_listening.ensures ∙ grind arith)
+
+pub returns-in-None-clause-traced : goal.returns-in-None-clause-traced
+returns-in-None-clause-traced g c =
+    hears_none (g.R.Rules.protocol c.args.rules.now) g.W.Words.gives g.L.DhcpLink.moves c.args.now c.args.client.now _ refl c.args.words.now c.args.link.now c.receive.new.self
+    (sym c.is_listening.ensures ∙ grind arith) c.in-None.ensures.moved

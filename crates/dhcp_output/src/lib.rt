@@ -1,0 +1,10 @@
+//! What is reported of a client over the events of a script: its type, its text, and its summary.
+#![tactic(auto)]
+
+mod output;
+mod printer;
+mod summary;
+
+pub use output::{Output, OutputWhat, Reported};
+pub use printer::print_outputs;
+pub use summary::print_summary;

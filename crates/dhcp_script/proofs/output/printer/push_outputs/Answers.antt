@@ -1,5 +1,0 @@
-use Rattle.dhcp_script.proofs.OutputLemmas.{lines-each}
-use Rattle.dhcp_script.proofs.output.printer.push_outputs.Goals as goal
-
-pub returns : goal.returns
-returns c = rw (lines-each c.args.outputs.now) c.push_each.ensures

@@ -1,6 +1,0 @@
-use Rattle.std.proofs.Common.{◌∙◌}
-use Rattle.dhcp_script.proofs.OutputLemmas.{count-each}
-use Rattle.dhcp_script.proofs.output.summary.count.Goals as goal
-
-pub returns : goal.returns
-returns c = c.count_each.ensures ∙ count-each c.args.kind c.args.outputs.now

@@ -1,0 +1,82 @@
+//! What a manager keeps of a lease of IPv6, over a link and words of which nothing is known.
+
+ghost use Rattle.std.specs.Prelude.{◌≡◌, ◌⊎◌, ◌<◌, ◌^◌, IfSome, None, OnErr, OnOk, Some};
+ghost use Rattle.std.specs.declared.net.Ipv6Addr.{Ipv6Addr};
+ghost use Rattle.dhcp6_client.specs.Rules.{held_lease};
+ghost use Rattle.uses.specs.Upkeep6.{HeardAddress, IsInUse};
+
+use crate::manager::{Follow, Interface, turn};
+use dhcp_clock::{DhcpLink, Words};
+use dhcp_wire::DhcpError;
+use dhcp6_client::DhcpV6Client;
+use std::net::Ipv6Addr;
+
+/// One poll at a moment, in milliseconds, which the interface follows; whether the state changed.
+/// An address that the interface takes on is that of a lease which was read from the packet that
+/// the link gave last in this poll, carried as awaited and with the client's transaction id.
+pub fn follow_poll6<W: Words, L: DhcpLink>(
+    client: &mut DhcpV6Client,
+    interface: &mut Interface,
+    now: u64,
+    words: &mut W,
+    link: &mut L,
+) -> Result<bool, DhcpError>
+    requires { now < 2 ^ 60 }
+    ensures { (address : Ipv6Addr) → interface.new.address6 ≡ Some address →
+        (interface.old.address6 ≡ Some address) ⊎ HeardAddress W.gives L.moves now address
+        client.old words.old words.new link.old link.new }
+{
+    let Some(state) = client.run(now, words, link)? else {
+        return Ok(false);
+    };
+    interface.follow(&state);
+    Ok(true)
+}
+
+/// One turn at a moment, in milliseconds. Whatever it returns, the interface has afterwards at most
+/// the address of a lease that the client holds and that has not ended.
+pub fn keep_turn6<W: Words, L: DhcpLink>(
+    client: &mut DhcpV6Client,
+    interface: &mut Interface,
+    now: u64,
+    words: &mut W,
+    link: &mut L,
+) -> Result<Option<u64>, DhcpError>
+    requires { now < 2 ^ 60 }
+    ensures { IfSome interface.new.address6 (λ address. IsInUse now address client.new) }
+{
+    let next = turn(client, interface, now, words, link);
+    interface.address6 = address_in_use6(client, now);
+    next
+}
+
+/// The address that may be used at a moment, in milliseconds: that of the lease that is held, before
+/// the end of that. A client that keeps an error may hold a lease that has ended.
+pub fn address_in_use6(client: &DhcpV6Client, now: u64) -> Option<Ipv6Addr>
+    ensures { IfSome result (λ address. IsInUse now address client.now) }
+{
+    let end = client.lease_end()?;
+    if end <= now {
+        return None;
+    }
+    let lease = client.lease()?;
+    Some(lease.address)
+}
+
+/// Releases the lease that is held, at a moment in milliseconds, and takes its address off the
+/// interface; whether one was held. Unless it fails, the client holds nothing afterwards; if it
+/// fails, the interface is unchanged.
+pub fn give_up6<L: DhcpLink>(
+    client: &mut DhcpV6Client,
+    interface: &mut Interface,
+    now: u64,
+    link: &mut L,
+) -> Result<bool, DhcpError>
+    ensures dropped { OnOk result (held_lease client.new.client.state ≡ None) }
+    ensures taken_off { OnOk result (interface.new.address6 ≡ None) }
+    ensures unchanged { OnErr result (interface.new ≡ interface.old) }
+{
+    let released = client.release_held(now, link)?;
+    interface.address6 = None;
+    Ok(released)
+}
