@@ -15,8 +15,6 @@ mod life;
 mod script;
 mod script4;
 mod script6;
-#[cfg(test)]
-mod tests;
 mod version;
 mod widths;
 
