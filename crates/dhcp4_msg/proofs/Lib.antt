@@ -9,6 +9,7 @@ pub mod RiseLemmas
 pub mod RisingLemmas
 pub mod RouteLemmas
 pub mod SlotLemmas
+pub mod StandardFacts
 pub mod ValueLemmas
 pub mod ViewLemmas
 pub use Rattle.dhcp4_msg.proofs.ValueLemmas.{text_len}

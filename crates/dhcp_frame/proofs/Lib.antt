@@ -1,3 +1,4 @@
 pub mod Sums
 pub mod Spelled
 pub mod Back
+pub mod StandardFacts
