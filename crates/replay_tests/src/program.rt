@@ -1,0 +1,82 @@
+//! The program, over a source and a sink in memory.
+
+use dhcp_replay::replay_tool;
+use dhcp_stream::{MemSink, MemSource};
+use dhcp_wire::DhcpError;
+use std::alloc::{AllocError, Global};
+
+// The exit status of a run that is out of memory.
+const NO_MEMORY: u8 = 5;
+
+// How many bytes the sink takes.
+const ROOM: usize = 65_536;
+
+/// How a run ended.
+#[derive(Drop)]
+pub struct Ended {
+    /// The exit status.
+    pub status: u8,
+    /// What the sink took.
+    pub text: Vec<u8>,
+}
+
+impl Ended {
+    // A run that ended with this status and these bytes in its sink.
+    fn new(alloc: Global, status: u8, taken: &[u8]) -> Result<Self, DhcpError> {
+        if status == NO_MEMORY {
+            return Err(DhcpError::from(AllocError));
+        }
+        let text = taken.to_vec(alloc)?;
+        Ok(Ended { status, text })
+    }
+
+    /// Whether it ended with this status and text.
+    pub fn is(&self, status: u8, text: &str) -> bool {
+        self.status == status && self.text.as_slice() == text.as_bytes()
+    }
+
+    /// Whether it ended with this status and nothing written.
+    pub fn is_empty(&self, status: u8) -> bool {
+        self.is(status, "")
+    }
+}
+
+/// The calls of a run that fail, by their numbers; no call has the number 0.
+#[derive(Clone, Copy, Debug)]
+pub struct Faults {
+    /// The read that fails.
+    pub read: u32,
+    /// The write that fails.
+    pub write: u32,
+}
+
+/// A run with these words over a source of these bytes. A run that is out of memory is an error, as
+/// any other call that is.
+pub fn run(alloc: Global, words: &[&str], input: &[u8]) -> Result<Ended, DhcpError> {
+    let none = Faults { read: 0, write: 0 };
+    run_with_faults(alloc, words, input, none)
+}
+
+/// The same, with calls that fail.
+pub fn run_with_faults(
+    alloc: Global,
+    words: &[&str],
+    input: &[u8],
+    faults: Faults,
+) -> Result<Ended, DhcpError> {
+    let words = owned(alloc, words)?;
+    let input = input.to_vec(alloc)?;
+    let mut source = MemSource::new(input, vec![in alloc; faults.read]?);
+    let mut sink = MemSink::new(alloc, ROOM, vec![in alloc; faults.write]?)?;
+    let status = replay_tool(alloc, words.as_slice(), &mut source, &mut sink);
+    Ended::new(alloc, status, sink.bytes())
+}
+
+// The words as the program is given them.
+fn owned(alloc: Global, words: &[&str]) -> Result<Vec<String>, AllocError> {
+    let mut owned = Vec::new(alloc);
+    for word in words {
+        owned.push(String::from_str(alloc, word)?)?;
+    }
+    Ok(owned)
+}
