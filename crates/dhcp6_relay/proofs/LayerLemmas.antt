@@ -89,6 +89,10 @@ unfolding around
 length-around-first forward layers message layer inside is =
     ap (λ layers. length (around forward layers message)) is ∙ length-written_layer forward layer (around forward inside message)
 
+pub first-le-around : (forward : Bool) (layers : List LayerParts) (message : List ℕ) (len : ℕ) (layer : LayerParts) (inside : List LayerParts) → layers ≡ layer ∷ inside → len ≡ length (around forward layers message) → layer_length layer ≤ len
+first-le-around forward layers message len layer inside is whole =
+    omega (arith, whole, length-around-first forward layers message layer inside is)
+
 -- as they are written one after the other
 pub written-around-first : (forward : Bool) (layers : List LayerParts) (message old : List ℕ) (layer : LayerParts) (inside : List LayerParts) (n : ℕ) → layers ≡ layer ∷ inside → n ≡ length (around forward inside message)
     → old ++ (written_header forward layer ++ (to_be_bytes w16 relay_message ++ to_be_bytes w16 n)) ++ around forward inside message ++ written_interface layer.interface ≡ old ++ around forward layers message

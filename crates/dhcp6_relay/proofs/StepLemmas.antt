@@ -1,10 +1,10 @@
 -- One step on the way back of an answer: what a relay agent finds in the reply to what it relayed.
 use Rattle.std.proofs.Common.{◌≡◌, ℕ, zero, suc, ◌+◌, ◌^◌, ◌<◌, ◌≤◌, Bool, true, false, cond, leb, ltb, List, [], ◌∷◌, length, Ok, Err, refl, sym, ap, subst, ◌∙◌, arith}
-use Rattle.std.specs.Prelude.{Result}
+use Rattle.std.specs.Prelude.{IfOk, Result}
 use Rattle.std.proofs.lemmas.Bool.{ltb-true}
 use Rattle.dhcp6_relay.specs.Hop.{Hop, layer_at}
 use Rattle.dhcp6_relay.specs.Layer.{LayerParts, around, header_length, is_forward, written_layer}
-use Rattle.dhcp6_relay.specs.Outcome.{◌>>=◌, limited, most_bytes}
+use Rattle.dhcp6_relay.specs.Outcome.{◌>>=◌, Gives, limited, most_bytes}
 use Rattle.dhcp6_relay.specs.Relay.{layer_of, parsed_relay, relay_with}
 use Rattle.dhcp6_relay.specs.Reply.{answered, layers_of, layers_within, most_layers, with_inner}
 use Rattle.dhcp6_relay.specs.RoundTrip.{FindsItsLayer, HasAddresses, answer_to}
@@ -106,9 +106,9 @@ reply-step bytes hop answer forward reply has wraps answers =
     }
 
 -- what a relay agent relays is a Relay-forward
-pub wrapped-forward : (bytes : List ℕ) (hop : Hop) (forward : List ℕ) → wrapped bytes hop ≡ Ok forward → is_forward forward ≡ true
-unfolding wrapped
-wrapped-forward bytes hop forward wraps =
-    let made = after_ok (next_hop_count bytes) (λ hops. limited (written_layer true (layer_at hops hop) bytes)) forward wraps in
-    let whole = limited-ok (written_layer true (layer_at made.0 hop) bytes) forward made.1.1 in
-    subst (λ b. is_forward b ≡ true) whole.0 (is_forward-written_layer (layer_at made.0 hop) bytes)
+pub given-forward : (layer : LayerParts) (bytes : List ℕ) (given : Result (List ℕ) RelayError) → Gives (λ forward. forward) given (limited (around true (layer ∷ []) bytes))
+    → IfOk given (λ forward. is_forward forward ≡ true)
+unfolding around
+given-forward layer bytes (Ok forward) gives =
+    subst (λ b. is_forward b ≡ true) (limited-ok (written_layer true layer bytes) forward gives).0 (is_forward-written_layer layer bytes)
+given-forward layer bytes (Err e) gives = tt

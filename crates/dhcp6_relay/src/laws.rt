@@ -1,7 +1,7 @@
 //! Laws of the definitions: an answer finds its way back through the relay agents that its question
 //! came through. A call does nothing.
 
-ghost use Rattle.std.specs.Prelude.{◌≡◌, ◌≢◌, ℕ, List, Err, Ok, false, option_copied, true};
+ghost use Rattle.std.specs.Prelude.{◌≡◌, ◌≢◌, ℕ, List, Err, Ok, false, option_copied};
 ghost use Rattle.dhcp6_relay.specs.Hop.{Hop};
 ghost use Rattle.dhcp6_relay.specs.Layer.{is_forward};
 ghost use Rattle.dhcp6_relay.specs.Reply.{answered};
@@ -41,11 +41,12 @@ pub fn a_reply_is_unwrapped(
     answer: &[u8],
     reply: &[u8],
 )
-    ensures forward {
-        let hop = record { link = link; peer = peer; interface = option_copied interface.entry } in
-        wrapped bytes.now hop ≡ Ok forward.now → is_forward forward.now ≡ true }
-    ensures reply {
-        let hop = record { link = link; peer = peer; interface = option_copied interface.entry } in
+    ensures {
+        let hop : Hop = record {
+          link = link;
+          peer = peer;
+          interface = option_copied interface.entry;
+        } in
         wrapped bytes.now hop ≡ Ok forward.now → answered forward.now answer.now ≡ Ok reply.now
         → FindsItsLayer bytes.now hop answer.now reply.now }
 {}

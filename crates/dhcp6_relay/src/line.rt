@@ -1,7 +1,8 @@
 //! A line of hex: bytes, two lower-case digits for each, or `-` for none, and a line feed.
 
-ghost use Rattle.std.specs.Prelude.{OnOk};
+ghost use Rattle.std.specs.Prelude.{◌≡◌, IfOk, string_bytes};
 ghost use Rattle.hex.specs.Hex.{IsBytes};
+ghost use Rattle.dhcp_stream.specs.HexText.{hex_text};
 ghost use Rattle.dhcp_stream.specs.Reading.{GivesReading};
 ghost use Rattle.dhcp_wire.specs.Outcome.{Makes};
 ghost use Rattle.dhcp6_relay.specs.Tool.{hex_line};

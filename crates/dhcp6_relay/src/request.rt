@@ -70,6 +70,7 @@ impl Request {
 }
 
 // The message inside a relay message.
+#[tactic(auto, unfolding(crate::specs::Tool::inner_of))]
 fn inner_of(alloc: Global, message: &[u8]) -> Result<Bytes, RelayError>
     ensures { Gives (λ bytes. bytes) result (inner_of message.now) }
 {

@@ -1,6 +1,7 @@
 //! A message relayed towards a server, RFC 8415 section 19.1.
 
-ghost use Rattle.std.specs.Prelude.{◌≡◌, option_copied};
+ghost use Rattle.std.specs.Prelude.{◌≡◌, IfOk, option_copied, true};
+ghost use Rattle.dhcp6_relay.specs.Layer.{is_forward};
 ghost use Rattle.dhcp6_relay.specs.Outcome.{Gives};
 ghost use Rattle.dhcp6_relay.specs.Wrap.{next_hop_count, wrapped};
 
@@ -28,11 +29,12 @@ pub fn wrap_forward(
     peer: Ipv6Addr,
     interface: Option<&[u8]>,
 ) -> Result<Bytes, RelayError>
-    ensures { Gives (λ forward. forward) result (wrapped bytes.now (record {
+    ensures made { Gives (λ forward. forward) result (wrapped bytes.now (record {
       link = link;
       peer = peer;
       interface = option_copied interface.entry;
     })) }
+    ensures forward { IfOk result (λ forward. is_forward forward ≡ true) }
 {
     let layer = Layer {
         hops: next_hop_count(bytes)?,
