@@ -18,8 +18,13 @@ length-ipv6_octets address is = length-octets_of (ipv6_segments address) ∙ ap 
 pub length-written_option : (code : ℕ) (value : List ℕ) → length (written_option code value) ≡ 4 + length value
 unfolding written_raw_option
 length-written_option code value =
-    omega (arith, length-append (to_be_bytes w16 code) (to_be_bytes w16 (length value) ++ value), length-append (to_be_bytes w16 (length value)) value,
-    length-bytes_high_first 2 code, length-bytes_high_first 2 (length value))
+    omega (
+      arith,
+      length-append (to_be_bytes w16 code) (to_be_bytes w16 (length value) ++ value),
+      length-append (to_be_bytes w16 (length value)) value,
+      length-bytes_high_first 2 code,
+      length-bytes_high_first 2 (length value),
+    )
 
 -- an option is its code, its length and its value
 pub written_option-parts : (code : ℕ) (value : List ℕ) → written_option code value ≡ to_be_bytes w16 code ++ (to_be_bytes w16 (length value) ++ value)
@@ -33,8 +38,12 @@ rest_length forward layer = length (written_header forward layer) + 4 + length (
 layer_parts : (forward : Bool) (layer : LayerParts) (message : List ℕ) → length (written_layer forward layer message) ≡ rest_length forward layer + length message
 unfolding written_layer rest_length
 layer_parts forward layer message =
-    omega (arith, length-append (written_header forward layer) (written_option relay_message message ++ written_interface layer.interface),
-    length-append (written_option relay_message message) (written_interface layer.interface), length-written_option relay_message message)
+    omega (
+      arith,
+      length-append (written_header forward layer) (written_option relay_message message ++ written_interface layer.interface),
+      length-append (written_option relay_message message) (written_interface layer.interface),
+      length-written_option relay_message message,
+    )
 
 same_header : (forward : Bool) (layer : LayerParts) → rest_length forward layer ≡ rest_length true layer
 unfolding rest_length

@@ -4,7 +4,7 @@ use Rattle.std.specs.Prelude.{Result}
 use Rattle.dhcp6_relay.specs.Layer.{LayerParts, is_forward}
 use Rattle.dhcp6_relay.specs.Outcome.{◌>>=◌}
 use Rattle.dhcp6_relay.specs.Relay.{layer_of, parsed_relay}
-use Rattle.dhcp6_relay.specs.Reply.{layers_of, layers_within, most_layers, with_inner}
+use Rattle.dhcp6_relay.specs.Reply.{layers_of, layers_within, with_inner}
 use Rattle.dhcp6_relay.specs.declared.error.RelayError.{RelayError}
 use Rattle.dhcp6_relay.specs.declared.error.RelayError.TheVariants.{NotRelay, TooManyHops}
 use Rattle.dhcp6_relay.specs.declared.relay.Relay.{Relay}

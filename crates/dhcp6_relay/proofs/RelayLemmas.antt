@@ -1,10 +1,8 @@
 -- A relay message that is written reads back.
-use Rattle.std.proofs.Common.{◌≡◌, ℕ, ◌+◌, ◌^◌, ◌<◌, ◌≤◌, Bool, true, false, List, [], ◌∷◌, ◌++◌, length, Option, Some, None, Ok, refl, sym, ap, ◌∙◌, arith, append_assoc, append-nil}
+use Rattle.std.proofs.Common.{◌≡◌, ℕ, ◌^◌, ◌<◌, Bool, true, false, List, [], ◌∷◌, ◌++◌, length, Option, Some, None, Ok, refl, sym, ap, ◌∙◌, arith, append_assoc, append-nil}
 use Rattle.std.specs.Prelude.{IfSome, ok_or}
-use Rattle.std.specs.Int.{w8}
 use Rattle.std.specs.Net.Addr.{IsIpv6Addr, ipv6_octets}
-use Rattle.dhcp_wire.specs.Field.{◌>>=◌, number_at, ipv6_address_at}
-use Rattle.dhcp_wire.specs.RawOption.{FitsFormat, RawOptionParts, raw_option_at, raw_options, with_later}
+use Rattle.dhcp_wire.specs.RawOption.{FitsFormat, RawOptionParts, raw_options, with_later}
 use Rattle.dhcp_wire.specs.declared.raw_option.OptionFormat.TheVariants.{DhcpV6}
 use Rattle.dhcp_wire.proofs.FieldLaws.{ipv6_address_at-octets, number_at-byte}
 use Rattle.dhcp_wire.proofs.RawOptionLemmas.{raw_options-nil, raw_options-raw_option_at, raw_option_at-written_raw_option}

@@ -3,11 +3,11 @@ use Rattle.std.proofs.Common.{◌≡◌, ◌≢◌, ℕ, List, [], ◌∷◌, le
 use Rattle.std.specs.Prelude.{codes}
 use Rattle.std.specs.Net.Addr.{IsIpv6Addr, ipv6_octets, ipv6_segments, segments_of}
 use Rattle.std.specs.declared.net.Ipv6Addr.{Ipv6Addr}
-use Rattle.hex.specs.Hex.{IsBytes, encode_lower}
+use Rattle.hex.specs.Hex.{IsBytes}
 use Rattle.dhcp_stream.specs.HexText.{address6_text, hex_text}
 use Rattle.dhcp_stream.proofs.HexTextLemmas.{encode_lower-unique, hex_text-unique}
 use Rattle.dhcp_stream.proofs.Ipv6Lemmas.{AreOctets-ipv6, segments_of-octets_of}
-use Rattle.dhcp6_relay.specs.Request.{AsksFor, AsksForNothing, words_of}
+use Rattle.dhcp6_relay.specs.Request.{AsksFor, AsksForNothing}
 use Rattle.dhcp6_relay.specs.declared.request.Request.{Request}
 use Rattle.dhcp6_relay.specs.declared.request.Request.TheVariants.{Wrap, Reply, Unwrap}
 
@@ -93,7 +93,7 @@ same_address : (a b : Ipv6Addr) → IsIpv6Addr a → IsIpv6Addr b → address6_t
 same_address a b is one same =
     let octets = encode_lower-unique (ipv6_octets a) (ipv6_octets b) (AreOctets-ipv6 a is).1 (AreOctets-ipv6 b one).1 same in
     let segments : ipv6_segments a ≡ ipv6_segments b =
-        sym (segments_of-octets_of (ipv6_segments a) is.1) ∙ ap segments_of octets ∙ segments_of-octets_of (ipv6_segments b) one.1 in
+    sym (segments_of-octets_of (ipv6_segments a) is.1) ∙ ap segments_of octets ∙ segments_of-octets_of (ipv6_segments b) one.1 in
     ap (λ segments. record { segments = segments }) segments
 
 -- words ask for one thing

@@ -1,19 +1,17 @@
 -- The answer to a relayed message finds its way back.
-use Rattle.std.proofs.Common.{◌≡◌, ◌≢◌, ℕ, zero, suc, ◌+◌, ◌^◌, ◌<◌, ◌≤◌, Bool, true, false, cond, leb, List, [], ◌∷◌, ◌++◌, length, Option, Some, None, Ok, Err, refl, sym, ap, subst, ◌∙◌, arith}
+use Rattle.std.proofs.Common.{◌≡◌, ◌≢◌, ℕ, zero, suc, ◌^◌, ◌<◌, ◌≤◌, Bool, true, false, cond, leb, List, [], ◌∷◌, length, Option, Some, None, Ok, Err, refl, sym, ap, subst, ◌∙◌, arith}
 use Rattle.std.specs.Prelude.{All, IfSome, Result}
-use Rattle.std.specs.Net.Addr.{IsIpv6Addr}
-use Rattle.std.proofs.lemmas.Bool.{le-leb, leb-true, leb-false, lt-ltb}
+use Rattle.std.proofs.lemmas.Bool.{le-leb, leb-true, leb-false}
 use Rattle.std.proofs.lemmas.List.Elements.{All-head, All-tail}
 use Rattle.dhcp6_relay.specs.Hop.{Hop, layer_at}
-use Rattle.dhcp6_relay.specs.Layer.{LayerParts, around, header_length, is_forward, layer_length, written_interface, written_layer, written_option, interface_id}
+use Rattle.dhcp6_relay.specs.Layer.{LayerParts, around, is_forward, written_interface, written_layer, interface_id}
 use Rattle.dhcp6_relay.specs.Outcome.{◌>>=◌, limited, most_bytes}
-use Rattle.dhcp6_relay.specs.Relay.{layer_of, parsed_relay, relay_with}
+use Rattle.dhcp6_relay.specs.Relay.{parsed_relay}
 use Rattle.dhcp6_relay.specs.Reply.{answered, layers_of, layers_within, most_layers, with_inner}
-use Rattle.dhcp6_relay.specs.RoundTrip.{BringsBack, HasAddresses, IsWay, answer_to, relayed}
-use Rattle.dhcp6_relay.specs.Wrap.{hop_count, next_hop_count, wrapped}
+use Rattle.dhcp6_relay.specs.RoundTrip.{BringsBack, HasAddresses, IsWay, relayed}
+use Rattle.dhcp6_relay.specs.Wrap.{next_hop_count, wrapped}
 use Rattle.dhcp6_relay.specs.declared.error.RelayError.{RelayError}
-use Rattle.dhcp6_relay.specs.declared.error.RelayError.TheVariants.{NotRelay, Short, NoMessage, TooManyHops, TooLong}
-use Rattle.dhcp6_relay.specs.declared.relay.Relay.{Relay}
+use Rattle.dhcp6_relay.specs.declared.error.RelayError.TheVariants.{TooLong}
 use Rattle.dhcp6_relay.proofs.LayerLemmas.{header-written_layer, hop_count-written_layer, is_forward-written_layer, layer_length-whole, length-written_layer, length-written_option}
 use Rattle.dhcp6_relay.proofs.RelayLemmas.{Fits, parsed_relay-written_layer}
 
@@ -126,9 +124,13 @@ brings_back (hop ∷ hops) answer nine has short =
     let layer = layer_at (length hops) hop in
     let inside : List ℕ = around false (numbered hops) answer in
     let fits = Fits-layer_at false (length hops) hop inside (All-head HasAddresses hop hops has) (omega (arith, nine)) short in
-    let long = length-written_layer false layer inside in
-    (inside, (parsed_relay-written_layer false layer inside fits.0 fits.1,
-    brings_back hops answer (omega (arith, nine)) (All-tail HasAddresses hop hops has) (omega (arith, long, short))))
+    let long = length-written_layer false layer inside in (
+      inside,
+      (
+        parsed_relay-written_layer false layer inside fits.0 fits.1,
+        brings_back hops answer (omega (arith, nine)) (All-tail HasAddresses hop hops has) (omega (arith, long, short)),
+      ),
+    )
 
 -- the message is relayed, unless the result is too long
 pub relayed_whole : (hops : List Hop) (message : List ℕ) → IsWay hops → is_forward message ≡ false → relayed hops message ≢ Err TooLong

@@ -1,20 +1,18 @@
 -- One step on the way back of an answer: what a relay agent finds in the reply to what it relayed.
-use Rattle.std.proofs.Common.{◌≡◌, ℕ, zero, suc, ◌+◌, ◌^◌, ◌<◌, ◌≤◌, Bool, true, false, cond, leb, ltb, List, [], ◌∷◌, length, Ok, Err, refl, sym, ap, subst, ◌∙◌, arith}
+use Rattle.std.proofs.Common.{◌≡◌, ℕ, zero, suc, ◌^◌, ◌<◌, ◌≤◌, true, false, cond, List, [], ◌∷◌, length, Ok, Err, refl, sym, ap, subst, ◌∙◌, arith}
 use Rattle.std.specs.Prelude.{IfOk, Result}
-use Rattle.std.proofs.lemmas.Bool.{ltb-true}
 use Rattle.dhcp6_relay.specs.Hop.{Hop, layer_at}
-use Rattle.dhcp6_relay.specs.Layer.{LayerParts, around, header_length, is_forward, written_layer}
+use Rattle.dhcp6_relay.specs.Layer.{LayerParts, around, is_forward, written_layer}
 use Rattle.dhcp6_relay.specs.Outcome.{◌>>=◌, Gives, limited, most_bytes}
 use Rattle.dhcp6_relay.specs.Relay.{layer_of, parsed_relay, relay_with}
 use Rattle.dhcp6_relay.specs.Reply.{answered, layers_of, layers_within, most_layers, with_inner}
 use Rattle.dhcp6_relay.specs.RoundTrip.{FindsItsLayer, HasAddresses, answer_to}
-use Rattle.dhcp6_relay.specs.Wrap.{hop_count, next_hop_count, wrapped}
+use Rattle.dhcp6_relay.specs.Wrap.{next_hop_count, wrapped}
 use Rattle.dhcp6_relay.specs.declared.error.RelayError.{RelayError}
-use Rattle.dhcp6_relay.specs.declared.error.RelayError.TheVariants.{NotRelay, Short, TooManyHops, TooLong}
-use Rattle.dhcp6_relay.specs.declared.relay.Relay.{Relay}
+use Rattle.dhcp6_relay.specs.declared.error.RelayError.TheVariants.{NotRelay, TooManyHops}
 use Rattle.dhcp6_relay.proofs.LayerLemmas.{is_forward-written_layer, length-written_layer}
 use Rattle.dhcp6_relay.proofs.RelayLemmas.{parsed_relay-written_layer}
-use Rattle.dhcp6_relay.proofs.RoundTripLemmas.{Fits-layer_at, after_ok, limited-ok, limited-short, next-client}
+use Rattle.dhcp6_relay.proofs.RoundTripLemmas.{Fits-layer_at, after_ok, limited-ok, limited-short}
 
 -- a hop count that is given fits a byte
 next-small : (bytes : List ℕ) (hops : ℕ) → next_hop_count bytes ≡ Ok hops → hops < 2 ^ 8
@@ -50,10 +48,10 @@ layers-inside : (most : ℕ) (layer : LayerParts) (bytes : List ℕ) (layers : L
 unfolding layers_within
 layers-inside most layer bytes layers reads is =
     let next : Result (List LayerParts) RelayError =
-        with_inner (layers_within most) (relay_with true layer bytes) in
+    with_inner (layers_within most) (relay_with true layer bytes) in
     let same : cond (is_forward (written_layer true layer bytes)) (parsed_relay (written_layer true layer bytes) >>= with_inner (layers_within most)) (Ok []) ≡ next =
-        ap (λ b. cond b (parsed_relay (written_layer true layer bytes) >>= with_inner (layers_within most)) (Ok [])) (is_forward-written_layer layer bytes)
-        ∙ ap (λ read. read >>= with_inner (layers_within most)) reads in
+    ap (λ b. cond b (parsed_relay (written_layer true layer bytes) >>= with_inner (layers_within most)) (Ok [])) (is_forward-written_layer layer bytes)
+    ∙ ap (λ read. read >>= with_inner (layers_within most)) reads in
     let found = after_ok (layers_within most bytes) (λ layers. Ok (layer ∷ layers)) layers (sym same ∙ is) in
     (found.0, (found.1.0, same_ok (Ok (layer ∷ found.0)) (layer ∷ found.0) layers refl found.1.1))
 
@@ -90,7 +88,7 @@ reply-step bytes hop answer forward reply has wraps answers =
     let known : answered (written_layer true layer bytes) answer ≡ Ok reply = subst (λ b. answered b answer ≡ Ok reply) (sym whole.0) answers in
     let layers = after_ok (layers_of (written_layer true layer bytes)) (λ layers. limited (around false layers answer)) reply known in
     let nine : layers_within most_layers (written_layer true layer bytes) ≡ Ok layers.0 =
-        ap (λ b. cond b (layers_within most_layers (written_layer true layer bytes)) (Err NotRelay)) (sym (is_forward-written_layer layer bytes)) ∙ layers.1.0 in
+    ap (λ b. cond b (layers_within most_layers (written_layer true layer bytes)) (Err NotRelay)) (sym (is_forward-written_layer layer bytes)) ∙ layers.1.0 in
     let inside = layers-inside 8 layer bytes layers.0 (parsed_relay-written_layer true layer bytes fits.0 fits.1) nine in
     let inner : List ℕ = around false inside.0 answer in
     let given : limited (written_layer false layer inner) ≡ Ok reply = ap (λ layers. limited (around false layers answer)) inside.1.1 ∙ layers.1.1 in

@@ -6,14 +6,17 @@ use Rattle.hex.specs.Hex.{IsBytes}
 use Rattle.dhcp_stream.specs.HexText.{hex_text}
 use Rattle.dhcp_stream.specs.Reading.{IsReading}
 use Rattle.dhcp_stream.proofs.HexTextLemmas.{hex_text-unique}
+use Rattle.dhcp_tool.specs.Ends.{EndsReading, Moved}
 use Rattle.dhcp_tool.specs.Job.{AnswersPrinting}
 use Rattle.dhcp_tool.specs.Texts.{AnswersText, IsJudged, IsTextOf}
 use Rattle.dhcp_tool.specs.declared.status.Status.{Status}
 use Rattle.dhcp_tool.specs.declared.status.Status.TheVariants.{Done, WrongWords, NoScript, ReadFault, WriteFault, NoMemory, TooLong, Invalid}
+use Rattle.dhcp6_relay.specs.Request.{AsksFor, IsRequestIn}
 use Rattle.dhcp6_relay.specs.Tool.{AnswersMessage, hex_line, messages, result_for, status_of}
 use Rattle.dhcp6_relay.specs.declared.error.RelayError.{RelayError}
 use Rattle.dhcp6_relay.specs.declared.error.RelayError.TheVariants as errors
 use Rattle.dhcp6_relay.specs.declared.request.Request.{Request}
+use Rattle.dhcp6_relay.proofs.RequestLemmas.{one_request}
 
 -- a text without its line feed
 before_end : List ℕ → List ℕ
@@ -87,3 +90,18 @@ answers_refused request message errors.TooManyHops (inl is) = cc is
 answers_refused request message errors.TooManyHops (inr is) = ap is_ok is
 answers_refused request message errors.TooLong (inl is) = cc is
 answers_refused request message errors.TooLong (inr is) = ap is_ok is
+
+-- the message that was read is the only one whose line the text is
+pub answers_read : (request : Request) (found : Option (List ℕ)) (message slice text : List ℕ) (result : Result (List ℕ) Status) → found ≡ Some message → IsReading hex_line IsBytes found text
+    → slice ≡ message → AnswersMessage request result slice → AnswersText (messages request) result text
+answers_read request found message slice text result is reading same answers =
+    let reads : IsReading hex_line IsBytes (Some message) text = subst (λ (f : Option (List ℕ)). IsReading hex_line IsBytes f text) is reading in
+    answers_line request message text result reads.0 reads.1 (subst (λ (m : List ℕ). AnswersMessage request result m) same answers)
+
+-- what is said of the request that was found, is said of each that the words ask for
+pub ends_for : (words : List (List ℕ)) (found : Option Request) (request other : Request) (status number : ℕ) (moved : Moved) → found ≡ Some request → IsRequestIn found words → AsksFor words other
+    → number ≡ status → EndsReading (messages request) status moved → EndsReading (messages other) number moved
+ends_for words found request other status number moved is finds asks same ends =
+    let asked : IsRequestIn (Some request) words = subst (λ (f : Option Request). IsRequestIn f words) is finds in
+    subst (λ (r : Request). EndsReading (messages r) number moved) (one_request words request other asked asks)
+    (subst (λ (n : ℕ). EndsReading (messages request) n moved) (sym same) ends)

@@ -14,7 +14,6 @@ use Rattle.dhcp6_relay.specs.Request.{interface_of}
 use Rattle.dhcp6_relay.specs.Wrap.{wrapped}
 use Rattle.dhcp6_relay.specs.declared.error.RelayError.{RelayError}
 use Rattle.dhcp6_relay.specs.declared.error.RelayError.TheVariants.{OutOfMemory}
-use Rattle.dhcp6_relay.specs.declared.relay.Relay.{Relay}
 use Rattle.dhcp6_relay.specs.declared.request.Request.{Request}
 use Rattle.dhcp6_relay.specs.declared.request.Request.TheVariants.{Wrap, Reply, Unwrap}
 

@@ -1,5 +1,5 @@
 -- A message relayed towards a server, RFC 8415 sections 19.1.1 and 19.1.2.
-use Rattle.std.specs.Prelude.{ℕ, ◌+◌, List, [], ◌∷◌, true, length, nat_lt, if◌then◌else◌, Result, Ok, Err}
+use Rattle.std.specs.Prelude.{ℕ, ◌+◌, List, ◌∷◌, true, length, nat_lt, if◌then◌else◌, Result, Ok, Err}
 use Rattle.dhcp6_relay.specs.Hop.{Hop, layer_at}
 use Rattle.dhcp6_relay.specs.Layer.{header_length, hop_count_limit, is_forward, written_layer}
 use Rattle.dhcp6_relay.specs.Outcome.{◌>>=◌, limited}

@@ -41,12 +41,11 @@ pub fn a_reply_is_unwrapped(
     answer: &[u8],
     reply: &[u8],
 )
-    ensures {
-        let hop : Hop = record {
-          link = link;
-          peer = peer;
-          interface = option_copied interface.entry;
-        } in
+    ensures { let hop : Hop = record {
+      link = link;
+      peer = peer;
+      interface = option_copied interface.entry;
+    } in
         wrapped bytes.now hop ≡ Ok forward.now → answered forward.now answer.now ≡ Ok reply.now
         → FindsItsLayer bytes.now hop answer.now reply.now }
 {}

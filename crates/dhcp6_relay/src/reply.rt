@@ -19,11 +19,7 @@ const MAX_LAYERS: usize = 9;
 /// layer, `Short` or `NoMessage` at a layer that does not read. Then `TooLong` if the result would
 /// be longer than 65,535 bytes. Else out of memory is the only error.
 #[tactic(auto, unfolding(crate::specs::Reply::answered))]
-pub fn reply_along(
-    alloc: Global,
-    forward: &[u8],
-    answer: &[u8],
-) -> Result<Bytes, RelayError>
+pub fn reply_along(alloc: Global, forward: &[u8], answer: &[u8]) -> Result<Bytes, RelayError>
     ensures { Gives (λ reply. reply) result (answered forward.now answer.now) }
 {
     let layers = layers_of(alloc, forward)?;

@@ -62,7 +62,13 @@ impl Request {
                 link,
                 peer,
                 interface,
-            } => wrap_forward(alloc, message, *link, *peer, interface_of(interface.as_slice())),
+            } => wrap_forward(
+                alloc,
+                message,
+                *link,
+                *peer,
+                interface_of(interface.as_slice()),
+            ),
             Request::Reply(answer) => reply_along(alloc, message, answer.as_slice()),
             Request::Unwrap => inner_of(alloc, message),
         }

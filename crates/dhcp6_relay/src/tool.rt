@@ -88,11 +88,7 @@ fn carry_out<S: Source, K: Sink>(
 }
 
 // The text to print for a request, or the status.
-fn text_of<S: Source>(
-    alloc: Global,
-    request: &Request,
-    source: &mut S,
-) -> Result<Bytes, Status>
+fn text_of<S: Source>(alloc: Global, request: &Request, source: &mut S) -> Result<Bytes, Status>
     ensures { AnswersSource (messages request.now) result (S.left source.old)
         (S.left source.new) (S.faults source.old) (S.faults source.new) }
 {

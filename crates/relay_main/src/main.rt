@@ -4,9 +4,9 @@
 //! lines of hex; the exit status is a `Status` of dhcp_tool.
 #![tactic(auto)]
 
-use dhcp6_relay::relay_tool;
 use dhcp_stream::{StdSink, StdSource};
 use dhcp_tool::status_without_words;
+use dhcp6_relay::relay_tool;
 use std::process::ExitCode;
 use std::{env, io};
 

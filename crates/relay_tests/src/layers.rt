@@ -53,7 +53,10 @@ fn comes_back(alloc: Global, count: u8) -> Result<bool, RelayError> {
 #[test]
 fn an_answer_comes_back_through_one_to_nine_relay_agents(rt: HostRuntime) {
     for count in 1..=9u8 {
-        assert!(rt; comes_back(rt.alloc(), count).expect(&rt, "memory"), "{count}");
+        assert!(rt;
+            comes_back(rt.alloc(), count).expect(&rt, "memory"),
+            "{count}"
+        );
     }
 }
 

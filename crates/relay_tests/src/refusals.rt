@@ -29,8 +29,9 @@ fn hop_counts_go_up_to_eight(rt: HostRuntime) {
     let outer = relayed(rt.alloc(), seven.as_slice(), 2, None).expect(&rt, "relayed");
     assert!(rt; outer.as_slice().get(1).copied() == Some(8));
     let eight = forward_with(rt.alloc(), 8, 84).expect(&rt, "memory");
-    assert!(rt; refusal(relayed(rt.alloc(), eight.as_slice(), 2, None))
-        == Some(RelayError::TooManyHops));
+    assert!(rt;
+        refusal(relayed(rt.alloc(), eight.as_slice(), 2, None)) == Some(RelayError::TooManyHops)
+    );
 }
 
 #[test]
@@ -47,8 +48,9 @@ fn a_header_has_34_bytes(rt: HostRuntime) {
 fn a_truncated_option_is_no_message(rt: HostRuntime) {
     let cut = forward_with(rt.alloc(), 0, 83).expect(&rt, "memory");
     assert!(rt; refusal(parse_relay(rt.alloc(), cut.as_slice())) == Some(RelayError::NoMessage));
-    assert!(rt; refusal(reply_along(rt.alloc(), cut.as_slice(), &[]))
-        == Some(RelayError::NoMessage));
+    assert!(rt;
+        refusal(reply_along(rt.alloc(), cut.as_slice(), &[])) == Some(RelayError::NoMessage)
+    );
 }
 
 #[test]
@@ -73,9 +75,12 @@ fn a_result_has_at_most_65_535_bytes(rt: HostRuntime) {
     let forward = relayed(rt.alloc(), longest.as_slice(), 1, None).expect(&rt, "relayed");
     assert!(rt; forward.len() == 65_535);
     let longer = long_message(rt.alloc(), 65_498).expect(&rt, "memory");
-    assert!(rt; refusal(relayed(rt.alloc(), longer.as_slice(), 1, None))
-        == Some(RelayError::TooLong));
+    assert!(rt;
+        refusal(relayed(rt.alloc(), longer.as_slice(), 1, None)) == Some(RelayError::TooLong)
+    );
     let solicit = forward_with(rt.alloc(), 0, 84).expect(&rt, "memory");
-    assert!(rt; refusal(reply_along(rt.alloc(), solicit.as_slice(), longer.as_slice()))
-        == Some(RelayError::TooLong));
+    assert!(rt;
+        refusal(reply_along(rt.alloc(), solicit.as_slice(), longer.as_slice()))
+            == Some(RelayError::TooLong)
+    );
 }

@@ -7,6 +7,7 @@ use dhcp6_relay::relay_tool;
 use std::alloc::Global;
 
 const LINK: &str = "20010db8000000000000000000000001";
+
 const PEER: &str = "fe800000000000000000000000000001";
 
 // The exit status for these words and this input, and what was written. The read and the write with
@@ -57,9 +58,9 @@ fn an_empty_message_is_a_dash(rt: HostRuntime) {
     let reply = format!(in alloc; "0d00{LINK}{PEER}0009000000120001ff").expect(&rt, "memory");
     let wrap = ["wrap", LINK, PEER, "ff"];
     assert!(rt; writes(alloc, &wrap, "-", forward.as_str()).expect(&rt, "memory"));
-    assert!(rt; writes(alloc, &["reply", "-"], forward.as_str(), reply.as_str()).expect(
-        &rt, "memory",
-    ));
+    assert!(rt;
+        writes(alloc, &["reply", "-"], forward.as_str(), reply.as_str()).expect(&rt, "memory",)
+    );
     assert!(rt; writes(alloc, &["unwrap"], reply.as_str(), "-").expect(&rt, "memory"));
 }
 
@@ -77,7 +78,10 @@ fn other_words_are_wrong(rt: HostRuntime) {
         &["wrap", LINK, PEER, ""],
     ];
     for words in cases {
-        assert!(rt; ends(rt.alloc(), words, b"-\n", 1).expect(&rt, "memory"), "{words:?}");
+        assert!(rt;
+            ends(rt.alloc(), words, b"-\n", 1).expect(&rt, "memory"),
+            "{words:?}"
+        );
     }
 }
 
@@ -93,8 +97,10 @@ fn a_line_is_no_message_or_a_refused_one(rt: HostRuntime) {
         (b"-\n", 7),
     ];
     for (input, status) in cases {
-        assert!(rt; ends(rt.alloc(), &["unwrap"], input, status).expect(&rt, "memory"),
-            "{input:?}");
+        assert!(rt;
+            ends(rt.alloc(), &["unwrap"], input, status).expect(&rt, "memory"),
+            "{input:?}"
+        );
     }
 }
 

@@ -54,7 +54,13 @@ impl<'a> RelayAgent<'a> {
         ensures error { IfErr result (λ e. e ≡ RelayError.OutOfMemory) }
     {
         laws::a_reply_is_unwrapped(
-            message, self.link, self.peer, self.interface, forward, answer, reply,
+            message,
+            self.link,
+            self.peer,
+            self.interface,
+            forward,
+            answer,
+            reply,
         );
         parse_relay(alloc, reply)
     }
