@@ -1,3 +1,4 @@
+pub mod Error
 pub mod Hop
 pub mod Layer
 pub mod Outcome

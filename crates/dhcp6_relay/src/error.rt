@@ -2,6 +2,7 @@
 
 ghost use Rattle.std.specs.Prelude.{◌≡◌, Some};
 ghost use Rattle.dhcp_wire.specs.Error.{no_memory};
+ghost use Rattle.dhcp6_relay.specs.Error.{text_of};
 ghost use Rattle.dhcp6_relay.specs.declared.error.RelayError.TheVariants.{OutOfMemory};
 
 use dhcp_wire::DhcpError;
@@ -26,22 +27,18 @@ pub enum RelayError {
 }
 
 impl fmt::Display for RelayError {
-    fn fmt<W: fmt::Write>(&self, f: &mut fmt::Formatter<W>) -> fmt::Result {
-        f.write_str(self.text())
-    }
-}
+    ghost output = { λ error. Some (text_of error) };
 
-impl RelayError {
-    // What is printed of it.
-    fn text(self) -> &'static str {
-        match self {
+    #[tactic(auto, unfolding(crate::specs::Error::text_of))]
+    fn fmt<W: fmt::Write>(&self, f: &mut fmt::Formatter<W>) -> fmt::Result {
+        f.write_str(match self {
             RelayError::NotRelay => "not a relay message",
             RelayError::Short => "unexpected end of data",
             RelayError::NoMessage => "no relayed message",
             RelayError::TooManyHops => "too many hops",
             RelayError::TooLong => "the message is too long",
             RelayError::OutOfMemory => "out of memory",
-        }
+        })
     }
 }
 

@@ -13,7 +13,7 @@ ghost use Rattle.dhcp6_relay.specs.Layer.{
   written_interface,
   written_option,
 };
-ghost use Rattle.dhcp6_relay.specs.Outcome.{Answers, Gives, limited, limited_length, most_bytes};
+ghost use Rattle.dhcp6_relay.specs.Outcome.{Gives, limited, limited_length, most_bytes};
 
 use crate::RelayError;
 use crate::error::out_of_memory;
@@ -52,7 +52,7 @@ pub struct Layer<'a> {
     pub link: Ipv6Addr,
     /// The address of the client or the relay agent that sent it.
     pub peer: Ipv6Addr,
-    /// The interface that it came in on, if that is named.
+    /// The id of the interface that it came in on, if it is given.
     pub interface: Option<&'a [u8]>,
 }
 
@@ -72,8 +72,8 @@ impl<'a> Layer<'a> {
     pub fn len(&self) -> usize
         ensures { result ≡ layer_length self.now }
     {
-        let addresses_len = self.link.octets().len() + self.peer.octets().len();
-        2 + addresses_len + OPTION_HEADER_LEN + interface_len(self.interface)
+        let header_len = 2 + self.link.octets().len() + self.peer.octets().len();
+        header_len + OPTION_HEADER_LEN + interface_len(self.interface)
     }
 
     // Writes what stands before the message inside it, which has this length.
@@ -87,7 +87,7 @@ impl<'a> Layer<'a> {
             ++ (to_be_bytes w16 relay_message ++ to_be_bytes w16 inner_len))) }
         ensures err { IfErr result (λ e. e ≡ no_memory) }
     {
-        buf.write_u8(type_of(forward))?;
+        buf.write_u8(type_number(forward))?;
         buf.write_u8(self.hops)?;
         buf.write_ipv6(self.link)?;
         buf.write_ipv6(self.peer)?;
@@ -143,7 +143,7 @@ fn write_option(buf: &mut BufferMut, code: u16, value: &[u8]) -> Result<(), Dhcp
 }
 
 // The type of a relay message, forward or in reply.
-fn type_of(forward: bool) -> u8
+fn type_number(forward: bool) -> u8
     ensures { result ≡ type_number forward }
 {
     if forward { RELAY_FORWARD } else { RELAY_REPLY }

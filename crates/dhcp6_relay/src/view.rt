@@ -61,8 +61,8 @@ impl<'a> RelayView<'a> {
         let (msg_type, rest) = u8_at(bytes)?;
         let forward = direction_of(msg_type)?;
         let (hops, rest) = u8_at(rest)?;
-        let (link, rest) = ipv6_at(rest)?;
-        let (peer, options) = ipv6_at(rest)?;
+        let (link, rest) = ipv6_address_at(rest)?;
+        let (peer, options) = ipv6_address_at(rest)?;
         let inner = first_value(options, RELAY_MESSAGE)?;
         let interface = first_value(options, INTERFACE_ID);
         Some(RelayView {
@@ -160,7 +160,7 @@ fn u8_at(bytes: &[u8]) -> Option<(u8, &[u8])>
 
 // The address at the front, and the bytes after it.
 #[tactic(auto, unfolding(dhcp_wire::specs::Field::bytes_at))]
-fn ipv6_at(bytes: &[u8]) -> Option<(Ipv6Addr, &[u8])>
+fn ipv6_address_at(bytes: &[u8]) -> Option<(Ipv6Addr, &[u8])>
     ensures { Finds (λ found. (found.0, found.1.now)) result (ipv6_address_at bytes.now) }
 {
     let (octets, rest) = bytes.split_first_chunk::<16>()?;
