@@ -7,7 +7,7 @@ use Rattle.std.specs.declared.net.Ipv6Addr.{Ipv6Addr}
 use Rattle.std.proofs.lemmas.List.Sums.{sum_by-cons}
 use Rattle.dhcp_wire.specs.RawOption.{written_raw_option}
 use Rattle.dhcp_wire.proofs.FieldLaws.{length-bytes_high_first, length-octets_of}
-use Rattle.dhcp6_relay.specs.Layer.{LayerParts, around, header_length, interface_id, is_forward, layer_length, relay_message, written_header, written_interface, written_layer, written_option}
+use Rattle.dhcp6_relay.specs.Layer.{LayerParts, layers_around, header_length, interface_id, is_forward, layer_length, relay_message, written_header, written_interface, written_layer, written_option}
 use Rattle.dhcp6_relay.specs.Wrap.{hop_count}
 
 -- an address has sixteen octets
@@ -65,11 +65,11 @@ layer_length-whole layer link peer =
     omega (arith, layer_length-parts layer, length-ipv6_octets layer.link link, length-ipv6_octets layer.peer peer)
 
 -- layers around a message
-pub length-around : (forward : Bool) (layers : List LayerParts) (message : List ℕ) → length (around forward layers message) ≡ length message + sum_by layer_length layers
-unfolding around
+pub length-around : (forward : Bool) (layers : List LayerParts) (message : List ℕ) → length (layers_around forward layers message) ≡ length message + sum_by layer_length layers
+unfolding layers_around
 length-around forward [] message = omega arith
 length-around forward (layer ∷ layers) message =
-    omega (arith, length-written_layer forward layer (around forward layers message), length-around forward layers message, sum_by-cons layer_length layer layers)
+    omega (arith, length-written_layer forward layer (layers_around forward layers message), length-around forward layers message, sum_by-cons layer_length layer layers)
 
 -- a layer forward is a Relay-forward
 pub is_forward-written_layer : (layer : LayerParts) (message : List ℕ) → is_forward (written_layer true layer message) ≡ true
@@ -93,23 +93,23 @@ interface-le-layer_length layer = omega (arith, layer_parts true layer [])
 
 -- the first of some layers, and those inside it
 pub length-around-first : (forward : Bool) (layers : List LayerParts) (message : List ℕ) (layer : LayerParts) (inside : List LayerParts) → layers ≡ layer ∷ inside
-    → length (around forward layers message) ≡ layer_length layer + length (around forward inside message)
-unfolding around
+    → length (layers_around forward layers message) ≡ layer_length layer + length (layers_around forward inside message)
+unfolding layers_around
 length-around-first forward layers message layer inside is =
-    ap (λ layers. length (around forward layers message)) is ∙ length-written_layer forward layer (around forward inside message)
+    ap (λ layers. length (layers_around forward layers message)) is ∙ length-written_layer forward layer (layers_around forward inside message)
 
-pub first-le-around : (forward : Bool) (layers : List LayerParts) (message : List ℕ) (len : ℕ) (layer : LayerParts) (inside : List LayerParts) → layers ≡ layer ∷ inside → len ≡ length (around forward layers message) → layer_length layer ≤ len
+pub first-le-around : (forward : Bool) (layers : List LayerParts) (message : List ℕ) (len : ℕ) (layer : LayerParts) (inside : List LayerParts) → layers ≡ layer ∷ inside → len ≡ length (layers_around forward layers message) → layer_length layer ≤ len
 first-le-around forward layers message len layer inside is whole =
     omega (arith, whole, length-around-first forward layers message layer inside is)
 
 -- as they are written one after the other
-pub written-around-first : (forward : Bool) (layers : List LayerParts) (message old : List ℕ) (layer : LayerParts) (inside : List LayerParts) (n : ℕ) → layers ≡ layer ∷ inside → n ≡ length (around forward inside message)
-    → old ++ (written_header forward layer ++ (to_be_bytes w16 relay_message ++ to_be_bytes w16 n)) ++ around forward inside message ++ written_interface layer.interface ≡ old ++ around forward layers message
-unfolding around written_layer
+pub written-around-first : (forward : Bool) (layers : List LayerParts) (message old : List ℕ) (layer : LayerParts) (inside : List LayerParts) (n : ℕ) → layers ≡ layer ∷ inside → n ≡ length (layers_around forward inside message)
+    → old ++ (written_header forward layer ++ (to_be_bytes w16 relay_message ++ to_be_bytes w16 n)) ++ layers_around forward inside message ++ written_interface layer.interface ≡ old ++ layers_around forward layers message
+unfolding layers_around written_layer
 written-around-first forward layers message old layer inside n is long =
     let head : List ℕ = written_header forward layer in
     let code : List ℕ = to_be_bytes w16 relay_message in
-    let inner : List ℕ = around forward inside message in
+    let inner : List ℕ = layers_around forward inside message in
     let size : List ℕ = to_be_bytes w16 (length inner) in
     let tail : List ℕ = written_interface layer.interface in
     let whole : List ℕ → List ℕ = λ number. old ++ (head ++ (code ++ number)) ++ inner ++ tail in
@@ -117,10 +117,10 @@ written-around-first forward layers message old layer inside n is long =
     ap (λ n. whole (to_be_bytes w16 n)) long
     ∙ layout
     ∙ ap (λ option. old ++ (head ++ (option ++ tail))) (sym (written_option-parts relay_message inner))
-    ∙ ap (λ layers. old ++ around forward layers message) (sym is)
+    ∙ ap (λ layers. old ++ layers_around forward layers message) (sym is)
 
-pub around-none : (forward : Bool) (layers : List LayerParts) (message : List ℕ) → length layers ≡ 0 → around forward layers message ≡ message
-unfolding around
+pub around-none : (forward : Bool) (layers : List LayerParts) (message : List ℕ) → length layers ≡ 0 → layers_around forward layers message ≡ message
+unfolding layers_around
 around-none forward [] message none = refl
 around-none forward (layer ∷ layers) message none = absurd (omega (arith, none))
 

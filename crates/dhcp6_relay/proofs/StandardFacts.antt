@@ -4,10 +4,10 @@ use Rattle.std.specs.declared.net.Ipv6Addr.{Ipv6Addr}
 use Rattle.dhcp_wire.specs.Field.{bytes_at}
 use Rattle.dhcp_wire.specs.RawOption.{raw_option_at, raw_options_within, written_raw_option}
 use Rattle.dhcp6_relay.specs.Hop.{Hop}
-use Rattle.dhcp6_relay.specs.Layer.{around, written_layer}
+use Rattle.dhcp6_relay.specs.Layer.{layers_around, written_layer}
 use Rattle.dhcp6_relay.specs.Relay.{parsed_relay, read_relay}
-use Rattle.dhcp6_relay.specs.Reply.{answered, layers_of, layers_within}
-use Rattle.dhcp6_relay.specs.Wrap.{next_hop_count, wrapped}
+use Rattle.dhcp6_relay.specs.Reply.{reply_of, layers_of, layers_within}
+use Rattle.dhcp6_relay.specs.Wrap.{next_hop_count, wrapped_message}
 use Rattle.dhcp6_relay.specs.declared.error.RelayError.TheVariants.{NotRelay, Short, NoMessage, TooManyHops}
 use Rattle.dhcp6_relay.specs.declared.relay.Relay.{Relay}
 
@@ -43,12 +43,12 @@ abbrev option_18 : List ℕ
 option_18 = 0 ∷ 18 ∷ 0 ∷ 2 ∷ 1 ∷ 2 ∷ []
 
 -- what relay agents make of the Solicit
-pub relayed-bare : wrapped solicit (record { link = link; peer = client; interface = None }) ≡ Ok (header 12 0 ++ option_9)
-unfolding wrapped next_hop_count written_layer written_raw_option
+pub relayed-bare : wrapped_message solicit (record { link = link; peer = client; interface = None }) ≡ Ok (header 12 0 ++ option_9)
+unfolding wrapped_message next_hop_count written_layer written_raw_option
 relayed-bare = refl
 
-pub relayed-named : wrapped solicit (record { link = link; peer = client; interface = Some (1 ∷ 2 ∷ []) }) ≡ Ok (header 12 0 ++ option_9 ++ option_18)
-unfolding wrapped next_hop_count written_layer written_raw_option
+pub relayed-named : wrapped_message solicit (record { link = link; peer = client; interface = Some (1 ∷ 2 ∷ []) }) ≡ Ok (header 12 0 ++ option_9 ++ option_18)
+unfolding wrapped_message next_hop_count written_layer written_raw_option
 relayed-named = refl
 
 -- hop counts
@@ -95,10 +95,10 @@ unfolding parsed_relay read_relay raw_options_within raw_option_at bytes_at
 read-cut = refl
 
 -- the reply along a Relay-forward
-pub replied-named : answered (header 12 0 ++ option_9 ++ option_18) reply ≡ Ok (header 13 0 ++ replied_9 ++ option_18)
-unfolding answered layers_of layers_within around written_layer written_raw_option parsed_relay read_relay raw_options_within raw_option_at bytes_at
+pub replied-named : reply_of (header 12 0 ++ option_9 ++ option_18) reply ≡ Ok (header 13 0 ++ replied_9 ++ option_18)
+unfolding reply_of layers_of layers_within layers_around written_layer written_raw_option parsed_relay read_relay raw_options_within raw_option_at bytes_at
 replied-named = refl
 
-pub replied-other : answered (header 13 0 ++ option_9) reply ≡ Err NotRelay
-unfolding answered layers_of
+pub replied-other : reply_of (header 13 0 ++ option_9) reply ≡ Err NotRelay
+unfolding reply_of layers_of
 replied-other = refl

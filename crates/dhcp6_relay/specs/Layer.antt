@@ -73,10 +73,10 @@ written_layer forward layer message =
     ++ (written_option relay_message message ++ written_interface layer.interface)
 
 -- layers around a message, the first of them outmost
-unfoldable pub around : Bool → List LayerParts → List ℕ → List ℕ
-around forward [] message = message
-around forward (layer ∷ layers) message =
-    written_layer forward layer (around forward layers message)
+unfoldable pub layers_around : Bool → List LayerParts → List ℕ → List ℕ
+layers_around forward [] message = message
+layers_around forward (layer ∷ layers) message =
+    written_layer forward layer (layers_around forward layers message)
 
 -- how many bytes a layer adds to a message
 abbrev pub layer_length : LayerParts → ℕ

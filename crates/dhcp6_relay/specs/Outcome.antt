@@ -22,14 +22,14 @@ abbrev pub ◌>>=◌ : {X Y : Type 0}
 (Ok x) >>= next = next x
 (Err e) >>= next = Err e
 
--- how many bytes a UDP datagram, and so a message, has at most
+-- how many bytes a relayed message has at most: as many as the length of an option can say
 abbrev pub most_bytes : ℕ
 most_bytes = 65535
 
 -- these bytes, if they are not too many for a message
-abbrev pub limited : List ℕ → Result (List ℕ) RelayError
-limited bytes = if nat_le (length bytes) most_bytes then Ok bytes else Err TooLong
+abbrev pub within_limit : List ℕ → Result (List ℕ) RelayError
+within_limit bytes = if nat_le (length bytes) most_bytes then Ok bytes else Err TooLong
 
 -- such a number of bytes, if it is not too great for a message
-abbrev pub limited_length : ℕ → Result ℕ RelayError
-limited_length n = if nat_le n most_bytes then Ok n else Err TooLong
+abbrev pub length_within_limit : ℕ → Result ℕ RelayError
+length_within_limit n = if nat_le n most_bytes then Ok n else Err TooLong

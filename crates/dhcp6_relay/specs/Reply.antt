@@ -1,7 +1,7 @@
 -- An answer relayed back along the way of a message, RFC 8415 sections 19.2 and 19.3.
 use Rattle.std.specs.Prelude.{ℕ, zero, suc, ◌+◌, List, [], ◌∷◌, false, if◌then◌else◌, Result, Ok, Err}
-use Rattle.dhcp6_relay.specs.Layer.{LayerParts, around, hop_count_limit, is_forward}
-use Rattle.dhcp6_relay.specs.Outcome.{◌>>=◌, limited}
+use Rattle.dhcp6_relay.specs.Layer.{LayerParts, layers_around, hop_count_limit, is_forward}
+use Rattle.dhcp6_relay.specs.Outcome.{◌>>=◌, within_limit}
 use Rattle.dhcp6_relay.specs.Relay.{layer_of, parsed_relay}
 use Rattle.dhcp6_relay.specs.declared.error.RelayError.{RelayError}
 use Rattle.dhcp6_relay.specs.declared.error.RelayError.TheVariants.{NotRelay, TooManyHops}
@@ -30,7 +30,7 @@ unfoldable pub layers_of : List ℕ → Result (List LayerParts) RelayError
 layers_of bytes = if is_forward bytes then layers_within most_layers bytes else Err NotRelay
 
 -- the Relay-reply that brings an answer back along the layers of a Relay-forward
-unfoldable pub answered : List ℕ → List ℕ → Result (List ℕ) RelayError
-answered bytes answer = do
+unfoldable pub reply_of : List ℕ → List ℕ → Result (List ℕ) RelayError
+reply_of bytes answer = do
   layers ← layers_of bytes
-  limited (around false layers answer)
+  within_limit (layers_around false layers answer)

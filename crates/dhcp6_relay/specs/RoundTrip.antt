@@ -5,8 +5,8 @@ use Rattle.dhcp6_relay.specs.Hop.{Hop, layer_at}
 use Rattle.dhcp6_relay.specs.Layer.{is_forward}
 use Rattle.dhcp6_relay.specs.Outcome.{◌>>=◌}
 use Rattle.dhcp6_relay.specs.Relay.{parsed_relay, relay_with}
-use Rattle.dhcp6_relay.specs.Reply.{answered, most_layers}
-use Rattle.dhcp6_relay.specs.Wrap.{next_hop_count, wrapped}
+use Rattle.dhcp6_relay.specs.Reply.{reply_of, most_layers}
+use Rattle.dhcp6_relay.specs.Wrap.{next_hop_count, wrapped_message}
 use Rattle.dhcp6_relay.specs.declared.error.RelayError.{RelayError}
 
 -- a relay agent has two whole addresses
@@ -21,11 +21,11 @@ pub record IsWay (hops : List Hop) : Type 0 where
   pub addresses : All HasAddresses hops
 
 -- what relay agents make of a message in turn; the last of them is the first of the list
-unfoldable pub relayed : List Hop → List ℕ → Result (List ℕ) RelayError
-relayed [] message = Ok message
-relayed (hop ∷ hops) message = do
-  bytes ← relayed hops message
-  wrapped bytes hop
+unfoldable pub relayed_message : List Hop → List ℕ → Result (List ℕ) RelayError
+relayed_message [] message = Ok message
+relayed_message (hop ∷ hops) message = do
+  bytes ← relayed_message hops message
+  wrapped_message bytes hop
 
 -- The way back of an answer, from the last relay agent, the first of the list, to the first: each
 -- finds in the Relay-reply what it wrote itself, its hop count, its addresses and its interface id,
@@ -40,7 +40,7 @@ BringsBack (hop ∷ hops) reply answer =
 -- what an answer to a message is on the way there: the answer itself to the message of a client,
 -- and the Relay-reply to a Relay-forward
 abbrev pub answer_to : List ℕ → List ℕ → Result (List ℕ) RelayError
-answer_to bytes answer = if is_forward bytes then answered bytes answer else Ok answer
+answer_to bytes answer = if is_forward bytes then reply_of bytes answer else Ok answer
 
 -- What a relay agent finds in the reply to a message that it relayed: its hop count, its addresses
 -- and its interface id, and inside an answer to the message.

@@ -9,9 +9,9 @@ use Rattle.dhcp_tool.specs.declared.status.Status.{Status}
 use Rattle.dhcp_tool.specs.declared.status.Status.TheVariants.{Done, WrongWords, NoScript, ReadFault, WriteFault, NoMemory, TooLong, Invalid}
 use Rattle.dhcp6_relay.specs.Outcome.{◌>>=◌}
 use Rattle.dhcp6_relay.specs.Relay.{parsed_relay}
-use Rattle.dhcp6_relay.specs.Reply.{answered}
+use Rattle.dhcp6_relay.specs.Reply.{reply_of}
 use Rattle.dhcp6_relay.specs.Request.{interface_of}
-use Rattle.dhcp6_relay.specs.Wrap.{wrapped}
+use Rattle.dhcp6_relay.specs.Wrap.{wrapped_message}
 use Rattle.dhcp6_relay.specs.declared.error.RelayError.{RelayError}
 use Rattle.dhcp6_relay.specs.declared.error.RelayError.TheVariants.{OutOfMemory}
 use Rattle.dhcp6_relay.specs.declared.request.Request.{Request}
@@ -26,8 +26,8 @@ inner_of message = do
 -- what a request makes of a message, or why it is refused
 unfoldable pub result_for : Request → List ℕ → Result (List ℕ) RelayError
 result_for (Wrap link peer interface) message =
-    wrapped message (record { link = link; peer = peer; interface = interface_of interface })
-result_for (Reply answer) message = answered message answer
+    wrapped_message message (record { link = link; peer = peer; interface = interface_of interface })
+result_for (Reply answer) message = reply_of message answer
 result_for Unwrap message = inner_of message
 
 -- bytes as a line of hex, `-` for none

@@ -2,7 +2,7 @@
 use Rattle.std.specs.Prelude.{ℕ, ◌+◌, List, ◌∷◌, true, length, nat_lt, if◌then◌else◌, Result, Ok, Err}
 use Rattle.dhcp6_relay.specs.Hop.{Hop, layer_at}
 use Rattle.dhcp6_relay.specs.Layer.{header_length, hop_count_limit, is_forward, written_layer}
-use Rattle.dhcp6_relay.specs.Outcome.{◌>>=◌, limited}
+use Rattle.dhcp6_relay.specs.Outcome.{◌>>=◌, within_limit}
 use Rattle.dhcp6_relay.specs.declared.error.RelayError.{RelayError}
 use Rattle.dhcp6_relay.specs.declared.error.RelayError.TheVariants.{Short, TooManyHops}
 
@@ -22,7 +22,7 @@ next_hop_count bytes =
     else Ok 0
 
 -- the Relay-forward that a relay agent makes of a message
-unfoldable pub wrapped : List ℕ → Hop → Result (List ℕ) RelayError
-wrapped bytes hop = do
+unfoldable pub wrapped_message : List ℕ → Hop → Result (List ℕ) RelayError
+wrapped_message bytes hop = do
   hops ← next_hop_count bytes
-  limited (written_layer true (layer_at hops hop) bytes)
+  within_limit (written_layer true (layer_at hops hop) bytes)

@@ -4,9 +4,9 @@
 ghost use Rattle.std.specs.Prelude.{◌≡◌, ◌≢◌, ℕ, List, Err, Ok, false, option_copied};
 ghost use Rattle.dhcp6_relay.specs.Hop.{Hop};
 ghost use Rattle.dhcp6_relay.specs.Layer.{is_forward};
-ghost use Rattle.dhcp6_relay.specs.Reply.{answered};
-ghost use Rattle.dhcp6_relay.specs.RoundTrip.{BringsBack, FindsItsLayer, IsWay, relayed};
-ghost use Rattle.dhcp6_relay.specs.Wrap.{wrapped};
+ghost use Rattle.dhcp6_relay.specs.Reply.{reply_of};
+ghost use Rattle.dhcp6_relay.specs.RoundTrip.{BringsBack, FindsItsLayer, IsWay, relayed_message};
+ghost use Rattle.dhcp6_relay.specs.Wrap.{wrapped_message};
 ghost use Rattle.dhcp6_relay.specs.declared.error.RelayError.TheVariants.{TooLong};
 
 use std::net::Ipv6Addr;
@@ -18,13 +18,13 @@ use std::net::Ipv6Addr;
 pub fn answers_come_back()
     ensures relayed { (hops : List Hop) (message : List ℕ) → IsWay hops
         → is_forward message ≡ false
-        → relayed hops message ≢ Err TooLong
-        → (bytes : List ℕ) × (relayed hops message ≡ Ok bytes) }
+        → relayed_message hops message ≢ Err TooLong
+        → (bytes : List ℕ) × (relayed_message hops message ≡ Ok bytes) }
     ensures brought_back { (hops : List Hop) (message answer bytes : List ℕ) → IsWay hops
         → is_forward message ≡ false
-        → relayed hops message ≡ Ok bytes
-        → answered bytes answer ≢ Err TooLong
-        → (reply : List ℕ) × ((answered bytes answer ≡ Ok reply)
+        → relayed_message hops message ≡ Ok bytes
+        → reply_of bytes answer ≢ Err TooLong
+        → (reply : List ℕ) × ((reply_of bytes answer ≡ Ok reply)
         × BringsBack hops reply answer) }
 {}
 
@@ -46,6 +46,6 @@ pub fn a_reply_is_unwrapped(
       peer = peer;
       interface = option_copied interface.entry;
     } in
-        wrapped bytes.now hop ≡ Ok forward.now → answered forward.now answer.now ≡ Ok reply.now
+        wrapped_message bytes.now hop ≡ Ok forward.now → reply_of forward.now answer.now ≡ Ok reply.now
         → FindsItsLayer bytes.now hop answer.now reply.now }
 {}

@@ -5,7 +5,7 @@ ghost use Rattle.std.specs.Int.{w16, to_be_bytes};
 ghost use Rattle.dhcp_wire.specs.Error.{no_memory};
 ghost use Rattle.dhcp_wire.specs.Outcome.{Makes};
 ghost use Rattle.dhcp6_relay.specs.Layer.{
-  around,
+  layers_around,
   layer_length,
   relay_message,
   type_number,
@@ -13,7 +13,7 @@ ghost use Rattle.dhcp6_relay.specs.Layer.{
   written_interface,
   written_option,
 };
-ghost use Rattle.dhcp6_relay.specs.Outcome.{Gives, limited, limited_length, most_bytes};
+ghost use Rattle.dhcp6_relay.specs.Outcome.{Gives, within_limit, length_within_limit, most_bytes};
 
 use crate::RelayError;
 use crate::error::out_of_memory;
@@ -158,10 +158,10 @@ pub fn emit_around(
     layers: &[Layer<'_>],
     message: &[u8],
 ) -> Result<Bytes, RelayError>
-    ensures { Gives (λ bytes. bytes) result (limited (around forward layers.now message.now)) }
+    ensures { Gives (λ bytes. bytes) result (within_limit (layers_around forward layers.now message.now)) }
 {
     let len = len_around(layers, message.len())?;
-    match written_around(alloc, forward, layers, message, len) {
+    match bytes_around(alloc, forward, layers, message, len) {
         Ok(bytes) => Ok(bytes),
         Err(error) => Err(out_of_memory(error)),
     }
@@ -170,7 +170,7 @@ pub fn emit_around(
 // How many bytes layers around a message of this length are. `TooLong` if and only if they are more
 // than a message has at most.
 fn len_around(layers: &[Layer<'_>], message_len: usize) -> Result<usize, RelayError>
-    ensures { result ≡ limited_length (message_len + sum_by layer_length layers.now) }
+    ensures { result ≡ length_within_limit (message_len + sum_by layer_length layers.now) }
 {
     let mut len = message_len;
     for layer in layers {
@@ -184,16 +184,16 @@ fn len_around(layers: &[Layer<'_>], message_len: usize) -> Result<usize, RelayEr
 }
 
 // Layers around a message, which are so many bytes.
-fn written_around(
+fn bytes_around(
     alloc: Global,
     forward: bool,
     layers: &[Layer<'_>],
     message: &[u8],
     len: usize,
 ) -> Result<Bytes, DhcpError>
-    requires whole { len ≡ length (around forward layers.now message.now) }
+    requires whole { len ≡ length (layers_around forward layers.now message.now) }
     requires short { len ≤ most_bytes }
-    ensures { Makes (λ bytes. bytes) result (around forward layers.now message.now) }
+    ensures { Makes (λ bytes. bytes) result (layers_around forward layers.now message.now) }
 {
     let mut buf = BufferMut::with_capacity(alloc, len)?;
     write_around(&mut buf, forward, layers, message, len)?;
@@ -210,9 +210,9 @@ fn write_around(
     message: &[u8],
     len: usize,
 ) -> Result<(), DhcpError>
-    requires whole { len ≡ length (around forward layers.now message.now) }
+    requires whole { len ≡ length (layers_around forward layers.now message.now) }
     requires short { len ≤ most_bytes }
-    ensures ok { IfOk result (λ _. buf.new ≡ buf.old ++ around forward layers.now message.now) }
+    ensures ok { IfOk result (λ _. buf.new ≡ buf.old ++ layers_around forward layers.now message.now) }
     ensures err { IfErr result (λ e. e ≡ no_memory) }
 {
     let Some((layer, inside)) = layers.split_first() else {

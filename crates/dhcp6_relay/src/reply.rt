@@ -1,7 +1,7 @@
 //! An answer relayed back along the way of a message, RFC 8415 sections 19.2 and 19.3.
 
 ghost use Rattle.dhcp6_relay.specs.Outcome.{Gives};
-ghost use Rattle.dhcp6_relay.specs.Reply.{answered, layers_of};
+ghost use Rattle.dhcp6_relay.specs.Reply.{reply_of, layers_of};
 
 use crate::RelayError;
 use crate::layer::{Layer, emit_around};
@@ -18,9 +18,9 @@ const MAX_LAYERS: usize = 9;
 /// is no Relay-forward; else the first of these, from the outmost layer on: `TooManyHops` at a tenth
 /// layer, `Short` or `NoMessage` at a layer that does not read. Then `TooLong` if the result would
 /// be longer than 65,535 bytes. Else out of memory is the only error.
-#[tactic(auto, unfolding(crate::specs::Reply::answered))]
+#[tactic(auto, unfolding(crate::specs::Reply::reply_of))]
 pub fn reply_along(alloc: Global, forward: &[u8], answer: &[u8]) -> Result<Bytes, RelayError>
-    ensures { Gives (λ reply. reply) result (answered forward.now answer.now) }
+    ensures { Gives (λ reply. reply) result (reply_of forward.now answer.now) }
 {
     let layers = layers_of(alloc, forward)?;
     emit_around(alloc, false, layers.as_slice(), answer)

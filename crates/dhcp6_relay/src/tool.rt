@@ -20,10 +20,11 @@ use std::alloc::Global;
 
 /// Does what the words ask for, and returns the exit status. `wrap`, with the address of a link, the
 /// address of a peer and an interface id, writes the Relay-forward of the message that the source
-/// holds; `reply`, with an answer, the Relay-reply to the Relay-forward that it holds; `unwrap` the
-/// message inside the relay message that it holds. Messages are lines of lower-case hex, `-` for no
-/// bytes. The status is `Invalid` if and only if the message is refused, or out of memory. With
-/// every status but 0 and 4 nothing is written.
+/// holds; `reply`, with an answer, the Relay-reply that brings it back along the Relay-forward that
+/// the source holds; `unwrap` the message inside the relay message that it holds. Messages are lines
+/// of lower-case hex, `-` for no bytes. The status is `Invalid` if and only if the message is
+/// refused, as `wrap_forward`, `reply_along` or `parse_relay` refuses it. With every status but 0 and
+/// 4 nothing is written.
 pub fn relay_tool<S: Source, K: Sink>(
     alloc: Global,
     words: &[String],
@@ -114,13 +115,13 @@ fn line_for_message(alloc: Global, request: &Request, message: &[u8]) -> Result<
     ensures { AnswersMessage request.now result message.now }
 {
     match request.result_for(alloc, message) {
-        Ok(bytes) => printed(alloc, bytes.as_slice()),
+        Ok(bytes) => line_to_print(alloc, bytes.as_slice()),
         Err(error) => Err(status_of(error)),
     }
 }
 
 // The line of hex of some bytes, or the status.
-fn printed(alloc: Global, bytes: &[u8]) -> Result<Bytes, Status>
+fn line_to_print(alloc: Global, bytes: &[u8]) -> Result<Bytes, Status>
     ensures { AnswersPrinting (hex_line bytes.now) result }
 {
     match line_of(alloc, bytes) {

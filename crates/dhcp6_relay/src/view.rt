@@ -81,14 +81,14 @@ impl<'a> RelayView<'a> {
     pub fn to_relay(&self, alloc: Global) -> Result<Relay, RelayError>
         ensures { Gives (λ relay. relay) result (Ok self.now) }
     {
-        match self.copied(alloc) {
+        match self.copy(alloc) {
             Ok(relay) => Ok(relay),
             Err(error) => Err(out_of_memory(error)),
         }
     }
 
     // A copy of it.
-    fn copied(&self, alloc: Global) -> Result<Relay, DhcpError>
+    fn copy(&self, alloc: Global) -> Result<Relay, DhcpError>
         ensures { Makes (λ relay. relay) result self.now }
     {
         let interface = match self.layer.interface {

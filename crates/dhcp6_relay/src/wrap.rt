@@ -3,7 +3,7 @@
 ghost use Rattle.std.specs.Prelude.{◌≡◌, IfOk, option_copied, true};
 ghost use Rattle.dhcp6_relay.specs.Layer.{is_forward};
 ghost use Rattle.dhcp6_relay.specs.Outcome.{Gives};
-ghost use Rattle.dhcp6_relay.specs.Wrap.{next_hop_count, wrapped};
+ghost use Rattle.dhcp6_relay.specs.Wrap.{next_hop_count, wrapped_message};
 
 use crate::RelayError;
 use crate::layer::{HEADER_LEN, Layer, emit_around};
@@ -21,7 +21,7 @@ const HOP_COUNT_LIMIT: u8 = 8;
 /// order: `Short` if the message is a Relay-forward of fewer than 34 bytes; `TooManyHops` if its hop
 /// count is 8 or more; `TooLong` if the result would be longer than 65,535 bytes. Else out of memory
 /// is the only error.
-#[tactic(auto, unfolding(crate::specs::Wrap::wrapped, crate::specs::Layer::around))]
+#[tactic(auto, unfolding(crate::specs::Wrap::wrapped_message, crate::specs::Layer::layers_around))]
 pub fn wrap_forward(
     alloc: Global,
     bytes: &[u8],
@@ -29,7 +29,7 @@ pub fn wrap_forward(
     peer: Ipv6Addr,
     interface: Option<&[u8]>,
 ) -> Result<Bytes, RelayError>
-    ensures made { Gives (λ forward. forward) result (wrapped bytes.now (record {
+    ensures made { Gives (λ forward. forward) result (wrapped_message bytes.now (record {
       link = link;
       peer = peer;
       interface = option_copied interface.entry;

@@ -1,6 +1,6 @@
 //! Layers of a relayed message: up to nine, each with its own interface id.
 
-use crate::messages::{peer, relayed};
+use crate::messages::{forward_of, peer};
 use dhcp_wire::Bytes;
 use dhcp6_relay::{Relay, RelayError, parse_relay, reply_along};
 use std::alloc::Global;
@@ -10,7 +10,7 @@ use std::alloc::Global;
 fn chain(alloc: Global, message: &[u8], count: u8) -> Result<Bytes, RelayError> {
     let mut bytes = message.to_vec(alloc)?;
     for number in 1..=count {
-        let outer = relayed(alloc, bytes.as_slice(), u16::from(number), Some(&[number]))?;
+        let outer = forward_of(alloc, bytes.as_slice(), u16::from(number), Some(&[number]))?;
         bytes = outer.into_vec();
     }
     Ok(Bytes::from(bytes))
@@ -28,7 +28,7 @@ fn is_of(relay: &Relay, number: u8) -> bool {
 
 // What is inside a reply after it was unwrapped at the relay agents from this number down to 1;
 // none if one of them does not find what it wrote.
-fn unwrapped(alloc: Global, reply: Bytes, count: u8) -> Result<Option<Bytes>, RelayError> {
+fn answer_in(alloc: Global, reply: Bytes, count: u8) -> Result<Option<Bytes>, RelayError> {
     let mut left = reply;
     for number in (1..=count).rev() {
         let relay = parse_relay(alloc, left.as_slice())?;
@@ -44,7 +44,7 @@ fn unwrapped(alloc: Global, reply: Bytes, count: u8) -> Result<Option<Bytes>, Re
 fn comes_back(alloc: Global, count: u8) -> Result<bool, RelayError> {
     let forward = chain(alloc, &[1, 2, 3], count)?;
     let reply = reply_along(alloc, forward.as_slice(), &[7, 8])?;
-    match unwrapped(alloc, reply, count)? {
+    match answer_in(alloc, reply, count)? {
         Some(answer) => Ok(answer.as_slice() == [7, 8].as_slice()),
         None => Ok(false),
     }
@@ -81,10 +81,10 @@ fn with_byte(alloc: Global, bytes: &[u8], place: usize, byte: u8) -> Result<Byte
 fn a_tenth_relay_agent_is_refused(rt: HostRuntime) {
     let alloc = rt.alloc();
     let nine = chain(alloc, &[1, 2, 3], 9).expect(&rt, "memory");
-    let tenth = relayed(alloc, nine.as_slice(), 10, None);
+    let tenth = forward_of(alloc, nine.as_slice(), 10, None);
     assert!(rt; is_refused(tenth, RelayError::TooManyHops));
     let uncounted = with_byte(alloc, nine.as_slice(), 1, 0).expect(&rt, "memory");
-    let ten = relayed(alloc, uncounted.as_slice(), 10, None).expect(&rt, "memory");
+    let ten = forward_of(alloc, uncounted.as_slice(), 10, None).expect(&rt, "memory");
     let reply = reply_along(alloc, ten.as_slice(), &[7]);
     assert!(rt; is_refused(reply, RelayError::TooManyHops));
 }
@@ -94,7 +94,7 @@ fn a_tenth_relay_agent_is_refused(rt: HostRuntime) {
 fn reply_around_a_short_layer(alloc: Global, count: u8) -> Result<Bytes, RelayError> {
     let mut bytes = Bytes::from([1].to_vec(alloc)?);
     for _ in 0..count {
-        bytes = relayed(alloc, bytes.as_slice(), 1, None)?;
+        bytes = forward_of(alloc, bytes.as_slice(), 1, None)?;
     }
     let end = bytes.len().saturating_sub(1);
     let forward = with_byte(alloc, bytes.as_slice(), end, 12)?;
@@ -112,7 +112,7 @@ fn the_count_comes_before_the_faults_of_a_layer(rt: HostRuntime) {
 #[test]
 fn an_empty_interface_id_comes_back(rt: HostRuntime) {
     let alloc = rt.alloc();
-    let forward = relayed(alloc, &[1], 1, Some(&[])).expect(&rt, "memory");
+    let forward = forward_of(alloc, &[1], 1, Some(&[])).expect(&rt, "memory");
     let reply = reply_along(alloc, forward.as_slice(), &[]).expect(&rt, "memory");
     let relay = parse_relay(alloc, reply.as_slice()).expect(&rt, "memory");
     assert!(rt; relay.inner.is_empty());

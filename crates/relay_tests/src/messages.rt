@@ -43,7 +43,7 @@ pub fn peer(number: u16) -> Ipv6Addr {
 }
 
 /// A message, relayed from the link and from this peer.
-pub fn relayed(
+pub fn forward_of(
     alloc: Global,
     message: &[u8],
     number: u16,
@@ -55,7 +55,7 @@ pub fn relayed(
 #[test]
 fn a_solicit_is_relayed(rt: HostRuntime) {
     let solicit = bytes_of(rt.alloc(), SOLICIT).expect(&rt, "memory");
-    let forward = relayed(rt.alloc(), solicit.as_slice(), 1, None).expect(&rt, "relayed");
+    let forward = forward_of(rt.alloc(), solicit.as_slice(), 1, None).expect(&rt, "relayed");
     assert!(rt; forward == bytes_of(rt.alloc(), FORWARD).expect(&rt, "memory"));
 }
 

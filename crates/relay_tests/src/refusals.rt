@@ -1,6 +1,6 @@
 //! What is refused, and why.
 
-use crate::messages::{FORWARD, REPLY, bytes_of, relayed};
+use crate::messages::{FORWARD, REPLY, bytes_of, forward_of};
 use dhcp_wire::DhcpError;
 use dhcp6_relay::{RelayError, parse_relay, reply_along};
 use std::alloc::{AllocError, Global};
@@ -26,18 +26,20 @@ fn forward_with(alloc: Global, hops: u8, len: usize) -> Result<Vec<u8>, DhcpErro
 #[test]
 fn hop_counts_go_up_to_eight(rt: HostRuntime) {
     let seven = forward_with(rt.alloc(), 7, 84).expect(&rt, "memory");
-    let outer = relayed(rt.alloc(), seven.as_slice(), 2, None).expect(&rt, "relayed");
+    let outer = forward_of(rt.alloc(), seven.as_slice(), 2, None).expect(&rt, "relayed");
     assert!(rt; outer.as_slice().get(1).copied() == Some(8));
     let eight = forward_with(rt.alloc(), 8, 84).expect(&rt, "memory");
     assert!(rt;
-        refusal(relayed(rt.alloc(), eight.as_slice(), 2, None)) == Some(RelayError::TooManyHops)
+        refusal(forward_of(rt.alloc(), eight.as_slice(), 2, None)) == Some(RelayError::TooManyHops)
     );
 }
 
 #[test]
 fn a_header_has_34_bytes(rt: HostRuntime) {
     let short = forward_with(rt.alloc(), 0, 33).expect(&rt, "memory");
-    assert!(rt; refusal(relayed(rt.alloc(), short.as_slice(), 2, None)) == Some(RelayError::Short));
+    assert!(rt;
+        refusal(forward_of(rt.alloc(), short.as_slice(), 2, None)) == Some(RelayError::Short)
+    );
     assert!(rt; refusal(reply_along(rt.alloc(), short.as_slice(), &[])) == Some(RelayError::Short));
     assert!(rt; refusal(parse_relay(rt.alloc(), short.as_slice())) == Some(RelayError::Short));
     let whole = forward_with(rt.alloc(), 0, 34).expect(&rt, "memory");
@@ -72,11 +74,11 @@ fn long_message(alloc: Global, len: usize) -> Result<Vec<u8>, AllocError> {
 #[test]
 fn a_result_has_at_most_65_535_bytes(rt: HostRuntime) {
     let longest = long_message(rt.alloc(), 65_497).expect(&rt, "memory");
-    let forward = relayed(rt.alloc(), longest.as_slice(), 1, None).expect(&rt, "relayed");
+    let forward = forward_of(rt.alloc(), longest.as_slice(), 1, None).expect(&rt, "relayed");
     assert!(rt; forward.len() == 65_535);
     let longer = long_message(rt.alloc(), 65_498).expect(&rt, "memory");
     assert!(rt;
-        refusal(relayed(rt.alloc(), longer.as_slice(), 1, None)) == Some(RelayError::TooLong)
+        refusal(forward_of(rt.alloc(), longer.as_slice(), 1, None)) == Some(RelayError::TooLong)
     );
     let solicit = forward_with(rt.alloc(), 0, 84).expect(&rt, "memory");
     assert!(rt;

@@ -3,9 +3,9 @@
 ghost use Rattle.std.specs.Prelude.{◌≡◌, IfErr, IfOk, Ok, false, option_copied, true};
 ghost use Rattle.dhcp6_relay.specs.Layer.{is_forward};
 ghost use Rattle.dhcp6_relay.specs.Outcome.{Gives};
-ghost use Rattle.dhcp6_relay.specs.Reply.{answered};
+ghost use Rattle.dhcp6_relay.specs.Reply.{reply_of};
 ghost use Rattle.dhcp6_relay.specs.RoundTrip.{answer_to};
-ghost use Rattle.dhcp6_relay.specs.Wrap.{wrapped};
+ghost use Rattle.dhcp6_relay.specs.Wrap.{wrapped_message};
 ghost use Rattle.uses.specs.Relay.{hop_of};
 
 use dhcp_wire::Bytes;
@@ -27,7 +27,7 @@ pub struct RelayAgent<'a> {
 impl<'a> RelayAgent<'a> {
     /// The Relay-forward of a message. It is refused as `wrap_forward` refuses it.
     pub fn relay(&self, alloc: Global, message: &[u8]) -> Result<Bytes, RelayError>
-        ensures made { Gives (λ forward. forward) result (wrapped message.now (hop_of self.now)) }
+        ensures made { Gives (λ forward. forward) result (wrapped_message message.now (hop_of self.now)) }
         ensures forward { IfOk result (λ forward. is_forward forward ≡ true) }
     {
         wrap_forward(alloc, message, self.link, self.peer, self.interface)
@@ -44,8 +44,8 @@ impl<'a> RelayAgent<'a> {
         answer: &[u8],
         reply: &[u8],
     ) -> Result<Relay, RelayError>
-        requires relayed { wrapped message.now (hop_of self.now) ≡ Ok forward.now }
-        requires replied { answered forward.now answer.now ≡ Ok reply.now }
+        requires relayed { wrapped_message message.now (hop_of self.now) ≡ Ok forward.now }
+        requires replied { reply_of forward.now answer.now ≡ Ok reply.now }
         ensures peer { IfOk result (λ relay. relay.peer ≡ self.now.peer) }
         ensures interface { IfOk result (λ relay.
             relay.interface ≡ option_copied self.now.interface) }
