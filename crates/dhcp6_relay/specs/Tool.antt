@@ -26,7 +26,8 @@ inner_of message = do
 -- what a request makes of a message, or why it is refused
 unfoldable pub result_for : Request → List ℕ → Result (List ℕ) RelayError
 result_for (Wrap link peer interface) message =
-    wrapped_message message (record { link = link; peer = peer; interface = interface_of interface })
+    wrapped_message message
+    (record { link = link; peer = peer; interface = interface_of interface })
 result_for (Reply answer) message = reply_of message answer
 result_for Unwrap message = inner_of message
 

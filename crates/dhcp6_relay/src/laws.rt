@@ -29,9 +29,9 @@ pub fn answers_come_back()
 {}
 
 /// One step of the way back, by what the calls return: where `wrap_forward` made `forward` of a
-/// message of these bytes, and `reply_along` made `reply` of that and an answer, `parse_relay` finds
-/// in the reply what was passed to `wrap_forward`, and inside the answer to the message: the answer
-/// itself, or what `reply_along` makes of the message if it is a Relay-forward.
+/// message of these bytes, and `reply_along` made `reply` of that and an answer, `parse_relay`
+/// finds in the reply what was passed to `wrap_forward`, and inside the answer to the message: the
+/// answer itself, or what `reply_along` makes of the message if it is a Relay-forward.
 pub fn a_reply_is_unwrapped(
     bytes: &[u8],
     link: Ipv6Addr,
@@ -46,6 +46,7 @@ pub fn a_reply_is_unwrapped(
       peer = peer;
       interface = option_copied interface.entry;
     } in
-        wrapped_message bytes.now hop ≡ Ok forward.now → reply_of forward.now answer.now ≡ Ok reply.now
+        wrapped_message bytes.now hop ≡ Ok forward.now
+        → reply_of forward.now answer.now ≡ Ok reply.now
         → FindsItsLayer bytes.now hop answer.now reply.now }
 {}

@@ -158,7 +158,8 @@ pub fn emit_around(
     layers: &[Layer<'_>],
     message: &[u8],
 ) -> Result<Bytes, RelayError>
-    ensures { Gives (λ bytes. bytes) result (within_limit (layers_around forward layers.now message.now)) }
+    ensures { Gives (λ bytes. bytes) result
+        (within_limit (layers_around forward layers.now message.now)) }
 {
     let len = len_around(layers, message.len())?;
     match bytes_around(alloc, forward, layers, message, len) {
@@ -212,7 +213,8 @@ fn write_around(
 ) -> Result<(), DhcpError>
     requires whole { len ≡ length (layers_around forward layers.now message.now) }
     requires short { len ≤ most_bytes }
-    ensures ok { IfOk result (λ _. buf.new ≡ buf.old ++ layers_around forward layers.now message.now) }
+    ensures ok { IfOk result (λ _. buf.new
+        ≡ buf.old ++ layers_around forward layers.now message.now) }
     ensures err { IfErr result (λ e. e ≡ no_memory) }
 {
     let Some((layer, inside)) = layers.split_first() else {

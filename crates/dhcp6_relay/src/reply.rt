@@ -12,12 +12,12 @@ use std::alloc::Global;
 // How many layers a message has at most.
 const MAX_LAYERS: usize = 9;
 
-/// The Relay-reply that brings an answer back along the way of a Relay-forward: it has the layers of
-/// that, each with its hop count, its addresses and its interface id, and the answer inside them.
-/// The layers end at the first message that is no Relay-forward. `NotRelay` if and only if `forward`
-/// is no Relay-forward; else the first of these, from the outmost layer on: `TooManyHops` at a tenth
-/// layer, `Short` or `NoMessage` at a layer that does not read. Then `TooLong` if the result would
-/// be longer than 65,535 bytes. Else out of memory is the only error.
+/// The Relay-reply that brings an answer back along the way of a Relay-forward: it has the layers
+/// of that, each with its hop count, its addresses and its interface id, and the answer inside
+/// them. The layers end at the first message that is no Relay-forward. `NotRelay` if and only if
+/// `forward` is no Relay-forward; else the first of these, from the outmost layer on: `TooManyHops`
+/// at a tenth layer, `Short` or `NoMessage` at a layer that does not read. Then `TooLong` if the
+/// result would be longer than 65,535 bytes. Else out of memory is the only error.
 #[tactic(auto, unfolding(crate::specs::Reply::reply_of))]
 pub fn reply_along(alloc: Global, forward: &[u8], answer: &[u8]) -> Result<Bytes, RelayError>
     ensures { Gives (λ reply. reply) result (reply_of forward.now answer.now) }

@@ -18,13 +18,13 @@ use dhcp_tool::{Status, input, out_of_memory, print};
 use dhcp_wire::Bytes;
 use std::alloc::Global;
 
-/// Does what the words ask for, and returns the exit status. `wrap`, with the address of a link, the
-/// address of a peer and an interface id, writes the Relay-forward of the message that the source
-/// holds; `reply`, with an answer, the Relay-reply that brings it back along the Relay-forward that
-/// the source holds; `unwrap` the message inside the relay message that it holds. Messages are lines
-/// of lower-case hex, `-` for no bytes. The status is `Invalid` if and only if the message is
-/// refused, as `wrap_forward`, `reply_along` or `parse_relay` refuses it. With every status but 0 and
-/// 4 nothing is written.
+/// Does what the words ask for, and returns the exit status. `wrap`, with the address of a link,
+/// the address of a peer and an interface id, writes the Relay-forward of the message that the
+/// source holds; `reply`, with an answer, the Relay-reply that brings it back along the
+/// Relay-forward that the source holds; `unwrap` the message inside the relay message that it
+/// holds. Messages are lines of lower-case hex, `-` for no bytes. The status is `Invalid` if and
+/// only if the message is refused, as `wrap_forward`, `reply_along` or `parse_relay` refuses it.
+/// With every status but 0 and 4 nothing is written.
 pub fn relay_tool<S: Source, K: Sink>(
     alloc: Global,
     words: &[String],

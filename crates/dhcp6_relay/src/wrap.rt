@@ -18,9 +18,9 @@ const HOP_COUNT_LIMIT: u8 = 8;
 /// The Relay-forward of a message, of these bytes, that a relay agent received: with an address of
 /// the link that it came from, the address of who sent it, and the id of the interface that it came
 /// in on, if that is given. Its hop count is 0, or one more than that of a Relay-forward. In this
-/// order: `Short` if the message is a Relay-forward of fewer than 34 bytes; `TooManyHops` if its hop
-/// count is 8 or more; `TooLong` if the result would be longer than 65,535 bytes. Else out of memory
-/// is the only error.
+/// order: `Short` if the message is a Relay-forward of fewer than 34 bytes; `TooManyHops` if its
+/// hop count is 8 or more; `TooLong` if the result would be longer than 65,535 bytes. Else out of
+/// memory is the only error.
 #[tactic(auto, unfolding(crate::specs::Wrap::wrapped_message, crate::specs::Layer::layers_around))]
 pub fn wrap_forward(
     alloc: Global,

@@ -1,7 +1,7 @@
 //! The program: `wrap`, with the address of a link, the address of a peer and an interface id,
 //! relays the message on standard input; `reply`, with an answer, relays that back along the
-//! Relay-forward on standard input; `unwrap` writes the message inside a relay message. Messages are
-//! lines of hex; the exit status is a `Status` of dhcp_tool.
+//! Relay-forward on standard input; `unwrap` writes the message inside a relay message. Messages
+//! are lines of hex; the exit status is a `Status` of dhcp_tool.
 #![tactic(auto)]
 
 use dhcp_stream::{StdSink, StdSource};

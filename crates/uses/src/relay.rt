@@ -27,15 +27,16 @@ pub struct RelayAgent<'a> {
 impl<'a> RelayAgent<'a> {
     /// The Relay-forward of a message. It is refused as `wrap_forward` refuses it.
     pub fn relay(&self, alloc: Global, message: &[u8]) -> Result<Bytes, RelayError>
-        ensures made { Gives (λ forward. forward) result (wrapped_message message.now (hop_of self.now)) }
+        ensures made { Gives (λ forward. forward) result
+            (wrapped_message message.now (hop_of self.now)) }
         ensures forward { IfOk result (λ forward. is_forward forward ≡ true) }
     {
         wrap_forward(alloc, message, self.link, self.peer, self.interface)
     }
 
-    /// What is found in the reply to a message that was relayed here: the peer that it goes back to,
-    /// the interface that it goes out on, and an answer to the message. Out of memory is the only
-    /// error.
+    /// What is found in the reply to a message that was relayed here: the peer that it goes back
+    /// to, the interface that it goes out on, and an answer to the message. Out of memory is the
+    /// only error.
     pub fn unwrap_reply(
         &self,
         alloc: Global,
