@@ -1,0 +1,11 @@
+pub mod Error
+pub mod Hop
+pub mod Layer
+pub mod Outcome
+pub mod Relay
+pub mod Reply
+pub mod Request
+pub mod RoundTrip
+pub mod Tool
+pub mod View
+pub mod Wrap
