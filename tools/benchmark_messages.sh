@@ -1,5 +1,6 @@
 #!/bin/sh
-# Times the reading and writing of messages of both families, frames and lists of DHCPv6 options.
+# Times the reading and writing of messages of both families, frames, lists of DHCPv6 options and
+# relay messages.
 #
 #   tools/benchmark_messages.sh      at the repository's top, after `rt run < stdin -- frame 3`
 #                                    in crates/dhcp_bench has built the program
@@ -134,3 +135,17 @@ measure6 domain_list_of_64_KiB 200
 association=0003dacc000000000000003200000050
 options6 "$association" "00050018${address6}1000000064000000c8" 1 2000 1
 measure6 association_with_2000_addresses 200
+
+# Messages of 1,232 and of 60,000 bytes that are relayed.
+options6 01abcdef 00 1 1228 1
+measure relayed_message_of_1232_bytes wrap6 200000
+options6 01abcdef 00 1 59996 1
+measure relayed_message_of_60000_bytes wrap6 5000
+# A Relay-forward of nine layers, along which an answer goes back.
+relayed=01abcdef
+for hops in 0 1 2 3 4 5 6 7 8; do
+    relayed=$(printf '0c%02x%s1%s10009%04x%s' "$hops" "20010db800000000000000000000000" \
+        "fe80000000000000000000000000000" "$((${#relayed} / 2))" "$relayed")
+done
+options6 "$relayed" "" 1 0 1
+measure answer_through_nine_layers along6 200000

@@ -6,7 +6,8 @@
 //! `frame` reads and writes a frame. `read6` reads a list of DHCPv6 options, and `options6` reads
 //! and writes it. Of a DHCPv6 message, `reply6` reads one, `message6` reads and writes it, `lease6`
 //! reads it and its lease, `moved6` does so and moves its options into the lease, and `solicit6`
-//! builds and writes a Solicit. Of an IPv4 client, `idle` polls one that has a lease, `foreign` one
+//! builds and writes a Solicit; `wrap6` relays a message to a server, and `along6` an answer back
+//! along a Relay-forward. Of an IPv4 client, `idle` polls one that has a lease, `foreign` one
 //! whose Discover is open, each time with the frame of the line, and `life` has it live from its
 //! Discover to its release, with the frames of an Offer and of an Ack as two lines; `idle6`,
 //! `foreign6` and `life6` do so with an IPv6 client, and payloads. These print how many polls or
@@ -20,6 +21,7 @@ mod client6;
 mod exchange;
 mod messages6;
 mod options6;
+mod relay6;
 
 use crate::exchange::{foreign, idle, lives};
 use dhcp_clock::WordList;
@@ -29,6 +31,7 @@ use dhcp4_client::DhcpV4Client;
 use dhcp4_lease::{DhcpV4Config, DhcpV4Lease, new_discovery};
 use dhcp4_msg::DhcpV4Message;
 use dhcp6_client::DhcpV6Client;
+use dhcp6_relay::RelayError;
 use std::alloc::{AllocError, Global};
 use std::process::ExitCode;
 use std::{env, io};
@@ -42,6 +45,8 @@ enum Failure {
     Hex,
     /// The bytes do not read, or out of memory.
     Message(DhcpError),
+    /// A relay message is refused, or out of memory.
+    Relay(RelayError),
     /// A stream failed, or out of memory.
     Stream(io::Error),
 }
@@ -49,6 +54,12 @@ enum Failure {
 impl From<DhcpError> for Failure {
     fn from(error: DhcpError) -> Self {
         Failure::Message(error)
+    }
+}
+
+impl From<RelayError> for Failure {
+    fn from(error: RelayError) -> Self {
+        Failure::Relay(error)
     }
 }
 
@@ -166,6 +177,8 @@ fn count_of_message6(alloc: Global, what: &str, bytes: &[u8]) -> Result<usize, F
         "lease6" => Ok(messages6::read_to_lease(alloc, bytes)?),
         "moved6" => Ok(messages6::moved_to_lease(alloc, bytes)?),
         "solicit6" => Ok(messages6::solicit(alloc)?),
+        "wrap6" => Ok(relay6::wrap(alloc, bytes)?),
+        "along6" => Ok(relay6::reply(alloc, bytes)?),
         _ => Err(Failure::Words),
     }
 }

@@ -86,3 +86,19 @@ fn a_result_has_at_most_65_535_bytes(rt: HostRuntime) {
             == Some(RelayError::TooLong)
     );
 }
+
+#[test]
+fn a_refusal_is_printed_for_people(rt: HostRuntime) {
+    let table = [
+        (RelayError::NotRelay, "not a relay message"),
+        (RelayError::Short, "unexpected end of data"),
+        (RelayError::NoMessage, "no relayed message"),
+        (RelayError::TooManyHops, "too many hops"),
+        (RelayError::TooLong, "the message is too long"),
+        (RelayError::OutOfMemory, "out of memory"),
+    ];
+    for (error, want) in table {
+        let text = format!(in rt.alloc(); "{error}").expect(&rt, "memory");
+        assert!(rt; text.as_str() == want);
+    }
+}
