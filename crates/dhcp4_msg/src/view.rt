@@ -103,6 +103,13 @@ impl<'a> DhcpV4View<'a> {
         self.xid
     }
 
+    /// The address that the server gives.
+    pub fn yiaddr(&self) -> Ipv4Addr
+        ensures { result ≡ self.now.yiaddr }
+    {
+        self.yiaddr
+    }
+
     /// The type that its last readable option 53 says, if it has one. Does not allocate.
     pub fn message_type(&self) -> Option<DhcpV4MessageType>
         ensures { result ≡ maps.message_type self.now.options }

@@ -1,3 +1,4 @@
 pub mod Checksum
 pub mod View
+pub mod View6
 pub mod Write

@@ -14,7 +14,7 @@ use std::net::Ipv4Addr;
 const IPV4: u16 = 0x0800;
 
 // The protocol number of UDP in an IPv4 header.
-const UDP: u8 = 17;
+pub(crate) const UDP: u8 = 17;
 
 /// A frame over the bytes that it was read from: nothing is copied but its addresses and ports.
 /// Contracts see it as the frame that those bytes are.
@@ -65,6 +65,27 @@ impl<'a> FrameView<'a> {
             dst_port: datagram.destination,
             payload: datagram.payload,
         })
+    }
+
+    /// The source address of the IPv4 header.
+    pub fn src_ip(&self) -> Ipv4Addr
+        ensures { result ≡ self.now.src_ip }
+    {
+        self.src_ip
+    }
+
+    /// The destination address of the IPv4 header.
+    pub fn dst_ip(&self) -> Ipv4Addr
+        ensures { result ≡ self.now.dst_ip }
+    {
+        self.dst_ip
+    }
+
+    /// The source port of the UDP header.
+    pub fn src_port(&self) -> u16
+        ensures { result ≡ self.now.src_port }
+    {
+        self.src_port
     }
 
     /// The destination port of the UDP header.
@@ -139,10 +160,10 @@ impl<'a> Model for Packet<'a> {
 
 // What a UDP datagram has.
 #[derive(Drop)]
-struct Datagram<'a> {
-    source: u16,
-    destination: u16,
-    payload: &'a [u8],
+pub(crate) struct Datagram<'a> {
+    pub(crate) source: u16,
+    pub(crate) destination: u16,
+    pub(crate) payload: &'a [u8],
 }
 
 impl<'a> Model for Datagram<'a> {
@@ -197,7 +218,7 @@ fn read_packet(packet: &[u8]) -> Option<Packet<'_>>
 
 // The UDP datagram, if it is whole.
 #[tactic(auto, unfolding(crate::specs::View::read_datagram))]
-fn read_datagram(datagram: &[u8]) -> Option<Datagram<'_>>
+pub(crate) fn read_datagram(datagram: &[u8]) -> Option<Datagram<'_>>
     ensures { result ≡ View.read_datagram datagram.now }
 {
     if datagram.len() < 8 {
@@ -215,7 +236,7 @@ fn read_datagram(datagram: &[u8]) -> Option<Datagram<'_>>
 }
 
 // The 16-bit field at this position.
-fn field_at(bytes: &[u8], position: usize) -> u16
+pub(crate) fn field_at(bytes: &[u8], position: usize) -> u16
     requires { position + 2 ≤ length bytes.now }
     ensures { result ≡ View.field_at position bytes.now }
 {
@@ -231,7 +252,7 @@ fn address_at(bytes: &[u8], position: usize) -> Ipv4Addr
 }
 
 // The bytes from this position on, in an array.
-fn array_at<const N: usize>(bytes: &[u8], position: usize) -> [u8; N]
+pub(crate) fn array_at<const N: usize>(bytes: &[u8], position: usize) -> [u8; N]
     requires { position + N ≤ length bytes.now }
     ensures { result ≡ slice_range bytes.now position (position + N) }
 {

@@ -1,0 +1,52 @@
+-- The header of a capture file in the classic pcap format: a magic number of 4 bytes, two version
+-- numbers of 2 bytes, three numbers of 4 bytes, and the link type in 4 bytes.
+use Rattle.std.specs.Prelude.{ℕ, Bool, ◌&&◌, ◌==◌, List, [], ◌∷◌, length, take, drop, find, Option, None, nat_le, if◌then◌else◌}
+use Rattle.std.specs.Int.{w32, from_be_bytes, from_le_bytes}
+use Rattle.dhcp_inspect.specs.declared.header.ByteOrder.{ByteOrder}
+use Rattle.dhcp_inspect.specs.declared.header.ByteOrder.TheVariants.{BigEndian, LittleEndian}
+use Rattle.dhcp_inspect.specs.declared.header.TimeUnit.{TimeUnit}
+use Rattle.dhcp_inspect.specs.declared.header.TimeUnit.TheVariants.{Microseconds, Nanoseconds}
+use Rattle.dhcp_inspect.specs.declared.header.Header.{Header}
+
+-- the number of four bytes in this order
+abbrev pub u32_of : ByteOrder → List ℕ → ℕ
+u32_of BigEndian bytes = from_be_bytes w32 bytes
+u32_of LittleEndian bytes = from_le_bytes w32 bytes
+
+-- the number of the first four bytes
+abbrev pub u32_in : ByteOrder → List ℕ → ℕ
+u32_in order bytes = u32_of order (take 4 bytes)
+
+-- the magic number of a file whose fractions of a second are in this unit
+abbrev pub magic_number : TimeUnit → ℕ
+magic_number Microseconds = 0xa1b2c3d4
+magic_number Nanoseconds = 0xa1b23c4d
+
+-- the link type of Ethernet
+abbrev pub ethernet : ℕ
+ethernet = 1
+
+-- how many bytes a header has
+abbrev pub header_length : ℕ
+header_length = 24
+
+-- every header
+abbrev pub all_headers : List Header
+all_headers =
+    record { order = BigEndian; unit = Microseconds }
+    ∷ record { order = LittleEndian; unit = Microseconds }
+    ∷ record { order = BigEndian; unit = Nanoseconds }
+    ∷ record { order = LittleEndian; unit = Nanoseconds }
+    ∷ []
+
+-- The file begins with this header, by its magic number and its link type. The version and the
+-- three numbers are not tested.
+abbrev pub begins_with : List ℕ → Header → Bool
+begins_with file header =
+    u32_in header.order file == magic_number header.unit
+    && u32_in header.order (drop 20 file) == ethernet
+
+-- the header of a file
+unfoldable pub read_header : List ℕ → Option Header
+read_header file =
+    if nat_le header_length (length file) then find (begins_with file) all_headers else None

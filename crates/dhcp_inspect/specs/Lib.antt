@@ -1,0 +1,6 @@
+pub mod Capture
+pub mod Header
+pub mod Message
+pub mod Record
+pub mod Report
+pub mod Tool
