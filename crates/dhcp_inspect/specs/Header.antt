@@ -1,6 +1,6 @@
 -- The header of a capture file in the classic pcap format: a magic number of 4 bytes, two version
 -- numbers of 2 bytes, three numbers of 4 bytes, and the link type in 4 bytes.
-use Rattle.std.specs.Prelude.{ℕ, Bool, ◌&&◌, ◌==◌, List, [], ◌∷◌, length, take, drop, find, Option, None, nat_le, if◌then◌else◌}
+use Rattle.std.specs.Prelude.{◌≡◌, ℕ, ◌≤◌, Bool, ◌&&◌, ◌==◌, List, [], ◌∷◌, length, take, drop, find, Option, Some, None, nat_le, if◌then◌else◌}
 use Rattle.std.specs.Int.{w32, from_be_bytes, from_le_bytes}
 use Rattle.dhcp_inspect.specs.declared.header.ByteOrder.{ByteOrder}
 use Rattle.dhcp_inspect.specs.declared.header.ByteOrder.TheVariants.{BigEndian, LittleEndian}
@@ -50,3 +50,13 @@ begins_with file header =
 unfoldable pub read_header : List ℕ → Option Header
 read_header file =
     if nat_le header_length (length file) then find (begins_with file) all_headers else None
+
+-- The file begins with a whole header of this order and unit, and its link type is Ethernet's.
+pub record HasHeader (file : List ℕ) (header : Header) : Type 0 where
+  pub whole : header_length ≤ length file
+  pub magic : u32_in header.order file ≡ magic_number header.unit
+  pub link_type : u32_in header.order (drop 20 file) ≡ ethernet
+
+-- the file is a capture that can be read: it begins with such a header
+abbrev pub IsCapture : List ℕ → Type 0
+IsCapture file = (header : Header) × HasHeader file header

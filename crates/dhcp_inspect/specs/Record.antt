@@ -1,8 +1,8 @@
 -- A record of a capture file: seconds, the fraction of a second, the number of bytes kept and that
 -- of bytes on the wire, 4 bytes each, and then the bytes kept.
-use Rattle.std.specs.Prelude.{ℕ, List, Option, Some, None, nat_le, if◌then◌else◌, length, take, drop}
+use Rattle.std.specs.Prelude.{ℕ, List, Some, option_map}
 use Rattle.dhcp_wire.specs.Field.{Read, ◌>>=◌, bytes_at}
-use Rattle.dhcp_inspect.specs.Header.{u32_in}
+use Rattle.dhcp_inspect.specs.Header.{u32_of}
 use Rattle.dhcp_inspect.specs.declared.header.ByteOrder.{ByteOrder}
 
 -- what contracts see of a record
@@ -14,8 +14,7 @@ pub record RecordParts : Type 0 where
 
 -- a number of four bytes in this order
 unfoldable pub u32_at : ByteOrder → List ℕ → Read ℕ
-u32_at order bytes =
-    if nat_le 4 (length bytes) then Some (u32_in order bytes, drop 4 bytes) else None
+u32_at order bytes = option_map (λ read. (u32_of order read.0, read.1)) (bytes_at 4 bytes)
 
 -- the record at the front, where it is whole
 unfoldable pub record_at : ByteOrder → List ℕ → Read RecordParts

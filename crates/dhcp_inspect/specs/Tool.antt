@@ -1,16 +1,12 @@
 -- The program: its words, and what it makes of the file that it reads.
-use Rattle.std.specs.Prelude.{◌≡◌, ℕ, true, List, [], IsSome, unwrap_or}
+use Rattle.std.specs.Prelude.{◌≡◌, ℕ, true, List, [], unwrap_or}
 use Rattle.dhcp_tool.specs.Texts.{Texts}
-use Rattle.dhcp_inspect.specs.Capture.{read_capture}
+use Rattle.dhcp_inspect.specs.Header.{IsCapture}
 use Rattle.dhcp_inspect.specs.Report.{report_on}
 
 -- the words ask for a report: there are none
 abbrev pub AsksForReport : List (List ℕ) → Type 0
 AsksForReport words = words ≡ []
-
--- the file is a capture
-abbrev pub IsCapture : List ℕ → Type 0
-IsCapture file = IsSome (read_capture file)
 
 -- the report on a file that is a capture
 abbrev pub report : List ℕ → List ℕ

@@ -1,8 +1,9 @@
 //! A capture file that is read record by record.
 
-ghost use Rattle.std.specs.Prelude.{◌≡◌, ◌≤◌, IfSome, length};
+ghost use Rattle.std.specs.Prelude.{◌≡◌, ◌≤◌, ◌↔◌, IfSome, IsSome, length};
 ghost use Rattle.std.specs.Iterator.{MakesProgress};
-ghost use Rattle.dhcp_inspect.specs.Capture.{capture_of, read_capture};
+ghost use Rattle.dhcp_inspect.specs.Capture.{read_capture};
+ghost use Rattle.dhcp_inspect.specs.Header.{IsCapture};
 
 use crate::header::{HEADER_LENGTH, Header, TimeUnit};
 use crate::record::Record;
@@ -27,9 +28,10 @@ impl<'a> Model for Capture<'a> {
 impl<'a> Capture<'a> {
     /// The capture that a file is: none if and only if it has fewer than 24 bytes, another magic
     /// number or another link type than Ethernet's. Does not allocate.
-    #[tactic(auto, unfolding(crate::specs::Capture::read_capture))]
+    #[tactic(auto, using(crate::proofs::RecordLemmas::next_record, crate::proofs::HeaderLemmas::header), unfolding(crate::specs::Capture::read_capture))]
     pub fn new(file: &'a [u8]) -> Option<Self>
         ensures value { result ≡ read_capture file.now }
+        ensures capture { IsSome result ↔ IsCapture file.now }
         ensures few { IfSome result (λ capture. length capture.records ≤ length file.now) }
     {
         let header = Header::read(file)?;
@@ -47,6 +49,7 @@ impl<'a> Capture<'a> {
     }
 
     /// How many bytes remain after its last record: 0 unless the file ends within a record.
+    #[tactic(auto, using(crate::proofs::RecordLemmas::next_record))]
     pub fn remainder(&self) -> usize
         ensures { result ≡ self.now.remainder }
     {
@@ -69,6 +72,7 @@ impl<'a> Iterator for Capture<'a> {
 
     /// The next record; none where none is left. Neither the unit nor what remains after the last
     /// record changes. Does not allocate.
+    #[tactic(auto, using(crate::proofs::RecordLemmas::next_record))]
     fn next(&mut self) -> Option<Record<'a>>
         ensures steps { next_gives self.old result self.new }
         ensures goes { MakesProgress can_next remaining self.old result self.new }

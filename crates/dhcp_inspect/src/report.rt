@@ -1,9 +1,9 @@
 //! The report on a capture file: a line for each DHCP message, and a last line.
 
-ghost use Rattle.std.specs.Prelude.{◌≡◌, ◌≤◌, ◌<◌, ◌^◌, ◌++◌, [], OnOk, length, string_bytes};
+ghost use Rattle.std.specs.Prelude.{◌≡◌, ◌≤◌, ◌<◌, ◌^◌, ◌++◌, ◌↔◌, IfOk, IsSome, OnOk, Some, length, string_bytes};
 ghost use Rattle.hex.specs.Hex.{encode_lower};
 ghost use Rattle.dhcp_wire.specs.Outcome.{Makes};
-ghost use Rattle.dhcp_inspect.specs.Report as reports;
+ghost use Rattle.dhcp_inspect.specs.Header.{IsCapture};
 ghost use Rattle.dhcp_inspect.specs.Report.{
   capture_text,
   id6_text,
@@ -33,7 +33,8 @@ use std::alloc::{AllocError, Global};
 /// last whole record. None if and only if the file has fewer than 24 bytes, another magic number or
 /// another link type than Ethernet's. Out of memory is the only error.
 pub fn inspect(alloc: Global, file: &[u8]) -> Result<Option<Bytes>, DhcpError>
-    ensures { Makes (λ report. report) result (report_on file.now) }
+    ensures report { Makes (λ report. report) result (report_on file.now) }
+    ensures capture { IfOk result (λ report. IsSome report ↔ IsCapture file.now) }
 {
     match Capture::new(file) {
         Some(capture) => Ok(Some(print_capture(alloc, capture)?)),
@@ -55,6 +56,7 @@ fn print_capture(alloc: Global, mut capture: Capture) -> Result<Bytes, DhcpError
 
 // Puts the lines of the records that are left at the end of a text. After an error, which is out of
 // memory, a part of them may be there.
+#[tactic(auto, using(crate::proofs::TextLemmas::lines))]
 fn push_records(text: &mut String, capture: &mut Capture) -> Result<(), AllocError>
     requires { length capture.old.records < 2 ^ 64 }
     ensures lines { OnOk result (string_bytes text.new
@@ -106,6 +108,7 @@ fn push_line(
 }
 
 // Puts the moment of a record at the end of a text.
+#[tactic(auto, using(crate::proofs::TextLemmas::filled))]
 fn push_moment(text: &mut String, unit: TimeUnit, packet: &Record) -> Result<(), AllocError>
     ensures { OnOk result (string_bytes text.new
         ≡ string_bytes text.old ++ moment_text unit packet.now) }
@@ -179,6 +182,7 @@ fn push_id6(text: &mut String, kind: DhcpV6MessageType, xid: u32) -> Result<(), 
 }
 
 // Puts the hex digits of at most sixteen octets at the end of a text.
+#[tactic(auto, using(crate::proofs::TextLemmas::digits))]
 fn push_octets(text: &mut String, octets: &[u8]) -> Result<(), AllocError>
     requires { length octets.now ≤ 16 }
     ensures { OnOk result (string_bytes text.new

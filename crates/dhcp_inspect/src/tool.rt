@@ -5,7 +5,8 @@ ghost use Rattle.dhcp_wire.specs.Fault.{Rose};
 ghost use Rattle.dhcp_stream.specs.Stream.{behind};
 ghost use Rattle.dhcp_stream.specs.Whole.{most_bytes};
 ghost use Rattle.dhcp_tool.specs.Ends.{EndsReading};
-ghost use Rattle.dhcp_inspect.specs.Tool.{AsksForReport, IsCapture, captures, report};
+ghost use Rattle.dhcp_inspect.specs.Header.{IsCapture};
+ghost use Rattle.dhcp_inspect.specs.Tool.{AsksForReport, captures, report};
 
 use crate::report::inspect;
 use dhcp_stream::{Sink, Source};
@@ -22,7 +23,7 @@ pub fn inspect_tool<S: Source, K: Sink>(
     sink: &mut K,
 ) -> u8
     // Every record once: a capture file of at most 16 MiB is answered by exactly the report on it,
-    // unless out of memory or the source or the sink fails; and every other file by status 2.
+    // unless out of memory or the source or the sink fails.
     ensures every_record_once { (file : List ℕ) → AsksForReport (map string_bytes words.now)
         → IsCapture file
         → S.left source.old ≡ Some file
@@ -31,6 +32,15 @@ pub fn inspect_tool<S: Source, K: Sink>(
         → ¬ (Rose (K.faults sink.old) (K.faults sink.new))
         → (result ≡ 5)
         ⊎ ((result ≡ 0) × (K.taken sink.new ≡ behind (K.taken sink.old) (report file))) }
+
+    // Every other file of at most 16 MiB is refused by status 2, unless out of memory or the source
+    // fails.
+    ensures no_capture { (file : List ℕ) → AsksForReport (map string_bytes words.now)
+        → ¬ (IsCapture file)
+        → S.left source.old ≡ Some file
+        → length file ≤ most_bytes
+        → ¬ (Rose (S.faults source.old) (S.faults source.new))
+        → (result ≡ 5) ⊎ (result ≡ 2) }
 
     // What each status says, and which answers are owed.
     ensures ends { AsksForReport (map string_bytes words.now) →
@@ -81,6 +91,7 @@ impl ToolRequest for Inspection {
         true
     }
 
+    #[tactic(auto, using(crate::proofs::HeaderLemmas::header))]
     fn answer(&self, alloc: Global, bytes: &[u8]) -> Result<Bytes, Status> {
         match inspect(alloc, bytes) {
             Ok(Some(text)) => Ok(text),
