@@ -1,7 +1,7 @@
 -- A capture file: its header, its records as long as each is whole, and what remains.
-use Rattle.std.specs.Prelude.{ℕ, zero, suc, List, [], ◌∷◌, length, drop, Option, Some, None, option_map}
+use Rattle.std.specs.Prelude.{ℕ, zero, suc, List, [], ◌∷◌, length, Option, Some, None, option_map}
 use Rattle.dhcp_wire.specs.Field.{Read}
-use Rattle.dhcp_inspect.specs.Header.{header_length, read_header}
+use Rattle.dhcp_inspect.specs.Header.{read_header}
 use Rattle.dhcp_inspect.specs.Record.{RecordParts, record_at}
 use Rattle.dhcp_inspect.specs.declared.header.ByteOrder.{ByteOrder}
 use Rattle.dhcp_inspect.specs.declared.header.Header.{Header}
@@ -36,6 +36,10 @@ pub record CaptureParts : Type 0 where
   pub records : List RecordParts
   pub remainder : ℕ
 
+-- the records that are left
+abbrev pub records_left : CaptureParts → List RecordParts
+records_left capture = capture.records
+
 -- the capture with this header whose bytes after it, or those that are left of them, are these
 abbrev pub capture_of : Header → List ℕ → CaptureParts
 capture_of header bytes = record {
@@ -47,4 +51,4 @@ capture_of header bytes = record {
 -- the capture that a file is
 unfoldable pub read_capture : List ℕ → Option CaptureParts
 read_capture file =
-    option_map (λ header. capture_of header (drop header_length file)) (read_header file)
+    option_map (λ read. capture_of read.0 read.1) (read_header file)

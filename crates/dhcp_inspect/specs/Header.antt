@@ -1,7 +1,9 @@
 -- The header of a capture file in the classic pcap format: a magic number of 4 bytes, two version
 -- numbers of 2 bytes, three numbers of 4 bytes, and the link type in 4 bytes.
-use Rattle.std.specs.Prelude.{◌≡◌, ℕ, ◌≤◌, Bool, ◌&&◌, ◌==◌, List, [], ◌∷◌, length, take, drop, find, Option, Some, None, nat_le, if◌then◌else◌}
+use Rattle.std.specs.Prelude.{◌≡◌, ℕ, ◌≤◌, ◌==◌, List, length, take, drop, Option, Some, None, option_map, nat_le, if◌then◌else◌}
 use Rattle.std.specs.Int.{w32, from_be_bytes, from_le_bytes}
+use Rattle.std.specs.Option.{option_or}
+use Rattle.dhcp_wire.specs.Field.{Read}
 use Rattle.dhcp_inspect.specs.declared.header.ByteOrder.{ByteOrder}
 use Rattle.dhcp_inspect.specs.declared.header.ByteOrder.TheVariants.{BigEndian, LittleEndian}
 use Rattle.dhcp_inspect.specs.declared.header.TimeUnit.{TimeUnit}
@@ -30,26 +32,31 @@ ethernet = 1
 abbrev pub header_length : ℕ
 header_length = 24
 
--- every header
-abbrev pub all_headers : List Header
-all_headers =
-    record { order = BigEndian; unit = Microseconds }
-    ∷ record { order = LittleEndian; unit = Microseconds }
-    ∷ record { order = BigEndian; unit = Nanoseconds }
-    ∷ record { order = LittleEndian; unit = Nanoseconds }
-    ∷ []
+-- the unit that a magic number says, if it is one
+abbrev pub unit_of : ℕ → Option TimeUnit
+unit_of magic =
+    if magic == magic_number Microseconds then Some Microseconds
+    else if magic == magic_number Nanoseconds then Some Nanoseconds
+    else None
 
--- The file begins with this header, by its magic number and its link type. The version and the
--- three numbers are not tested.
-abbrev pub begins_with : List ℕ → Header → Bool
-begins_with file header =
-    u32_in header.order file == magic_number header.unit
-    && u32_in header.order (drop 20 file) == ethernet
+-- the header whose numbers are in this order: its magic number says the unit, and its link type is
+-- Ethernet's. The version and the three numbers are not tested.
+unfoldable pub header_in : ByteOrder → List ℕ → Option Header
+header_in order file =
+    if u32_in order (drop 20 file) == ethernet
+    then option_map (λ unit. record { order = order; unit = unit }) (unit_of (u32_in order file))
+    else None
 
--- the header of a file
-unfoldable pub read_header : List ℕ → Option Header
+-- the header whose numbers are in one order or the other
+abbrev pub header_in_either : List ℕ → Option Header
+header_in_either file = option_or (header_in BigEndian file) (header_in LittleEndian file)
+
+-- the header of a file, and the bytes after it
+unfoldable pub read_header : List ℕ → Read Header
 read_header file =
-    if nat_le header_length (length file) then find (begins_with file) all_headers else None
+    if nat_le header_length (length file)
+    then option_map (λ header. (header, drop header_length file)) (header_in_either file)
+    else None
 
 -- The file begins with a whole header of this order and unit, and its link type is Ethernet's.
 pub record HasHeader (file : List ℕ) (header : Header) : Type 0 where

@@ -1,5 +1,6 @@
 pub mod Capture
 pub mod Header
+pub mod Laws
 pub mod Message
 pub mod Record
 pub mod Report

@@ -1,8 +1,8 @@
 //! The header of a capture file in the classic pcap format.
 
-ghost use Rattle.std.specs.Prelude.{◌≡◌, ◌≤◌, length};
-ghost use Rattle.dhcp_inspect.specs.Header as headers;
-ghost use Rattle.dhcp_inspect.specs.Header.{begins_with, header_length, read_header, u32_in, u32_of};
+ghost use Rattle.std.specs.Prelude.{◌≡◌, ◌≤◌, IfSome, length};
+ghost use Rattle.dhcp_wire.specs.Outcome.{Finds};
+ghost use Rattle.dhcp_inspect.specs.Header.{header_in, header_in_either, header_length, read_header, u32_in, u32_of, unit_of};
 
 /// The order of the bytes of a file's numbers.
 #[derive(Clone, Copy, Debug, PartialEq, Eq)]
@@ -31,34 +31,14 @@ pub struct Header {
     pub unit: TimeUnit,
 }
 
-/// How many bytes a header has.
-pub const HEADER_LENGTH: usize = 24;
+// How many bytes a header has.
+const HEADER_LENGTH: usize = 24;
 
 // The position of the link type.
 const LINK_TYPE: usize = 20;
 
 // The link type of Ethernet.
 const ETHERNET: u32 = 1;
-
-// Every header.
-const HEADERS: [Header; 4] = [
-    Header {
-        order: ByteOrder::BigEndian,
-        unit: TimeUnit::Microseconds,
-    },
-    Header {
-        order: ByteOrder::LittleEndian,
-        unit: TimeUnit::Microseconds,
-    },
-    Header {
-        order: ByteOrder::BigEndian,
-        unit: TimeUnit::Nanoseconds,
-    },
-    Header {
-        order: ByteOrder::LittleEndian,
-        unit: TimeUnit::Nanoseconds,
-    },
-];
 
 impl ByteOrder {
     // The number of the first four bytes.
@@ -83,35 +63,52 @@ impl ByteOrder {
 }
 
 impl TimeUnit {
-    // The magic number of a file with this unit.
-    fn magic_number(self) -> u32
-        ensures { result ≡ headers.magic_number self }
+    // The unit that a magic number says, if it is one.
+    fn of_magic(magic: u32) -> Option<TimeUnit>
+        ensures { result ≡ unit_of magic }
     {
-        match self {
-            TimeUnit::Microseconds => 0xa1b2c3d4,
-            TimeUnit::Nanoseconds => 0xa1b23c4d,
+        match magic {
+            0xa1b2c3d4 => Some(TimeUnit::Microseconds),
+            0xa1b23c4d => Some(TimeUnit::Nanoseconds),
+            _ => None,
         }
     }
 }
 
 impl Header {
-    // The header of a file, and the bytes after it.
+    /// The header of a file, and the bytes after it: none if and only if the file has fewer than 24
+    /// bytes, or in either order another magic number or link type.
     #[tactic(auto, unfolding(crate::specs::Header::read_header))]
-    pub fn read(file: &[u8]) -> Option<Header>
-        ensures { result ≡ read_header file.now }
+    pub fn read(file: &[u8]) -> Option<(Header, &[u8])>
+        ensures found { Finds (λ read. (read.0, read.1.now)) result (read_header file.now) }
+        ensures shorter { IfSome result (λ read. length read.1.now ≤ length file.now) }
     {
         if file.len() < HEADER_LENGTH {
             return None;
         }
-        HEADERS.into_iter().find(|header| header.begins(file))
+        let header = Header::in_either(file)?;
+        Some((header, &file[HEADER_LENGTH..]))
     }
 
-    // Whether a file begins with it.
-    fn begins(self, file: &[u8]) -> bool
+    // The header of a file whose numbers are in one order or the other.
+    fn in_either(file: &[u8]) -> Option<Header>
         requires { header_length ≤ length file.now }
-        ensures { result ≡ begins_with file.now self }
+        ensures { result ≡ header_in_either file.now }
     {
-        self.order.u32_in(file) == self.unit.magic_number()
-            && self.order.u32_in(&file[LINK_TYPE..]) == ETHERNET
+        let big = Header::in_order(ByteOrder::BigEndian, file);
+        big.or(Header::in_order(ByteOrder::LittleEndian, file))
+    }
+
+    // The header of a file whose numbers are in this order.
+    #[tactic(auto, unfolding(crate::specs::Header::header_in))]
+    fn in_order(order: ByteOrder, file: &[u8]) -> Option<Header>
+        requires { header_length ≤ length file.now }
+        ensures { result ≡ header_in order file.now }
+    {
+        if order.u32_in(&file[LINK_TYPE..]) != ETHERNET {
+            return None;
+        }
+        let unit = TimeUnit::of_magic(order.u32_in(file))?;
+        Some(Header { order, unit })
     }
 }

@@ -4,6 +4,7 @@
 
 mod capture;
 mod header;
+pub mod laws;
 mod message;
 mod record;
 mod report;

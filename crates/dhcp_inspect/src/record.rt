@@ -81,7 +81,7 @@ impl ByteOrder {
     }
 
     // The number at the front, and the bytes after it.
-    #[tactic(auto, unfolding(crate::specs::Record::u32_at))]
+    #[tactic(auto, unfolding(crate::specs::Record::u32_at, dhcp_wire::specs::Field::bytes_at))]
     fn u32_at(self, bytes: &[u8]) -> Option<(u32, &[u8])>
         ensures { Finds (λ found. (found.0, found.1.now)) result (records.u32_at self bytes.now) }
     {

@@ -46,7 +46,7 @@ pub fn inspect(alloc: Global, file: &[u8]) -> Result<Option<Bytes>, DhcpError>
 #[tactic(auto, unfolding(crate::specs::Report::capture_text))]
 fn print_capture(alloc: Global, mut capture: Capture) -> Result<Bytes, DhcpError>
     requires { length capture.records < 2 ^ 64 }
-    ensures { Makes (λ text. text) result (capture_text capture) }
+    ensures { Makes (λ text. text) result (capture_text capture.entry) }
 {
     let mut text = String::new(alloc);
     push_records(&mut text, &mut capture)?;

@@ -91,7 +91,6 @@ impl ToolRequest for Inspection {
         true
     }
 
-    #[tactic(auto, using(crate::proofs::HeaderLemmas::header))]
     fn answer(&self, alloc: Global, bytes: &[u8]) -> Result<Bytes, Status> {
         match inspect(alloc, bytes) {
             Ok(Some(text)) => Ok(text),
