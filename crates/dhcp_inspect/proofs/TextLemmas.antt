@@ -1,9 +1,11 @@
 -- What is printed: numbers filled with zeros, digits in hex, and the lines of records.
-use Rattle.std.proofs.Common.{◌≡◌, ℕ, ◌+◌, ◌^◌, ◌-◌, ◌*◌, ◌<◌, false, List, [], ◌∷◌, ◌++◌, length, refl, arith}
-use Rattle.core.proofs.fmt.Padding.{padded_integral_zeros}
+use Rattle.std.proofs.Common.{◌≡◌, ℕ, ◌+◌, ◌^◌, ◌-◌, ◌*◌, Bool, true, false, ltb, ◌&&◌, List, [], ◌∷◌, ◌++◌, length, append-nil, append_assoc, Result, Ok, Err, refl, arith}
+use borrow.Author.Tests.{ltb-true}
+use Rattle.std.proofs.lemmas.Bool.{and_parts}
 use Rattle.std.proofs.lemmas.Str.{IsUtf8-from_ascii}
 use Rattle.std.proofs.lemmas.Str.Ascii.{IsAscii-cons, IsAscii-nil}
-use Rattle.std.specs.Fmt.{decimal, format_spec, padded_integral}
+use Rattle.std.specs.Fmt.{char_count, decimal, format_spec, padded_integral}
+use Rattle.std.specs.Result.{IsOk, MatchResult}
 use Rattle.std.specs.Str.{IsAscii, IsUtf8}
 use Rattle.hex.specs.Hex.{encode_lower, lower_digits}
 use Rattle.hex.proofs.HexLemmas.{IsAscii-encode_with}
@@ -13,18 +15,33 @@ use Rattle.dhcp_inspect.specs.declared.header.TimeUnit.{TimeUnit}
 
 -- what std writes for a number that is filled with zeros
 pub padded-zero_filled : (width number : ℕ) → padded_integral (format_spec 32 0 4 width (2 ^ 64 - 1)) false [] (decimal number) ≡ zero_filled width number
-padded-zero_filled width number = padded_integral_zeros (format_spec 32 0 4 width (2 ^ 64 - 1)) (decimal number) refl refl
+unfolding padded_integral char_count
+padded-zero_filled width number =
+    let short : width - length (decimal number) - 0 - 0 ≡ width - length (decimal number) = omega arith in
+    rw (short, append-nil (decimal number)) refl
 
 pub ruleset filled = (padded-zero_filled)
 
-IsAscii-lower_digits : IsAscii lower_digits
-IsAscii-lower_digits = search (IsAscii-cons, IsAscii-nil, arith)
+-- the test of bytes for ASCII, which computes
+abbrev are_ascii : List ℕ → Bool
+are_ascii [] = true
+are_ascii (byte ∷ bytes) = ltb byte 128 && are_ascii bytes
+
+IsAscii-are_ascii : (bytes : List ℕ) → are_ascii bytes ≡ true → IsAscii bytes
+IsAscii-are_ascii [] is = IsAscii-nil
+IsAscii-are_ascii (byte ∷ bytes) is =
+    let both = and_parts (ltb byte 128) (are_ascii bytes) is in
+    IsAscii-cons byte bytes (ltb-true byte 128 both.0) (IsAscii-are_ascii bytes both.1)
 
 -- digits in hex are a text
 pub IsUtf8-encode_lower : (octets : List ℕ) → IsUtf8 (encode_lower octets)
-IsUtf8-encode_lower octets = IsUtf8-from_ascii (encode_lower octets) (IsAscii-encode_with lower_digits octets IsAscii-lower_digits)
+IsUtf8-encode_lower octets = IsUtf8-from_ascii (encode_lower octets) (IsAscii-encode_with lower_digits octets (IsAscii-are_ascii lower_digits refl))
 
-pub ruleset digits = (IsUtf8-encode_lower)
+-- a read of bytes as a text that fails only where they are none
+pub IsOk-utf8 : {A E : Type 0} (Text : A → Type 0) (Fault : E → Type 0) (read : Result A E) (bytes : List ℕ) →
+    MatchResult read Text (λ e. (IsUtf8 bytes → ⊥) × Fault e) → IsUtf8 bytes → IsOk read
+IsOk-utf8 Text Fault (Ok text) bytes reads utf8 = refl
+IsOk-utf8 Text Fault (Err e) bytes reads utf8 = absurd (reads.0 utf8)
 
 -- the lines of a record and of others after it
 pub records_text-cons : (unit : TimeUnit) (number : ℕ) (packet : RecordParts) (packets : List RecordParts) →
@@ -37,4 +54,4 @@ pub records_text-nil : (unit : TimeUnit) (number : ℕ) → records_text unit nu
 unfolding records_text
 records_text-nil unit number = refl
 
-pub ruleset lines = (records_text-cons, records_text-nil)
+pub ruleset lines = (records_text-cons, records_text-nil, append-nil, append_assoc)

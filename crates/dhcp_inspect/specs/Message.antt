@@ -4,7 +4,7 @@ use Rattle.dhcp_wire.specs.Field.{◌>>=◌}
 use Rattle.dhcp_frame.specs.View.{read_frame}
 use Rattle.dhcp_frame.specs.View6.{read_frame6}
 use Rattle.dhcp4_msg.specs.Message as v4
-use Rattle.dhcp4_msg.specs.Options as v4
+use Rattle.dhcp4_msg.specs.Options as options4
 use Rattle.dhcp6_msg.specs.Message as v6
 use Rattle.dhcp_inspect.specs.Record.{RecordParts}
 use Rattle.dhcp_inspect.specs.declared.message.Message.{Message}
@@ -30,7 +30,7 @@ message4_in bytes = do
   Some (record {
     source = frame.src_ip;
     destination = frame.dst_ip;
-    message_type = v4.message_type message.options;
+    message_type = options4.message_type message.options;
     xid = message.xid;
     yiaddr = message.yiaddr;
   })

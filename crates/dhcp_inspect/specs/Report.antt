@@ -1,6 +1,6 @@
 -- The report on a capture file: a line for each record that carries a DHCP message, in their order,
 -- and a last line.
-use Rattle.std.specs.Prelude.{ℕ, ◌+◌, ◌-◌, ◌==◌, List, [], ◌∷◌, ◌++◌, length, replicate, codes, Option, Some, None, option_map, if◌then◌else◌}
+use Rattle.std.specs.Prelude.{ℕ, ◌+◌, ◌-◌, ◌==◌, Bool, ◌||◌, List, [], ◌∷◌, ◌++◌, length, replicate, codes, Option, Some, None, option_map, if◌then◌else◌}
 use Rattle.std.specs.Fmt.{decimal}
 use Rattle.std.specs.Int.{w32, to_be_bytes}
 use Rattle.std.specs.List.{join_with_byte}
@@ -12,8 +12,6 @@ use Rattle.dhcp4_msg.specs.MessageType as v4
 use Rattle.dhcp4_msg.specs.declared.message_type.DhcpV4MessageType.{DhcpV4MessageType}
 use Rattle.dhcp6_msg.specs.Message.{id_bytes}
 use Rattle.dhcp6_msg.specs.MessageType as v6
-use Rattle.dhcp6_msg.specs.declared.message_type.DhcpV6MessageType.{DhcpV6MessageType}
-use Rattle.dhcp6_msg.specs.declared.message_type.DhcpV6MessageType.TheVariants.{Solicit, Advertise, Request, Confirm, Renew, Rebind, Reply, Release, Decline, Reconfigure, InformationRequest, RelayForward, RelayReply}
 use Rattle.dhcp_inspect.specs.Capture.{CaptureParts, read_capture}
 use Rattle.dhcp_inspect.specs.Message.{message_of}
 use Rattle.dhcp_inspect.specs.Record.{RecordParts}
@@ -47,21 +45,22 @@ abbrev pub type4_text : Option DhcpV4MessageType → List ℕ
 type4_text None = codes "-"
 type4_text (Some kind) = v4.type_name kind
 
--- the transaction id of a DHCPv6 message in hex; `-` for a relay's message, which has none
-abbrev pub id6_text : DhcpV6MessageType → ℕ → List ℕ
-id6_text Solicit id = encode_lower (id_bytes id)
-id6_text Advertise id = encode_lower (id_bytes id)
-id6_text Request id = encode_lower (id_bytes id)
-id6_text Confirm id = encode_lower (id_bytes id)
-id6_text Renew id = encode_lower (id_bytes id)
-id6_text Rebind id = encode_lower (id_bytes id)
-id6_text Reply id = encode_lower (id_bytes id)
-id6_text Release id = encode_lower (id_bytes id)
-id6_text Decline id = encode_lower (id_bytes id)
-id6_text Reconfigure id = encode_lower (id_bytes id)
-id6_text InformationRequest id = encode_lower (id_bytes id)
-id6_text RelayForward id = codes "-"
-id6_text RelayReply id = codes "-"
+-- the number is that of a type of relays' messages: Relay-forward or Relay-reply
+abbrev pub is_of_relay : ℕ → Bool
+is_of_relay number = number == 12 || number == 13
+
+-- the transaction id of a DHCPv6 message whose type has this number, in hex; `-` for a message of a
+-- relay, which has none
+abbrev pub id6_text : ℕ → ℕ → List ℕ
+id6_text number id = if is_of_relay number then codes "-" else encode_lower (id_bytes id)
+
+-- the type of a DHCPv4 message, its transaction id, and the address that the server gives
+abbrev pub content4_text : Message4 → List ℕ
+content4_text message = spaced (
+    type4_text message.message_type
+    ∷ encode_lower (to_be_bytes w32 message.xid)
+    ∷ address_text message.yiaddr
+    ∷ [])
 
 -- what a line says of a DHCPv4 message
 abbrev pub message4_text : Message4 → List ℕ
@@ -69,9 +68,7 @@ message4_text message = spaced (
     codes "v4"
     ∷ address_text message.source
     ∷ address_text message.destination
-    ∷ type4_text message.message_type
-    ∷ encode_lower (to_be_bytes w32 message.xid)
-    ∷ address_text message.yiaddr
+    ∷ content4_text message
     ∷ [])
 
 -- what a line says of a DHCPv6 message
@@ -81,7 +78,7 @@ message6_text message = spaced (
     ∷ address6_text message.source
     ∷ address6_text message.destination
     ∷ decimal (v6.type_number message.message_type)
-    ∷ id6_text message.message_type message.xid
+    ∷ id6_text (v6.type_number message.message_type) message.xid
     ∷ [])
 
 -- what a line says of a message

@@ -6,6 +6,7 @@ ghost use Rattle.dhcp_wire.specs.Outcome.{Makes};
 ghost use Rattle.dhcp_inspect.specs.Header.{IsCapture};
 ghost use Rattle.dhcp_inspect.specs.Report.{
   capture_text,
+  content4_text,
   id6_text,
   last_line,
   line_of,
@@ -25,8 +26,12 @@ use crate::message::{Message, Message4, Message6};
 use crate::record::Record;
 use dhcp_wire::{Bytes, DhcpError};
 use dhcp4_msg::DhcpV4MessageType;
-use dhcp6_msg::DhcpV6MessageType;
 use std::alloc::{AllocError, Global};
+
+// The numbers of the types of relays' messages, RFC 8415 section 7.3.
+const RELAY_FORWARD: u8 = 12;
+
+const RELAY_REPLY: u8 = 13;
 
 /// The report on a capture file: a line for each record that carries a DHCP message, in their
 /// order, each once, and a last line, `ok` or `cut` and the number of bytes that remain after the
@@ -139,8 +144,17 @@ fn push_message4(text: &mut String, message: &Message4) -> Result<(), AllocError
 {
     let source = message.source;
     let destination = message.destination;
-    let yiaddr = message.yiaddr;
     write!(text, "v4 {source} {destination} ")?;
+    push_content4(text, message)
+}
+
+// Puts the type of a DHCPv4 message, its transaction id and the address that the server gives at
+// the end of a text.
+fn push_content4(text: &mut String, message: &Message4) -> Result<(), AllocError>
+    ensures { OnOk result (string_bytes text.new
+        ≡ string_bytes text.old ++ content4_text message.now) }
+{
+    let yiaddr = message.yiaddr;
     push_type4(text, message.message_type)?;
     text.push(' ')?;
     push_octets(text, &message.xid.to_be_bytes())?;
@@ -168,21 +182,23 @@ fn push_message6(text: &mut String, message: &Message6) -> Result<(), AllocError
     text.push(' ')?;
     push_octets(text, &message.destination.octets())?;
     write!(text, " {number} ")?;
-    push_id6(text, message.message_type, message.xid)
+    push_id6(text, number, message.xid)
 }
 
-// Puts the transaction id of a DHCPv6 message at the end of a text, or `-` for a relay's message.
-fn push_id6(text: &mut String, kind: DhcpV6MessageType, xid: u32) -> Result<(), AllocError>
-    ensures { OnOk result (string_bytes text.new ≡ string_bytes text.old ++ id6_text kind xid) }
+// Puts the transaction id of a DHCPv6 message whose type has this number at the end of a text, or
+// `-` for a message of a relay.
+#[tactic(auto, unfolding(dhcp6_msg::specs::Message::id_bytes))]
+fn push_id6(text: &mut String, number: u8, xid: u32) -> Result<(), AllocError>
+    ensures { OnOk result (string_bytes text.new
+        ≡ string_bytes text.old ++ id6_text number xid) }
 {
-    match kind {
-        DhcpV6MessageType::RelayForward | DhcpV6MessageType::RelayReply => text.push('-'),
+    match number {
+        RELAY_FORWARD | RELAY_REPLY => text.push('-'),
         _ => push_octets(text, &xid.to_be_bytes()[1..]),
     }
 }
 
 // Puts the hex digits of at most sixteen octets at the end of a text.
-#[tactic(auto, using(crate::proofs::TextLemmas::digits))]
 fn push_octets(text: &mut String, octets: &[u8]) -> Result<(), AllocError>
     requires { length octets.now ≤ 16 }
     ensures { OnOk result (string_bytes text.new

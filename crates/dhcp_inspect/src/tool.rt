@@ -69,7 +69,7 @@ pub fn inspect_tool<S: Source, K: Sink>(
 pub struct Inspection;
 
 impl ToolRequest for Inspection {
-    ghost use Rattle.std.specs.Prelude.{ℕ, List};
+    ghost use Rattle.std.specs.Prelude.{ℕ, List, refl};
     ghost use Rattle.dhcp_tool.specs.Job.{Reads};
     ghost use Rattle.dhcp_inspect.specs.Tool.{AsksForReport, captures};
 
