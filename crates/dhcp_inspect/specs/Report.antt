@@ -55,7 +55,7 @@ abbrev pub id6_text : ℕ → ℕ → List ℕ
 id6_text number id = if is_of_relay number then codes "-" else encode_lower (id_bytes id)
 
 -- the type of a DHCPv4 message, its transaction id, and the address that the server gives
-abbrev pub content4_text : Message4 → List ℕ
+unfoldable pub content4_text : Message4 → List ℕ
 content4_text message = spaced (
     type4_text message.message_type
     ∷ encode_lower (to_be_bytes w32 message.xid)

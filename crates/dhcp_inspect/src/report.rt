@@ -150,6 +150,7 @@ fn push_message4(text: &mut String, message: &Message4) -> Result<(), AllocError
 
 // Puts the type of a DHCPv4 message, its transaction id and the address that the server gives at
 // the end of a text.
+#[tactic(auto, unfolding(crate::specs::Report::content4_text))]
 fn push_content4(text: &mut String, message: &Message4) -> Result<(), AllocError>
     ensures { OnOk result (string_bytes text.new
         ≡ string_bytes text.old ++ content4_text message.now) }
