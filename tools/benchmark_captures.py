@@ -74,7 +74,7 @@ def main(words):
         ("a Discover", discover()),
         ("a Solicit", SOLICIT),
     ]
-    print("| records | MB | records | seconds | records a second | MB a second | MB printed |")
+    print("| each record has | MB | records | seconds | records a second | MB a second | MB printed |")
     print("|---|---|---|---|---|---|---|")
     for name, packet in kinds:
         for size in sizes:

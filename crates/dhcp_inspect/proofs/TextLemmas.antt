@@ -1,11 +1,11 @@
 -- What is printed: numbers filled with zeros, digits in hex, and the lines of records.
-use Rattle.std.proofs.Common.{◌≡◌, ℕ, ◌+◌, ◌^◌, ◌-◌, ◌*◌, Bool, true, false, ltb, ◌&&◌, List, [], ◌∷◌, ◌++◌, length, append-nil, append_assoc, Result, Ok, Err, refl, arith}
+use Rattle.std.proofs.Common.{◌≡◌, ℕ, ◌+◌, ◌^◌, ◌-◌, ◌*◌, Bool, true, false, ltb, ◌&&◌, List, [], ◌∷◌, ◌++◌, length, append-nil, append_assoc, Result, Ok, Err, refl, ap, ◌∙◌, arith}
 use borrow.Author.Tests.{ltb-true}
 use Rattle.std.proofs.lemmas.Bool.{and_parts}
 use Rattle.std.proofs.lemmas.Str.{IsUtf8-from_ascii}
 use Rattle.std.proofs.lemmas.Str.Ascii.{IsAscii-cons, IsAscii-nil}
 use Rattle.std.specs.Fmt.{char_count, decimal, format_spec, padded_integral}
-use Rattle.std.specs.Result.{IsOk, MatchResult}
+use Rattle.std.specs.Result.{IsOk, MatchResult, OnOk}
 use Rattle.std.specs.Str.{IsAscii, IsUtf8}
 use Rattle.hex.specs.Hex.{encode_lower, lower_digits}
 use Rattle.hex.proofs.HexLemmas.{IsAscii-encode_with}
@@ -55,3 +55,13 @@ unfolding records_text
 records_text-nil unit number = refl
 
 pub ruleset lines = (records_text-cons, records_text-nil, append-nil, append_assoc)
+
+-- what is pushed after some bytes
+pub pushed_after : {T E : Type 0} (result : Result T E) (old middle new front rest : List ℕ) → middle ≡ old ++ front → OnOk result (new ≡ middle ++ rest) → OnOk result (new ≡ old ++ (front ++ rest))
+pushed_after (Ok done) old middle new front rest first second =
+    second ∙ ap (λ (bytes : List ℕ). bytes ++ rest) first ∙ append_assoc old front rest
+pushed_after (Err e) old middle new front rest first second = tt
+
+-- two fields after the word `v4`, and what follows them
+pub two_fields : (one other rest : List ℕ) → (118 ∷ 52 ∷ 32 ∷ (one ++ 32 ∷ (other ++ 32 ∷ []))) ++ rest ≡ 118 ∷ 52 ∷ 32 ∷ (one ++ 32 ∷ (other ++ 32 ∷ rest))
+two_fields one other rest = simp append_assoc
