@@ -1,6 +1,7 @@
 //! Short callers of the library, proved from the contracts alone: the examples of the documents.
 #![tactic(auto)]
 
+mod captures;
 mod lease;
 mod link;
 mod manager;
@@ -13,6 +14,7 @@ mod rules;
 mod upkeep;
 mod upkeep6;
 
+pub use captures::ack_count;
 pub use lease::{Counter, address_of_lease, lease_of_ack};
 pub use link::{QueueLink, SystemWords};
 pub use manager::{Follow, Interface, ManagedClient, new_client, new_client6, turn};

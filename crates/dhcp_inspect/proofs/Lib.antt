@@ -1,0 +1,4 @@
+pub mod HeaderLemmas
+pub mod RecordLaws
+pub mod RecordLemmas
+pub mod TextLemmas
