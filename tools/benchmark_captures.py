@@ -4,15 +4,15 @@
 usage, at the top of the repository, after: cd crates/inspect_main && rt run < stdin
   tools/benchmark_captures.py [MEGABYTES..]        1 and 16 where none is given
 
-Three kinds of files: packets of another protocol, of 1,500 and of 60 bytes; Discovers; Solicits.
-Each figure is the best of five runs, the start of the process taken off.
+Files of packets of another protocol, of 1,500 and of 60 bytes, of Discovers, and of Solicits. Each
+figure is the processor time of the best of five runs, that of the start of the process taken off.
 """
 
 import os
+import resource
 import struct
 import subprocess
 import sys
-import time
 
 TOP = os.path.dirname(os.path.dirname(os.path.abspath(__file__)))
 PROGRAM = f"{TOP}/crates/inspect_main/out/inspect_main"
@@ -50,14 +50,20 @@ def capture(packet, size):
     return header + b"".join(records), count
 
 
+def used():
+    """Returns the processor time of the processes that have ended so far."""
+    usage = resource.getrusage(resource.RUSAGE_CHILDREN)
+    return usage.ru_utime + usage.ru_stime
+
+
 def seconds_of(file, wanted=0):
-    """Returns the time of the fastest run over this file, which ends with the wanted status, and
-    how many bytes it printed."""
+    """Returns the processor time of the fastest run over this file, which ends with the wanted
+    status, and how many bytes it printed."""
     best, printed = None, b""
     for _ in range(ROUNDS):
-        begin = time.perf_counter()
+        before = used()
         done = subprocess.run([PROGRAM], input=file, capture_output=True)
-        took = time.perf_counter() - begin
+        took = used() - before
         best, printed = min(took, best or took), done.stdout
         if done.returncode != wanted:
             sys.exit(f"status {done.returncode}")
