@@ -1,5 +1,5 @@
 -- The records of a file: the one at the front, and those of what follows.
-use Rattle.std.proofs.Common.{◌≡◌, ℕ, zero, suc, ◌+◌, ◌<◌, ◌≤◌, List, [], ◌∷◌, length, Option, Some, None, refl, sym, ap, subst, ◌∙◌, arith, min}
+use Rattle.std.proofs.Common.{◌≡◌, ℕ, zero, suc, ◌+◌, ◌<◌, ◌≤◌, List, [], ◌∷◌, length, Some, None, refl, sym, ap, subst, ◌∙◌, arith, min}
 use Rattle.std.proofs.lemmas.Option.{none-some}
 use Rattle.dhcp_wire.specs.Field.{Read, bytes_at}
 use Rattle.dhcp_wire.proofs.FieldLemmas.{Within, Within-then, Within-map, Within-bytes_at}

@@ -28,7 +28,7 @@ impl<'a> Model for Capture<'a> {
 impl<'a> Capture<'a> {
     /// The capture that a file is: none if and only if it has fewer than 24 bytes, another magic
     /// number or another link type than Ethernet's. Does not allocate.
-    #[tactic(auto, using(crate::proofs::RecordLemmas::next_record), unfolding(crate::specs::Capture::read_capture))]
+    #[tactic(auto, unfolding(crate::specs::Capture::read_capture))]
     pub fn new(file: &'a [u8]) -> Option<Self>
         ensures value { result ≡ read_capture file.now }
         ensures capture { IsSome result ↔ IsCapture file.now }

@@ -2,7 +2,15 @@
 
 ghost use Rattle.std.specs.Prelude.{◌≡◌, ◌≤◌, IfSome, length};
 ghost use Rattle.dhcp_wire.specs.Outcome.{Finds};
-ghost use Rattle.dhcp_inspect.specs.Header.{header_in, header_in_either, header_length, read_header, u32_in, u32_of, unit_of};
+ghost use Rattle.dhcp_inspect.specs.Header.{
+  header_in,
+  header_in_either,
+  header_length,
+  read_header,
+  u32_in,
+  u32_of,
+  unit_of,
+};
 
 /// The order of the bytes of a file's numbers.
 #[derive(Clone, Copy, Debug, PartialEq, Eq)]
@@ -41,7 +49,7 @@ const LINK_TYPE: usize = 20;
 const ETHERNET: u32 = 1;
 
 impl ByteOrder {
-    // The number of the first four bytes.
+    /// The number of the first four bytes.
     pub fn u32_in(self, bytes: &[u8]) -> u32
         requires { 4 ≤ length bytes.now }
         ensures { result ≡ u32_in self bytes.now }

@@ -60,7 +60,7 @@ impl<'a> Record<'a> {
 }
 
 impl ByteOrder {
-    // The record at the front, if it is whole, and the bytes after it.
+    /// The record at the front, if it is whole, and the bytes after it.
     #[tactic(auto, unfolding(crate::specs::Record::record_at, dhcp_wire::specs::Field::bytes_at))]
     pub fn record_at(self, bytes: &[u8]) -> Option<(Record<'_>, &[u8])>
         ensures { Finds (λ found. (found.0, found.1.now)) result

@@ -64,7 +64,7 @@ pub fn inspect_tool<S: Source, K: Sink>(
     run_tool::<Inspection, S, K>(alloc, words, source, sink)
 }
 
-// The one request of the program: a report on the file that the source holds.
+/// The one request of the program: a report on the file that the source holds.
 #[derive(Debug, Drop)]
 pub struct Inspection;
 

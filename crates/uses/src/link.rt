@@ -1,7 +1,7 @@
 //! A link of one's own, and words of one's own: what the sockets of a client received waits in the
 //! link, and what it sends waits for them. Neither says anything of the outside.
 
-ghost use Rattle.std.specs.Prelude.{◌≡◌, None};
+ghost use Rattle.std.specs.Prelude.{◌≡◌, None, []};
 ghost use Rattle.dhcp_wire.specs.Fault.{HasCause};
 
 use dhcp_clock::{DhcpLink, Handed, Packet, Sent, Words};
@@ -21,7 +21,10 @@ pub struct QueueLink {
 
 impl QueueLink {
     /// A link on which nothing waits.
-    pub fn new(alloc: Global) -> Self {
+    pub fn new(alloc: Global) -> Self
+        ensures waits { result.received ≡ None }
+        ensures sends { result.to_send.items ≡ [] }
+    {
         QueueLink {
             received: None,
             to_send: Vec::new(alloc),
