@@ -23,7 +23,7 @@ one_more : (end due a power : ℕ) → due ≤ a → power < end - (a + half_wai
 one_more end due a power h h' = omega arith
 
 module _ {Message : Type 0} where
-  attempts-append : (xs ys : List (Act Message)) → attempts_of (xs ++ ys) ≡ attempts_of xs ++ attempts_of ys
+  pub attempts-append : (xs ys : List (Act Message)) → attempts_of (xs ++ ys) ≡ attempts_of xs ++ attempts_of ys
   attempts-append [] ys = refl
   attempts-append (Attempted attempt ∷ xs) ys = ap (λ (more : List (Attempt Message)). attempt ∷ more) (attempts-append xs ys)
   attempts-append (ReleaseRefused event message ∷ xs) ys = attempts-append xs ys
@@ -79,7 +79,7 @@ module _ {Packet : Type 0} where
 
 module _ {PublicState Packet Message State Exchange Answer Lease : Type 0} (p : Protocol PublicState Packet Message State Exchange Answer Lease) where
   -- no attempt is among what is refused, what is heard, and what is overdue
-  none_denied : (setting : Setting State) (exchange : Exchange) (v : Event Packet) → attempts_of (refused_release p setting exchange v) ≡ []
+  pub none_denied : (setting : Setting State) (exchange : Exchange) (v : Event Packet) → attempts_of (refused_release p setting exchange v) ≡ []
   none_denied setting exchange v = go (p.held_lease setting.state)
     where
       go : (held : Option Lease) → attempts_of (refused_release_of p held exchange v) ≡ []
@@ -90,7 +90,7 @@ module _ {PublicState Packet Message State Exchange Answer Lease : Type 0} (p : 
           by_test true e = rw e
           by_test false e = rw e
 
-  none_heard : (setting : Setting State) (exchange : Exchange) (listens : Bool) (words : List ℕ) (events : List (Event Packet)) → attempts_of (hear p setting exchange listens words events).acts ≡ []
+  pub none_heard : (setting : Setting State) (exchange : Exchange) (listens : Bool) (words : List ℕ) (events : List (Event Packet)) → attempts_of (hear p setting exchange listens words events).acts ≡ []
   none_heard setting exchange listens words [] = refl
   none_heard setting exchange listens words (v ∷ vs) =
       go (reading_if p listens setting exchange words v.input).value (none_heard setting exchange listens (reading_if p listens setting exchange words v.input).left vs)
@@ -109,7 +109,7 @@ module _ {PublicState Packet Message State Exchange Answer Lease : Type 0} (p : 
       rw (attempts-append (limit_acts p setting exchange v) (flat_map (limit_acts p setting exchange) vs), attempts-append (refused_release p setting exchange v) (LimitOver v.number ∷ []), none_denied setting exchange v)
       (none_overdue setting exchange vs)
 
-  none_turned : (setting : Setting State) (finish : Finish Packet Exchange Answer) (late : List (Event Packet)) → attempts_of (transition p setting finish late).acts ≡ []
+  pub none_turned : (setting : Setting State) (finish : Finish Packet Exchange Answer) (late : List (Event Packet)) → attempts_of (transition p setting finish late).acts ≡ []
   none_turned setting finish late = go finish.outcome late
     where
       by_end : (events : List (Event Packet)) → attempts_of (end_at p setting finish events).acts ≡ []
@@ -139,7 +139,7 @@ module _ {PublicState Packet Message State Exchange Answer Lease : Type 0} (p : 
       Fits (progress_after p setting (record progress { words = words }) v) (after_call v ∷ vs))
       (by_one : (progress : Progress Exchange) (events : List (Event Packet)) (v : Event Packet) (vs : List (Event Packet)) (attempts : List (Attempt Message)) → Fits progress events → from (is_at_or_past progress.due) events ≡ v ∷ vs → runs_out p setting progress ≡ false →
       (words : List ℕ) → Holds (progress_after p setting (record progress { words = words }) v) attempts → Holds (record progress { words = words }) (attempt_at p setting (record progress { words = words }) v ∷ attempts)) where
-    course_holds : (fuel : ℕ) (progress : Progress Exchange) (events : List (Event Packet)) → Fits progress events → Holds progress (attempts_of (course p fuel setting progress events).acts)
+    pub course_holds : (fuel : ℕ) (progress : Progress Exchange) (events : List (Event Packet)) → Fits progress events → Holds progress (attempts_of (course p fuel setting progress events).acts)
     course_holds zero progress events fits = by_none progress
     course_holds (suc fuel) progress events fits = go last.answer (from (is_at_or_past progress.due) events) refl (λ next vs h. course_holds fuel next vs h)
       where

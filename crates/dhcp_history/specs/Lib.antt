@@ -19,6 +19,7 @@ pub mod Listening
 pub mod BoundLease
 pub mod Errors
 pub mod Calls
+pub mod Points
 pub mod Laws
 pub mod Traced
 pub mod Turns

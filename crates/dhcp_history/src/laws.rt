@@ -36,6 +36,7 @@ ghost use Rattle.dhcp_history.specs.Bounds.{
   Numbered,
   InOrder,
 };
+ghost use Rattle.dhcp_history.specs.Points.{HoldsByPoint, Rises};
 
 use crate::Rules;
 use dhcp_clock::{DhcpLink, Words};
@@ -149,6 +150,20 @@ pub fn polls_keep_laws<R: Rules>(rules: &R)
     seven_polls_an_event(rules);
     two_messages_an_event(rules);
     no_state_is_overdue(rules);
+}
+
+/// The history of a script whose events rise, point by point. A stay closes with an answer only at
+/// an event whose packet is read as one to the attempt that is open then: the last one, which the
+/// link took, before its wait, the time limit and the state are over. Where no stay is answered at
+/// an event, its packet is read as no answer wherever an attempt is open. Each message is the one
+/// that the protocol has for an attempt in its state, or for the release of the lease that is held.
+/// And each stay begins where the one before it leads to.
+pub fn history_by_point<R: Rules>(rules: &R)
+    ensures { Lawful (R.protocol rules.now) →
+        (script : Script Packet R.State R.Exchange) → Rises 0 0 script.events →
+        HoldsByPoint (R.protocol rules.now) script.events (history (R.protocol rules.now) script) }
+{
+    let _rules = rules;
 }
 
 /// The last stay of a history lasts, and all others close.
