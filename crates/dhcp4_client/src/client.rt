@@ -55,8 +55,10 @@ impl DhcpV4Client {
     ghost use Rattle.dhcp_history.specs.Turns.{PollsUnheard, RunsOut, TakesTurns};
     ghost use Rattle.dhcp_clock.specs.Words.{GivesNext};
     ghost use Rattle.dhcp4_client.specs.Client.{Begins, IsDone, can_begin};
+    ghost use Rattle.dhcp4_client.specs.Granted.{HeardLease};
     ghost use Rattle.dhcp4_client.specs.Held.{KeepsLease};
-    ghost use Rattle.dhcp4_lease.specs.Lease.{are_times_in_order};
+    ghost use Rattle.dhcp4_client.specs.declared.state.PlainState.TheVariants as plain;
+    ghost use Rattle.dhcp4_lease.specs.Lease.{Lease, are_times_in_order};
     ghost use Rattle.dhcp4_client.specs.Rules.{protocol, held_lease, lease_end, needs_memory};
 
     /// A client with this configuration, and with a lease that it held before, if there is one: it
@@ -116,8 +118,13 @@ impl DhcpV4Client {
             link.old link.new }
         ensures leases { KeepsLease now (run_answer plain_state result)
             self.old.client self.new.client }
+        // a lease that is reported was read from the packet that the link gave last
+        ensures heard { IfOk result (λ change. IfSome change (λ state. (lease : Lease) →
+            plain_state state ≡ plain.Done lease → HeardLease W.gives L.moves now lease self.old
+            words.old words.new link.old link.new)) }
     {
         crate::laws::table_is_lawful();
+        crate::laws::leases_are_granted(self);
         let reported = run(&self.rules, &mut self.client, now, words, link)?;
         Ok(reported.map(Reported::into_state))
     }

@@ -1,6 +1,5 @@
 mod Beginnings
 mod Granted
-mod HeardLeases
 mod Held
 mod Lawful
 mod Limits

@@ -5,7 +5,11 @@ ghost use Rattle.std.specs.Prelude.{◌≡◌, ◌⊎◌, ℕ, All, Bool, List, 
 ghost use Rattle.dhcp_clock.specs.Link.{Turn};
 ghost use Rattle.dhcp_clock.specs.declared.link.Packet.{Packet};
 ghost use Rattle.dhcp_history.specs.Bounds.{KeepsDistance};
+ghost use Rattle.dhcp_history.specs.declared.client.Client.{Client};
+ghost use Rattle.dhcp_history.specs.Client.{unpolled};
 ghost use Rattle.dhcp_history.specs.History.{history};
+ghost use Rattle.dhcp_history.specs.Points.{HoldsByPoint, Rises};
+ghost use Rattle.dhcp_history.specs.RealCalls.{AreScript, Call, CallsLead, Disciplined};
 ghost use Rattle.dhcp_history.specs.Laws.{KeepsLaws};
 ghost use Rattle.dhcp_history.specs.Protocol.{Lawful};
 ghost use Rattle.dhcp_history.specs.Machine.{View};
@@ -16,12 +20,13 @@ ghost use Rattle.dhcp6_msg.specs.Lease.{Lease};
 ghost use Rattle.dhcp6_client.specs.declared.client_state.ClientState.{ClientState};
 ghost use Rattle.dhcp6_client.specs.declared.client_state.Exchange.{Exchange};
 ghost use Rattle.dhcp6_client.specs.Bounds.{HasElevenRequests, distance};
-ghost use Rattle.dhcp6_client.specs.Granted.{IsGranted};
+ghost use Rattle.dhcp6_client.specs.Granted.{LeasesAreGranted};
 ghost use Rattle.dhcp6_client.specs.Rules.{held_lease, protocol, public_state};
 ghost use Rattle.dhcp6_client.specs.declared.state.PlainState.{PlainState};
 ghost use Rattle.dhcp6_client.specs.declared.state.PlainState.TheVariants as plain;
 
 use crate::DhcpV6Client;
+use dhcp_clock::{DhcpLink, Words};
 use dhcp_history::laws;
 
 /// The table of states is lawful, whatever the configuration: its waits are at least a millisecond
@@ -40,6 +45,36 @@ pub fn polls_keep_laws(client: &DhcpV6Client)
 {
     table_is_lawful();
     laws::polls_keep_laws(&client.rules);
+}
+
+/// The history of a script whose events rise, point by point. A stay closes with an answer only at
+/// an event whose packet is read as one to the attempt that is open then: the last one, which the
+/// link took, before its wait, the time limit and the state are over. Where no stay is answered at
+/// an event, its packet is read as no answer wherever an attempt is open. Each message is that of
+/// the table for an attempt in its state, or for the release of the lease that is held. And each
+/// stay begins where the one before it leads to.
+pub fn history_by_point(client: &DhcpV6Client)
+    ensures { (script : Script Packet ClientState Exchange) → Rises 0 0 script.events →
+        HoldsByPoint (protocol client.now.config) script.events
+        (history (protocol client.now.config) script) }
+{
+    table_is_lawful();
+    laws::history_by_point(&client.rules);
+}
+
+/// Calls of `run` over any link and any source of words, one after the other from a client that was
+/// not polled yet, and at once again after each change, are a script: what they report is what the
+/// history of that script reports. So what holds of every script holds of a manager's own run.
+pub fn calls_are_a_script<W: Words, L: DhcpLink>(client: &DhcpV6Client, words: &W, link: &L)
+    ensures { (calls : List (Call PlainState)) (old new : Client ClientState Exchange)
+        (first last : W) (here there : L) →
+        CallsLead (protocol client.now.config) W.gives L.moves calls old first here new last there →
+        Disciplined calls → old.standing ≡ unpolled old.standing.exchange →
+        AreScript (protocol client.now.config) W.gives L.moves
+        calls old first here new last there }
+{
+    table_is_lawful();
+    laws::calls_are_a_script(&client.rules, words, link);
 }
 
 /// In a history an offer is requested at most eleven times in a stay.
@@ -66,12 +101,7 @@ pub fn messages_are_far_apart(client: &DhcpV6Client)
 /// was open at the poll, or that the poll made, and of the awaited type; and its message grants the
 /// lease.
 pub fn leases_are_granted(client: &DhcpV6Client)
-    ensures { (now : ℕ) (refuse : Bool) (packet : Option Packet) (turns : List Turn)
-        (lease : Lease) (old new : View ClientState Exchange) →
-        IsPollBy (protocol client.now.config) now refuse packet turns
-        (Ok (Some (plain.Done lease))) old new →
-        plain.Done lease ≡ public_state new.state →
-        IsGranted client.now.config now refuse packet lease old }
+    ensures { (now : ℕ) → LeasesAreGranted client.now.config now }
 {
     laws::changes_are_heard(&client.rules);
 }

@@ -1,10 +1,16 @@
 -- What a poll leaves of the lease that is held.
-use Rattle.std.proofs.Common.{◌≡◌, sym, subst, rules}
+use Rattle.std.proofs.Common.{◌≡◌, sym, subst, arith, rules}
 use Rattle.std.specs.Prelude.{Option, Ok, option_map}
 use Rattle.dhcp4_client.specs.declared.state.PlainState.{PlainState}
+use Rattle.dhcp4_client.specs.declared.state.PlainState.TheVariants as states
+use Rattle.dhcp4_client.specs.Client.{ClientParts}
+use Rattle.dhcp4_client.specs.Granted.{IsGranted, LeasesAreGranted as Law}
+use Rattle.dhcp4_client.specs.Rules.{protocol}
 use Rattle.dhcp4_client.specs.State.{plain_state}
 use Rattle.dhcp4_client.specs.Held.{KeepsLease, has_times_in_order}
+use Rattle.dhcp_history.specs.Errors.{run_answer}
 use Rattle.dhcp_history.proofs.ErrorLemmas.{on_failure}
+use Rattle.dhcp_history.proofs.GrantedLast.{granted_by}
 use Rattle.dhcp4_client.proofs.Held.{keeps_lease, order_preserved}
 use Rattle.dhcp4_client.proofs.client.DhcpV4Client.run.Goals as goal
 
@@ -28,3 +34,13 @@ returns-clause-leases g c =
     c.in_ok-reported.ensures.traced tt c.in_ok-reported.ensures.polls.still c.in_ok-reported.ensures.polls.reported
     (λ is. (c.in_ok-reported.ensures.polls.settles (c.table_is_lawful.ensures c.self.inside.rules.config) is).lasts)
     (c.run.ensures.polls.keeps has_times_in_order (order_preserved c.self.inside.rules.config) c.self.invariant.1)))
+
+pub returns-clause-heard : goal.returns-clause-heard
+returns-clause-heard g c =
+    let same : run_answer plain_state (Ok c.map.result) ≡ c.run.result = grind arith in
+    rw (← c.self.view_is)
+    (granted_by (protocol c.self.inside.rules.config) c.args.now plain_state states.Done (λ lease refuse packet before. IsGranted c.self.inside.rules.config c.args.now refuse packet lease before)
+    (subst (λ (parts : ClientParts). Law parts.config c.args.now) (sym c.self.view_is) (c.leases_are_granted.ensures c.args.now))
+    (λ lease refuse packet before granted. record { heard = granted.heard; asked = granted.asked; given = granted.given })
+    g.W.Words.gives g.L.DhcpLink.moves c.self.inside.client c.run.new.client c.args.words.now c.run.new.words c.args.link.now c.run.new.link
+    (Ok c.map.result) c.run.result same c.run.ensures.traced c.run.ensures.polls.reported)

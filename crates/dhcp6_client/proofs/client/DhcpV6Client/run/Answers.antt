@@ -4,10 +4,13 @@ use Rattle.std.specs.Prelude.{Option, Ok, option_map}
 use Rattle.dhcp_history.specs.Errors.{run_answer}
 use Rattle.dhcp_history.proofs.ErrorLemmas.{on_failure}
 use Rattle.dhcp6_client.specs.declared.state.PlainState.{PlainState}
+use Rattle.dhcp6_client.specs.declared.state.PlainState.TheVariants as states
+use Rattle.dhcp6_client.specs.Granted.{IsGranted, LeasesAreGranted as Law}
+use Rattle.dhcp6_client.specs.Rules.{protocol}
 use Rattle.dhcp6_client.specs.Client.{ClientParts}
 use Rattle.dhcp6_client.specs.Held.{KeepsLease, has_times_in_order}
 use Rattle.dhcp6_client.specs.State.{plain_state}
-use Rattle.dhcp6_client.proofs.HeardLeases.{Law, heard_by, traced_as}
+use Rattle.dhcp_history.proofs.GrantedLast.{granted_by, traced_as}
 use Rattle.dhcp6_client.proofs.Held.{keeps_lease, order_preserved}
 use Rattle.dhcp6_client.proofs.client.DhcpV6Client.run.Goals as goal
 
@@ -45,7 +48,7 @@ pub returns-clause-traced : goal.returns-clause-traced
 returns-clause-traced g c =
     let same : run_answer plain_state (Ok c.map.result) ≡ c.run.result = grind arith in
     rw (← c.self.view_is)
-    (traced_as g.W.Words.gives g.L.DhcpLink.moves c.self.inside.rules.config c.args.now (run_answer plain_state (Ok c.map.result)) c.run.result c.self.inside.client c.run.new.client
+    (traced_as (protocol c.self.inside.rules.config) g.W.Words.gives g.L.DhcpLink.moves c.args.now (run_answer plain_state (Ok c.map.result)) c.run.result c.self.inside.client c.run.new.client
     c.args.words.now c.run.new.words c.args.link.now c.run.new.link same c.run.ensures.traced)
 
 pub returns-clause-leases : goal.returns-clause-leases
@@ -63,6 +66,8 @@ pub returns-clause-heard : goal.returns-clause-heard
 returns-clause-heard g c =
     let same : run_answer plain_state (Ok c.map.result) ≡ c.run.result = grind arith in
     rw (← c.self.view_is)
-    (heard_by g.W.Words.gives g.L.DhcpLink.moves c.args.now (Ok c.map.result) c.run.result (record { config = c.self.inside.rules.config; client = c.self.inside.client })
-    (record { config = c.self.inside.rules.config; client = c.run.new.client }) c.args.words.now c.run.new.words c.args.link.now c.run.new.link
-    (subst (λ (parts : ClientParts). Law parts.config) (sym c.self.view_is) c.leases_are_granted.ensures) same c.run.ensures.traced c.run.ensures.polls.reported)
+    (granted_by (protocol c.self.inside.rules.config) c.args.now plain_state states.Done (λ lease refuse packet before. IsGranted c.self.inside.rules.config c.args.now refuse packet lease before)
+    (subst (λ (parts : ClientParts). Law parts.config c.args.now) (sym c.self.view_is) (c.leases_are_granted.ensures c.args.now))
+    (λ lease refuse packet before granted. record { heard = granted.heard; asked = granted.asked; given = granted.given })
+    g.W.Words.gives g.L.DhcpLink.moves c.self.inside.client c.run.new.client c.args.words.now c.run.new.words c.args.link.now c.run.new.link
+    (Ok c.map.result) c.run.result same c.run.ensures.traced c.run.ensures.polls.reported)
