@@ -14,3 +14,4 @@ pub mod TextLemmas
 pub mod ToolLemmas
 pub mod Valid4Lemmas
 pub mod Valid6Lemmas
+pub mod OrderLemmas

@@ -6,6 +6,7 @@ use Rattle.dhcp_clock.specs.Words.{next_of}
 use Rattle.dhcp_history.specs.Bounds.{KeepsDistance, allowed, count_of, is_send_at}
 use Rattle.dhcp_history.specs.History.{outputs}
 use Rattle.dhcp_history.specs.Machine.{first_view}
+use Rattle.dhcp_history.specs.Points.{HoldsByPoint, Rises}
 use Rattle.dhcp_history.specs.declared.script.Event.{Event as LifeEvent}
 use Rattle.dhcp4_msg.specs.declared.message_type.DhcpV4MessageType.{DhcpV4MessageType}
 use Rattle.dhcp4_msg.specs.declared.message_type.DhcpV4MessageType.TheVariants.{Offer, Ack}
@@ -75,6 +76,10 @@ pub record KeepsPromises (config : Config) (lease : Option Lease) (words : List 
   pub names_its_basis :
       All (NamesItsBasis (HasBasis lease (numbered 1 events) (next_of words))
       (IsMessageOf config (next_of words))) (history4 config lease words events)
+  -- point by point: what answers a stay, that no answer is missed, whose each message is, and how
+  -- the stays follow one another
+  pub by_point : Rises 0 0 (numbered 1 events) →
+      HoldsByPoint (protocol config) (numbered 1 events) (history4 config lease words events)
   -- Each event has at most seven polls. After them a client without a kept error is not in BOUND at
   -- or past T1, in RENEWING at or past T2, or in REBINDING at or past the end of its lease.
   pub settles : SettlesAtEach (protocol config) (first_view (life_of config lease words events))

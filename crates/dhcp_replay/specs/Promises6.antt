@@ -5,6 +5,7 @@ use Rattle.dhcp_clock.specs.declared.link.Packet.{Packet}
 use Rattle.dhcp_history.specs.Bounds.{KeepsDistance, allowed, count_of, is_send_at}
 use Rattle.dhcp_history.specs.History.{history, outputs}
 use Rattle.dhcp_history.specs.Machine.{first_view}
+use Rattle.dhcp_history.specs.Points.{HoldsByPoint, Rises}
 use Rattle.dhcp_history.specs.Script.{Script}
 use Rattle.dhcp_history.specs.declared.script.Event.{Event as LifeEvent}
 use Rattle.dhcp6_msg.specs.declared.message_type.DhcpV6MessageType.{DhcpV6MessageType}
@@ -76,6 +77,10 @@ pub record KeepsPromisesOver (config : Config) (lease : Option Lease)
   pub names_its_basis :
       All (NamesItsBasis (HasBasis lease life.events) (IsMessageOf config))
       (history (protocol config) life)
+  -- point by point: what answers a stay, that no answer is missed, whose each message is, and how
+  -- the stays follow one another
+  pub by_point : Rises 0 0 life.events →
+      HoldsByPoint (protocol config) life.events (history (protocol config) life)
   -- Each event has at most seven polls. After them a client without a kept error is not in Done at
   -- or past T1, or at or past the end of its lease if it asks for temporary addresses, not in Renew
   -- at or past T2, and not in Rebind at or past the end of its lease.

@@ -1,11 +1,14 @@
 //! What is promised of every client, over every script. A law is the clause of a function that does
 //! nothing.
 
-ghost use Rattle.std.specs.Prelude.{ℕ, List, Option};
+ghost use Rattle.std.specs.Prelude.{◌≡◌, ℕ, List, Option, true};
+ghost use Rattle.dhcp_history.specs.Points.{Rises};
 ghost use Rattle.dhcp4_lease.specs.Lease.{Lease};
 ghost use Rattle.dhcp6_msg.specs.Config as configs6;
 ghost use Rattle.dhcp6_msg.specs.Lease as leases6;
 ghost use Rattle.dhcp_script.specs.declared.event.Event.{Event};
+ghost use Rattle.dhcp_script.specs.Event.{are_valid};
+ghost use Rattle.dhcp_replay.specs.Life.{numbered};
 ghost use Rattle.dhcp_replay.specs.Promises4.{KeepsPromises};
 ghost use Rattle.dhcp_replay.specs.Promises6.{KeepsPromisesOver};
 ghost use Rattle.dhcp_replay.specs.Replayed6.{life_of};
@@ -28,6 +31,7 @@ pub fn promises_are_kept(client: &DhcpV4Client)
     laws::requests_get_rarer(client);
     laws::messages_are_far_apart(client);
     laws::four_requests_of_a_lease(client);
+    laws::history_by_point(client);
     laws::polls_keep_laws(client);
 }
 
@@ -45,5 +49,13 @@ pub fn promises6_are_kept(client: &DhcpV6Client)
     laws6::table_is_lawful();
     laws6::eleven_requests_of_an_offer(client);
     laws6::messages_are_far_apart(client);
+    laws6::history_by_point(client);
     laws6::polls_keep_laws(client);
 }
+
+/// The events of a valid script rise: what `history_by_point` of the clients says of a history holds
+/// of that of each valid script.
+pub fn valid_events_rise()
+    ensures { (start : ℕ) (events : List Event) → are_valid start events ≡ true →
+        Rises 0 0 (numbered 1 events) }
+{}

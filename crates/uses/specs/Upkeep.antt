@@ -1,28 +1,11 @@
 -- What a manager keeps of a lease of IPv4.
-use Rattle.std.specs.Prelude.{◌≡◌, ◌<◌, ℕ, Bool, List, [], ◌∷◌, ◌++◌, Some, option_map, IsSomeAnd}
+use Rattle.std.specs.Prelude.{◌≡◌, ◌<◌, ℕ, Some, option_map, IsSomeAnd}
 use Rattle.std.specs.declared.net.Ipv4Addr.{Ipv4Addr}
-use Rattle.dhcp_clock.specs.declared.link.Packet.{Packet}
-use Rattle.dhcp_clock.specs.Leads.{Leads}
-use Rattle.dhcp_clock.specs.Link.{Turn, Gives}
-use Rattle.dhcp_history.specs.Client.{view_of}
+use Rattle.dhcp_clock.specs.Link.{Turn}
 use Rattle.dhcp4_lease.specs.Lease.{Lease}
 use Rattle.dhcp4_client.specs.Client.{ClientParts}
-use Rattle.dhcp4_client.specs.Granted.{IsGranted}
+use Rattle.dhcp4_client.specs.Granted.{HeardLease}
 use Rattle.dhcp4_client.specs.Rules.{held_lease, lease_end}
-
--- The last turn of the link gave this packet, and the lease was read from it, whatever words come
--- after those that the source gave.
-pub record HeardLease {Source Link : Type 0} (gives : ℕ → Source → Source → Type 0)
-    (moves : Turn → Link → Link → Type 0) (now : ℕ) (lease : Lease) (old : ClientParts)
-    (words words' : Source) (link link' : Link) : Type 0 where
-  pub heard : Packet
-  pub earlier : List Turn
-  pub taken : List ℕ
-  pub refuse : Bool
-  pub drawn : Leads gives words taken words'
-  pub moved : Leads moves link (earlier ++ Gives (Some heard) ∷ []) link'
-  pub granted : (rest : List ℕ) → IsGranted old.config now refuse (Some heard) lease
-      (view_of old.client (taken ++ rest))
 
 -- an address of a lease that was read from the packet which the link gave last
 pub record HeardAddress {Source Link : Type 0} (gives : ℕ → Source → Source → Type 0)

@@ -8,7 +8,7 @@ ghost use Rattle.uses.specs.Upkeep.{HeardAddress, IsInUse};
 use crate::manager::{Follow, Interface, turn};
 use dhcp_clock::{DhcpLink, Words};
 use dhcp_wire::DhcpError;
-use dhcp4_client::{DhcpV4Client, laws};
+use dhcp4_client::DhcpV4Client;
 use std::net::Ipv4Addr;
 
 /// One poll at a moment, in milliseconds, which the interface follows; whether the state changed.
@@ -26,7 +26,6 @@ pub fn follow_poll<W: Words, L: DhcpLink>(
         (interface.old.address ≡ Some address) ⊎ HeardAddress W.gives L.moves now address
         client.old words.old words.new link.old link.new }
 {
-    laws::leases_are_granted(client);
     let Some(state) = client.run(now, words, link)? else {
         return Ok(false);
     };

@@ -15,5 +15,6 @@ returns c = λ given lease start words events. record {
   messages_far_apart = c.messages_are_far_apart.ensures (life_of given lease start words events) refl;
   two_messages = history_sends (protocol c.args.client.now.config) (c.table_is_lawful.ensures c.args.client.now.config) (life_of given lease start words events);
   names_its_basis = names_its_basis c.args.client.now.config given lease start words events;
+  by_point = c.history_by_point.ensures (life_of given lease start words events);
   settles = settles_at_each (protocol c.args.client.now.config) c.polls_keep_laws.ensures.seven_polls_an_event.polls c.polls_keep_laws.ensures.seven_polls_an_event.changes c.polls_keep_laws.ensures.two_messages_an_event c.polls_keep_laws.ensures.no_state_is_overdue (first_view (life_of given lease start words events)) (numbered 1 events);
 }
