@@ -21,8 +21,9 @@ use dhcp6_client::{DhcpV6Client, laws as laws6};
 /// and in REBINDING only if the lease time - T2, is above 60 * 2^(k-2) seconds; the messages of a
 /// stay are at least three seconds apart, in RENEWING and REBINDING a minute; a lease that was held
 /// before is requested at most four times in a stay. An event has at most two messages besides a
-/// release; each attempt's message names the offer or the lease of its state; and after the polls
-/// of an event a client without a kept error is in no state whose end has come.
+/// release; each attempt's message names the offer or the lease of its state; where the events rise,
+/// the history holds point by point; and after the polls of an event a client without a kept error
+/// is in no state whose end has come.
 pub fn promises_are_kept(client: &DhcpV4Client)
     ensures { (lease : Option Lease) (words : List ℕ) (events : List Event) →
         KeepsPromises client.now.config lease words events }
@@ -39,8 +40,8 @@ pub fn promises_are_kept(client: &DhcpV4Client)
 /// requests an offer at most eleven times in a stay, and its messages of a stay are at least 0.9
 /// seconds apart, in Renew and Rebind nine, counting those that the link took, besides a release.
 /// An event has at most two messages besides a release; each attempt's message names the offer or
-/// the lease of its state; and after the polls of an event a client without a kept error is in no
-/// state whose end has come.
+/// the lease of its state; where the events rise, the history holds point by point; and after the
+/// polls of an event a client without a kept error is in no state whose end has come.
 pub fn promises6_are_kept(client: &DhcpV6Client)
     ensures { (given : configs6.Config) (lease : Option leases6.Lease) (start : ℕ)
         (words : List ℕ) (events : List Event) →
