@@ -2,20 +2,21 @@
 
 mod times;
 
-ghost use Rattle.std.specs.Prelude.{◌≡◌, ◌⊎◌, IfOk, IfErr, IsTrue, Err, MatchResult, None, Ok, count_ones, option_copied, option_map, replicate};
+ghost use Rattle.std.specs.Prelude.{◌≡◌, ◌⊎◌, IfOk, IfErr, IsTrue, None, count_ones, option_copied, option_map, replicate};
 ghost use Rattle.std.specs.FinMap as map;
 ghost use Rattle.std.specs.Net.Addr.{ipv4_bits};
 ghost use Rattle.std.specs.Vec.{vec_items};
 ghost use Rattle.dhcp_wire.specs.Error.{no_memory};
 ghost use Rattle.dhcp_wire.specs.Outcome.{Makes};
 ghost use Rattle.dhcp4_msg.specs.Message.{no_address};
-ghost use Rattle.dhcp4_msg.specs.Value.{written_option};
+ghost use Rattle.dhcp4_msg.specs.Options.{classless_routes, said_by};
+ghost use Rattle.dhcp4_msg.specs.Value.{addresses_said, text_said, written_option};
 ghost use Rattle.dhcp4_lease.specs.Lease as Lease;
 ghost use Rattle.dhcp4_lease.specs.Lease.{HasFieldsOf, ReadsLease, ReadsLeaseBy, are_times_in_order, empty_lease, lease_of, times_in};
 
 use self::times::{LeaseTimes, read_times};
 use dhcp_clock::Words;
-use dhcp_wire::{BROADCAST_MAC_ADDRESS, DhcpError, ErrorKind, FixedText, Sequence, Text};
+use dhcp_wire::{BROADCAST_MAC_ADDRESS, DhcpError, ErrorKind, FixedText, Sequence, Text, beside};
 use dhcp4_msg::{DhcpV4ClasslessRoute, DhcpV4Message, DhcpV4OptionCode, DhcpV4Options};
 use std::alloc::Global;
 use std::marker::Model;
@@ -223,18 +224,8 @@ impl DhcpV4Lease {
     pub fn try_clone(&self, alloc: Global) -> Result<Self, DhcpError>
         ensures { Makes (λ lease. lease) result self.now }
     {
-        let lists = copied_lists(
-            alloc,
-            self.dns_srvs.as_ref(),
-            self.gateways.as_ref(),
-            self.ntp_srvs.as_ref(),
-        )?;
-        let names = copied_names(alloc, self.host_name.as_ref(), self.domain_name.as_ref());
-        let (lists, names) = beside(lists, names)?;
-        let routes = copied(alloc, self.classless_routes.as_ref());
-        let ((lists, names), routes) = beside((lists, names), routes)?;
-        let options = self.options.try_clone(alloc);
-        let ((lists, names, routes), options) = beside((lists, names, routes), options)?;
+        let options = self.options.try_clone(alloc)?;
+        let (lists, names, routes) = self.copied_values(alloc)?;
         let (dns_srvs, gateways, ntp_srvs) = lists;
         let (host_name, domain_name) = names;
         Ok(DhcpV4Lease {
@@ -256,6 +247,27 @@ impl DhcpV4Lease {
             srv_mac: self.srv_mac,
             options,
         })
+    }
+
+    // Copies of its lists of addresses, its names and its routes.
+    fn copied_values(&self, alloc: Global) -> Result<(Lists, Names, Option<Routes>), DhcpError>
+        ensures { Makes (λ made. made) result (
+          (self.now.dns_srvs, self.now.gateways, self.now.ntp_srvs),
+          (self.now.host_name, self.now.domain_name),
+          self.now.classless_routes,
+        ) }
+    {
+        let lists = copied_lists(
+            alloc,
+            self.dns_srvs.as_ref(),
+            self.gateways.as_ref(),
+            self.ntp_srvs.as_ref(),
+        )?;
+        let names = copied_names(alloc, self.host_name.as_ref(), self.domain_name.as_ref());
+        let (lists, names) = beside(lists, names)?;
+        let routes = copied(alloc, self.classless_routes.as_ref());
+        let ((lists, names), routes) = beside((lists, names), routes)?;
+        Ok((lists, names, routes))
     }
 }
 
@@ -282,21 +294,7 @@ fn lease_with(
 ) -> Result<DhcpV4Lease, DhcpError>
     ensures { Makes (λ lease. lease) result (Lease.lease_with siaddr yiaddr options times) }
 {
-    let lists = copied_lists(
-        alloc,
-        options.addresses(DhcpV4OptionCode::DomainNameServer),
-        options.addresses(DhcpV4OptionCode::Router),
-        options.addresses(DhcpV4OptionCode::NtpServers),
-    );
-    let (options, lists) = beside(options, lists)?;
-    let names = copied_names(
-        alloc,
-        options.text(DhcpV4OptionCode::HostName),
-        options.text(DhcpV4OptionCode::DomainName),
-    );
-    let ((options, lists), names) = beside((options, lists), names)?;
-    let routes = options.classless_routes(alloc);
-    let ((options, lists, names), routes) = beside((options, lists, names), routes)?;
+    let (lists, names, routes) = values_in(alloc, &options)?;
     let (dns_srvs, gateways, ntp_srvs) = lists;
     let (host_name, domain_name) = names;
     Ok(DhcpV4Lease {
@@ -322,6 +320,39 @@ fn lease_with(
         srv_mac: BROADCAST_MAC_ADDRESS,
         options,
     })
+}
+
+// The lists of addresses, the names and the routes that these options say, as a lease has them.
+#[tactic(auto, unfolding(dhcp4_msg::specs::OptionCode::number_of))]
+fn values_in(
+    alloc: Global,
+    options: &DhcpV4Options,
+) -> Result<(Lists, Names, Option<Routes>), DhcpError>
+    ensures { Makes (λ made. made) result (
+      (
+        said_by addresses_said options.now 6,
+        said_by addresses_said options.now 3,
+        said_by addresses_said options.now 42,
+      ),
+      (said_by text_said options.now 12, said_by text_said options.now 15),
+      classless_routes options.now,
+    ) }
+{
+    let lists = copied_lists(
+        alloc,
+        options.addresses(DhcpV4OptionCode::DomainNameServer),
+        options.addresses(DhcpV4OptionCode::Router),
+        options.addresses(DhcpV4OptionCode::NtpServers),
+    )?;
+    let names = copied_names(
+        alloc,
+        options.text(DhcpV4OptionCode::HostName),
+        options.text(DhcpV4OptionCode::DomainName),
+    );
+    let (lists, names) = beside(lists, names)?;
+    let routes = options.classless_routes(alloc);
+    let ((lists, names), routes) = beside((lists, names), routes)?;
+    Ok((lists, names, routes))
 }
 
 // The refusal of a message that grants no lease.
@@ -354,7 +385,10 @@ fn copied_text(alloc: Global, kept: Option<&Text>) -> Result<Option<Text>, DhcpE
     }
 }
 
-// Copies of the lists of addresses of a lease: name servers, routers and NTP servers.
+// The routes of a lease.
+type Routes = Sequence<DhcpV4ClasslessRoute>;
+
+// The lists of addresses of a lease: name servers, routers and NTP servers.
 type Lists = (
     Option<Sequence<Ipv4Addr>>,
     Option<Sequence<Ipv4Addr>>,
@@ -376,27 +410,18 @@ fn copied_lists(
     Ok((dns_srvs, gateways, ntp_srvs))
 }
 
-// Copies of the host name and the domain name.
+// The host name and the domain name of a lease.
+type Names = (Option<Text>, Option<Text>);
+
 fn copied_names(
     alloc: Global,
     host_name: Option<&Text>,
     domain_name: Option<&Text>,
-) -> Result<(Option<Text>, Option<Text>), DhcpError>
+) -> Result<Names, DhcpError>
     ensures { Makes (λ made. made) result
         (option_copied host_name.entry, option_copied domain_name.entry) }
 {
     let host_name = copied_text(alloc, host_name)?;
     let domain_name = copied_text(alloc, domain_name)?;
     Ok((host_name, domain_name))
-}
-
-// What was made before, and beside it what was made now, if it was. A place at which a call may
-// fail is proved for each field that is owned there; here a type parameter is owned.
-fn beside<A: Drop, B>(before: A, now: Result<B, DhcpError>) -> Result<(A, B), DhcpError>
-    ensures { MatchResult now (λ made. result ≡ Ok (before, made)) (λ error. result ≡ Err error) }
-{
-    match now {
-        Ok(now) => Ok((before, now)),
-        Err(error) => Err(error),
-    }
 }

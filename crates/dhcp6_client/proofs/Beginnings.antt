@@ -6,15 +6,18 @@ use Rattle.dhcp_history.specs.Client.{unpolled}
 use Rattle.dhcp_history.specs.declared.client.Standing.{Standing}
 use Rattle.dhcp6_opt.specs.declared.duid.DhcpV6Duid.{DhcpV6Duid}
 use Rattle.dhcp6_opt.specs.declared.duid.DhcpV6Duid.TheVariants.{LinkLayerAddressPlusTime, EnterpriseNumber, LinkLayerAddress, UUID, Raw}
+use Rattle.dhcp6_msg.specs.declared.mode.DhcpV6Mode.{DhcpV6Mode}
 use Rattle.dhcp6_msg.specs.Config.{Config, client_duid, duid_or_made}
+use Rattle.dhcp6_msg.specs.Lease.{Lease}
 use Rattle.dhcp6_client.specs.declared.client_state.Exchange.{Exchange}
-use Rattle.dhcp6_client.specs.Client.{first_exchange, undrawn_duid, undrawn_duid_of}
+use Rattle.dhcp6_client.specs.Client.{first_exchange, first_state, undrawn_duid, undrawn_duid_of}
 
 -- this configuration has an identifier that was drawn
 abbrev HasDrawn : Option (List ℕ) → Option (List ℕ) → Config → Config → Type 0
 HasDrawn before after given new = Draws before after (client_duid given) (λ duid. new ≡ record given { duid = duid })
 
-with_own : (given new : Config) (duid : DhcpV6Duid) → new ≡ record given { duid = duid } → new ≡ record given { duid = new.duid }
+-- a configuration in which an identifier was set
+pub with_own : (given new : Config) (duid : DhcpV6Duid) → new ≡ record given { duid = duid } → new ≡ record given { duid = new.duid }
 with_own given new duid e = e ∙ ap (λ (other : DhcpV6Duid). record given { duid = other }) (sym (ap (λ (config : Config). config.duid) e))
 
 -- nothing but its identifier was set
@@ -49,3 +52,9 @@ pub stands_unpolled : (standing : Standing Exchange) (exchange : Exchange) (xid 
 stands_unpolled standing exchange xid stands first =
     let whole : standing ≡ unpolled (first_exchange xid) = stands ∙ ap (λ (exchange : Exchange). unpolled exchange) first in
     whole ∙ ap (λ (xid : ℕ). unpolled (first_exchange xid)) (sym (ap (λ (standing : Standing Exchange). standing.exchange.xid) whole))
+
+-- the state in which a client begins, once its identifier is set, is that of what it was given
+pub begins_given : (given kept : Config) (duid : DhcpV6Duid) (lease held : Option Lease) (mode : DhcpV6Mode) (now : ℕ) → kept ≡ record given { duid = duid } → held ≡ lease → mode ≡ kept.mode →
+    first_state mode held now ≡ first_state given.mode lease now
+begins_given given kept duid lease held mode now set same is =
+    ap (λ (mode : DhcpV6Mode). first_state mode held now) (is ∙ ap (λ (config : Config). config.mode) set) ∙ ap (λ (lease : Option Lease). first_state given.mode lease now) same

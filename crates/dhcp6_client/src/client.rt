@@ -6,7 +6,9 @@ mod replay;
 ghost use Rattle.std.specs.Prelude.{◌≡◌, ◌<◌, ◌^◌, true, false, None, IfSome, IfErr, IfOk, OnErr, OnOk, is_ok};
 ghost use Rattle.dhcp_wire.specs.Error.{no_memory};
 ghost use Rattle.dhcp_wire.specs.Outcome.{Finds};
-ghost use Rattle.dhcp6_msg.specs.Lease.{is_within_limits};
+ghost use Rattle.dhcp_clock.specs.Words.{DrawsBy};
+ghost use Rattle.dhcp_history.specs.Rules.{GivesDrawn};
+ghost use Rattle.dhcp6_msg.specs.Lease.{is_duid, is_within_limits};
 ghost use Rattle.dhcp6_client.specs.Client as clients;
 ghost use Rattle.dhcp6_client.specs.State.{plain_state};
 
@@ -17,7 +19,7 @@ use crate::granted_lease::GrantedLease;
 use crate::rules::{ClientRules, bound_state};
 use dhcp_clock::{DhcpLink, Words};
 use dhcp_history::{BoundLease, Client, Reported, clean_up, is_listening, next_poll, run};
-use dhcp_wire::{DhcpError, ErrorKind, FixedText};
+use dhcp_wire::{DhcpError, ErrorKind, FixedText, beside};
 use dhcp6_msg::{DhcpV6Config, DhcpV6Lease, DhcpV6Mode, is_duid};
 use std::alloc::Global;
 use std::marker::Model;
@@ -50,11 +52,9 @@ impl Model for DhcpV6Client {
 }
 
 impl DhcpV6Client {
-    ghost use Rattle.dhcp_clock.specs.Words.{DrawsBy};
     ghost use Rattle.dhcp_history.specs.Calls.{IsCleanUp, IsListening, IsNextPoll, IsRun};
     ghost use Rattle.dhcp_history.specs.Errors.{run_answer};
     ghost use Rattle.dhcp_history.specs.Machine.{is_listening};
-    ghost use Rattle.dhcp_history.specs.Rules.{GivesDrawn};
     ghost use Rattle.dhcp_history.specs.Run.{OnNoMemory, UnlessNoMemory};
     ghost use Rattle.dhcp_history.specs.Seen.{seen};
     ghost use Rattle.dhcp_history.specs.Traced.{Traces};
@@ -103,13 +103,12 @@ impl DhcpV6Client {
             (λ error. error ≡ no_memory) }
         ensures undrawn { can_begin config lease ≡ false → W.left words.new ≡ W.left words.old }
     {
-        check_start(&config, &lease)?;
         let mut config = config;
-        config.init_duid(alloc, words)?;
-        let exchange = first_exchange(new_id(words.next_word()));
+        let xid = first_id(alloc, &mut config, &lease, words);
+        let ((config, lease), xid) = beside((config, lease), xid)?;
         let state = first_state(config.mode, lease, now);
         Ok(DhcpV6Client {
-            client: Client::new(state, exchange, config.timeout_sec, now),
+            client: Client::new(state, first_exchange(xid), config.timeout_sec, now),
             rules: ClientRules { alloc, config },
         })
     }
@@ -233,6 +232,35 @@ impl DhcpV6Client {
     {
         self.client.state.lease_end()
     }
+}
+
+// The transaction id with which a client begins. It is drawn once the client can begin with this
+// configuration and this lease, and after the identifier, which is filled if it is empty.
+fn first_id<W: Words>(
+    alloc: Global,
+    config: &mut DhcpV6Config,
+    lease: &Option<DhcpV6Lease>,
+    words: &mut W,
+) -> Result<u32, DhcpError>
+    ensures begins { OnOk result (clients.can_begin config.old lease.now ≡ true) }
+    ensures set { OnOk result (config.new ≡ record config.old { duid = config.new.duid }) }
+    ensures sendable { OnOk result (is_duid config.new.duid ≡ true) }
+    ensures drawn { IfOk result (λ xid. GivesDrawn (clients.first_draws config.old)
+        (W.left words.old) (record { config = config.new; xid = xid }) (W.left words.new)) }
+    ensures given { IfOk result (λ xid. DrawsBy W.gives (clients.first_draws config.old)
+        words.old (record { config = config.new; xid = xid }) words.new) }
+    ensures identifier { OnOk result (IfSome (clients.undrawn_duid config.old)
+        (λ duid. config.new.duid ≡ duid)) }
+    ensures refused { clients.can_begin config.old lease.now ≡ false → IfErr result
+        (λ error. error.kind ≡ ErrorKind.InvalidArgument) }
+    ensures errors { clients.can_begin config.old lease.now ≡ true → IfErr result
+        (λ error. error ≡ no_memory) }
+    ensures undrawn { clients.can_begin config.old lease.now ≡ false →
+        W.left words.new ≡ W.left words.old }
+{
+    check_start(config, lease)?;
+    config.init_duid(alloc, words)?;
+    Ok(new_id(words.next_word()))
 }
 
 // Whether a client can begin with this lease and this configuration; the error names the first of

@@ -242,12 +242,20 @@ fn state_after(state: ClientState) -> ClientState
 {
     match state {
         ClientState::Solicit => ClientState::Solicit,
-        ClientState::Request(_) => ClientState::Solicit,
+        ClientState::Request(offer) => search_without(offer),
         ClientState::Done(bound) => ClientState::Renew(bound),
-        ClientState::Temporary(_) => ClientState::Solicit,
+        ClientState::Temporary(bound) => search_without(bound),
         ClientState::Renew(bound) => ClientState::Rebind(bound),
-        ClientState::Rebind(_) => ClientState::Solicit,
+        ClientState::Rebind(bound) => search_without(bound),
     }
+}
+
+// A search, once a lease is dropped.
+fn search_without<T: Drop>(lease: T) -> ClientState
+    ensures { result ≡ ClientState.Solicit }
+{
+    drop(lease);
+    ClientState::Solicit
 }
 
 // What is reported of that state.

@@ -227,6 +227,8 @@ impl DhcpV6Lease {
     pub fn try_clone(&self, alloc: Global) -> Result<Self, DhcpError>
         ensures { Makes (λ lease. lease) result self.now }
     {
+        let (cli_duid, srv_duid) = copies(alloc, &self.cli_duid, &self.srv_duid)?;
+        let (ntp_srvs, options) = copies(alloc, &self.ntp_srvs, &self.options)?;
         Ok(DhcpV6Lease {
             t1_sec: self.t1_sec,
             t2_sec: self.t2_sec,
@@ -237,11 +239,11 @@ impl DhcpV6Lease {
             ia_type: self.ia_type,
             address: self.address,
             prefix_len: self.prefix_len,
-            cli_duid: self.cli_duid.try_clone(alloc)?,
-            srv_duid: self.srv_duid.try_clone(alloc)?,
+            cli_duid,
+            srv_duid,
             srv_ip: self.srv_ip,
-            ntp_srvs: self.ntp_srvs.try_clone(alloc)?,
-            options: self.options.try_clone(alloc)?,
+            ntp_srvs,
+            options,
         })
     }
 }
@@ -357,6 +359,19 @@ fn unicast_of(options: &DhcpV6Options) -> Ipv6Addr
         Some(DhcpV6Option::ServerUnicast(address)) => *address,
         _ => Ipv6Addr::UNSPECIFIED,
     }
+}
+
+// Copies of two values.
+fn copies<A: TryClone, B: TryClone>(
+    alloc: Global,
+    first: &A,
+    second: &B,
+) -> Result<(A, B), DhcpError>
+    ensures { Makes (λ made. made) result (first.now, second.now) }
+{
+    let first = first.try_clone(alloc)?;
+    let second = second.try_clone(alloc)?;
+    Ok((first, second))
 }
 
 // A copy of an identifier; the one without bytes if there is none.

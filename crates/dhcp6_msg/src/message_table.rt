@@ -16,7 +16,7 @@ ghost use Rattle.dhcp6_msg.specs.MessageTable.{table_message};
 use crate::{
     DhcpV6Config, DhcpV6IaType, DhcpV6Lease, DhcpV6Message, DhcpV6MessageType, DhcpV6Mode,
 };
-use dhcp_wire::DhcpError;
+use dhcp_wire::{DhcpError, beside};
 use dhcp6_opt::{
     DhcpV6Duid, DhcpV6Option, DhcpV6OptionIaAddr, DhcpV6OptionIaNa, DhcpV6OptionIaPd,
     DhcpV6OptionIaPrefix, DhcpV6OptionIaTa, DhcpV6Options,
@@ -320,7 +320,8 @@ fn message_of(
     requires association { IfSome row.association (λ option. IsTrue (fits option)) }
     ensures { Makes (λ message. message) result (table_message xid config.now row.entry) }
 {
-    let mut message = DhcpV6Message::new(alloc, row.msg_type, xid, &config.duid, row.elapsed_ms)?;
+    let begun = DhcpV6Message::new(alloc, row.msg_type, xid, &config.duid, row.elapsed_ms);
+    let (row, mut message) = beside(row, begun)?;
     add_options(&mut message.options, alloc, config, row)?;
     Ok(message)
 }
@@ -339,7 +340,8 @@ fn add_options(
         (λ _. options.new ≡ with_options options.old (table.own_options config.now row.entry))
         (λ e. e ≡ no_memory) }
 {
-    add_server(options, alloc, row.server)?;
+    let added = add_server(options, alloc, row.server);
+    let (row, _) = beside(row, added)?;
     add_association(options, row.association)?;
     add_requests(options, alloc, config, row.asks)
 }

@@ -33,7 +33,7 @@ pub fn codes_read_back()
 /// Status codes are ordered as RFC 8415, section 21.13 numbers them, and identifiers by the number
 /// of their type; those without a name are the greatest. Of options of one number, one that this
 /// library does not read is the greatest.
-#[tactic(auto, unfolding(crate::specs::VariantOrder::IsRisingBy, crate::specs::OptionOrder::fields_of))]
+#[tactic(auto, unfolding(crate::specs::IsRisingBy, crate::specs::fields_of))]
 pub fn variants_are_ordered_as_declared()
     ensures statuses { (number : ℕ) → StatusesRise number }
     ensures identifiers { (timed : DhcpV6DuidLinkLayerAddrPlusTime)

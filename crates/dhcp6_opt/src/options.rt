@@ -3,7 +3,7 @@
 mod equality;
 mod index;
 
-ghost use Rattle.std.specs.Prelude.{◌≡◌, ◌+◌, ◌-◌, ◌*◌, ◌^◌, ◌≤◌, ◌==◌, ◌&&◌, length, map, IfErr, IfOk, IfSome, IsTrue, OnOk, option_copied, option_map, vec_items};
+ghost use Rattle.std.specs.Prelude.{◌≡◌, ◌+◌, ◌-◌, ◌*◌, ◌^◌, ◌≤◌, ◌==◌, ◌&&◌, [], ◌∷◌, ◌++◌, length, map, IfErr, IfOk, IfSome, IsTrue, OnOk, option_copied, option_map, vec_capacity, vec_items, vec_len};
 ghost use Rattle.std.specs.List.{filter, flat_map, All, AllByRecursion};
 ghost use Rattle.std.specs.List.Sorted.{IsNonDecreasingBy};
 ghost use Rattle.std.specs.Cmp.{on_per, on_equiv, and_per, and_equiv, nat_eq_equiv, partial_equiv_from_equiv};
@@ -163,8 +163,7 @@ impl DhcpV6Options {
     {
         let number = u16::from(opt.code());
         let first = self.kept.len();
-        self.index.reserve(1)?;
-        self.kept.push(opt)?;
+        push_with_room(&mut self.kept, opt, &mut self.index)?;
         if let Err(place) = entry_of(&self.index, number, &mut Uncounted) {
             self.index.insert(place, IndexEntry { number, first })?;
         }
@@ -279,6 +278,25 @@ impl TryClone for DhcpV6Options {
     fn try_clone(&self, alloc: Global) -> Result<Self, DhcpError> {
         DhcpV6Options::try_clone(self, alloc)
     }
+}
+
+// Adds a value at the end of a list, once a second list has room for one more item. Out of memory
+// is the only error, and leaves both as they were. The value is of a type parameter: where it is an
+// option, each call that may fail while it is owned is proved for each kind of option.
+#[inline(always)]
+fn push_with_room<T: Drop, E>(
+    list: &mut Vec<T>,
+    value: T,
+    second: &mut Vec<E>,
+) -> Result<(), DhcpError>
+    ensures kept { second.new.items ≡ second.old.items }
+    ensures room { OnOk result (vec_len second.new + 1 ≤ vec_capacity second.new) }
+    ensures ok { OnOk result (list.new.items ≡ list.old.items ++ value ∷ []) }
+    ensures err { IfErr result (λ e. (e ≡ no_memory) × (list.new.items ≡ list.old.items)) }
+{
+    second.reserve(1)?;
+    list.push(value)?;
+    Ok(())
 }
 
 // The options of a list of bytes that read, from the first on. Out of memory is the only error.
