@@ -1,6 +1,11 @@
 -- What a poll leaves of the lease that is held.
-use Rattle.std.proofs.Common.{◌≡◌, sym, subst, rules}
-use Rattle.std.specs.Prelude.{Option, Ok, option_map}
+use Rattle.std.proofs.Common.{◌≡◌, ◌∙◌, ap, sym, subst, refl, arith, rules}
+use Rattle.std.specs.Prelude.{Option, Result, Ok, option_map}
+use Rattle.dhcp_history.specs.declared.machine.RunError.{RunError}
+use Rattle.dhcp_history.specs.Errors.{run_answer}
+use Rattle.dhcp_history.specs.Run.{UnlessNoMemory}
+use Rattle.dhcp_history.specs.Traced.{Traces}
+use Rattle.dhcp4_client.specs.Rules.{protocol}
 use Rattle.dhcp4_client.specs.declared.state.PlainState.{PlainState}
 use Rattle.dhcp4_client.specs.State.{plain_state}
 use Rattle.dhcp4_client.specs.Held.{KeepsLease, has_times_in_order}
@@ -28,3 +33,30 @@ returns-clause-leases g c =
     c.in_ok-reported.ensures.traced tt c.in_ok-reported.ensures.polls.still c.in_ok-reported.ensures.polls.reported
     (λ is. (c.in_ok-reported.ensures.polls.settles (c.table_is_lawful.ensures c.self.inside.rules.config) is).lasts)
     (c.run.ensures.polls.keeps has_times_in_order (order_preserved c.self.inside.rules.config) c.self.invariant.1)))
+
+pub returns-in_err-reported-clause-ran : goal.returns-in_err-reported-clause-ran
+returns-in_err-reported-clause-ran g c =
+    let same : run_answer plain_state c.from_residual.result ≡ c.run.result = grind arith in
+    rw (← c.self.view_is) (record { polls = rw same c.run.ensures.polls; settled = search rules; errors = grind arith; config = refl })
+
+pub returns-in_err-reported-clause-traced : goal.returns-in_err-reported-clause-traced
+returns-in_err-reported-clause-traced g c =
+    let same : run_answer plain_state c.from_residual.result ≡ c.run.result = grind arith in
+    rw (← c.self.view_is) (rw same c.run.ensures.traced)
+
+pub returns-clause-ran : goal.returns-clause-ran
+returns-clause-ran g c =
+    let same : run_answer plain_state (Ok c.map.result) ≡ c.run.result = grind arith in
+    rw (← c.self.view_is) (record {
+      polls = rw same c.run.ensures.polls;
+      settled = λ none. c.run.ensures.polls.settles (c.table_is_lawful.ensures c.self.inside.rules.config) (sym same ∙ ap (run_answer plain_state) none);
+      errors = search rules;
+      config = refl;
+    })
+
+pub returns-clause-traced : goal.returns-clause-traced
+returns-clause-traced g c =
+    let same : run_answer plain_state (Ok c.map.result) ≡ c.run.result = grind arith in
+    rw (← c.self.view_is)
+    (subst (λ (answer : Result (Option PlainState) RunError). UnlessNoMemory answer (Traces (protocol c.self.inside.rules.config) g.W.Words.gives g.L.DhcpLink.moves c.args.now answer
+    c.self.inside.client c.run.new.client c.args.words.now c.run.new.words c.args.link.now c.run.new.link)) (sym same) c.run.ensures.traced)
