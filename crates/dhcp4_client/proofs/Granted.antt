@@ -4,6 +4,7 @@ use Rattle.std.specs.Prelude.{Option, Some, None, option_map}
 use Rattle.dhcp_clock.specs.declared.link.Packet.{Packet}
 use Rattle.dhcp4_msg.specs.declared.message.DhcpV4Message.{DhcpV4Message}
 use Rattle.dhcp4_lease.specs.Config.{Config}
+use Rattle.dhcp4_lease.specs.declared.message_forms.DhcpV4MessageForms.{DhcpV4MessageForms}
 use Rattle.dhcp4_lease.specs.declared.lease.times.LeaseTimes.{LeaseTimes}
 use Rattle.dhcp4_lease.specs.Lease.{Lease, lease_of, read_times, HasFieldsOf}
 use Rattle.dhcp_history.specs.Machine.{View, begin_stay, is_wait_over, attempt_now}
@@ -47,14 +48,14 @@ unfolding lease_in
 same_lease one other e = ap (λ (state : PlainState). Granted (lease_in state one)) e
 
 -- an answer after which a lease is reported grants that lease
-granted_by : (state : ClientState) (answer : Answer) (now : ℕ) (exchange : Exchange) (lease : Lease) → public_state (after_answer state answer now exchange).state ≡ plain.Done lease → answer ≡ Granted lease
-granted_by state Refused now exchange lease e = absurd (cc e)
-granted_by InitReboot (Granted offer) now exchange lease e = absurd (cc e)
-granted_by (Selecting offer) (Granted given) now exchange lease e = same_lease given lease e
-granted_by (Rebooting held) (Granted given) now exchange lease e = same_lease given lease e
-granted_by (Done bound) (Granted given) now exchange lease e = same_lease given lease e
-granted_by (Renewing bound) (Granted given) now exchange lease e = same_lease given lease e
-granted_by (Rebinding bound) (Granted given) now exchange lease e = same_lease given lease e
+granted_by : (forms : DhcpV4MessageForms) (state : ClientState) (answer : Answer) (now : ℕ) (exchange : Exchange) (lease : Lease) → public_state (after_answer forms state answer now exchange).state ≡ plain.Done lease → answer ≡ Granted lease
+granted_by forms state Refused now exchange lease e = absurd (cc e)
+granted_by forms InitReboot (Granted offer) now exchange lease e = absurd (cc e)
+granted_by forms (Selecting offer) (Granted given) now exchange lease e = same_lease given lease e
+granted_by forms (Rebooting held) (Granted given) now exchange lease e = same_lease given lease e
+granted_by forms (Done bound) (Granted given) now exchange lease e = same_lease given lease e
+granted_by forms (Renewing bound) (Granted given) now exchange lease e = same_lease given lease e
+granted_by forms (Rebinding bound) (Granted given) now exchange lease e = same_lease given lease e
 
 -- the lease that a message grants has its fields
 has_fields : (message : DhcpV4Message) (lease : Lease) (times : Option LeaseTimes) → option_map Granted (option_map (lease_of message) times) ≡ Some (Granted lease) → HasFieldsOf message lease
@@ -108,11 +109,11 @@ pub lease_is_granted : (config : Config) (now : ℕ) (refuse : Bool) (packet : O
     IsEnded (protocol config) now old new ⊎ IsHeard (protocol config) now refuse packet old new → public_state new.state ≡ plain.Done lease → IsGranted config now refuse packet lease old
 lease_is_granted config now refuse packet lease old new (inl ended) reports = absurd (ended_has_none old.state _ lease (sym (ap public_state ended) ∙ reports))
 lease_is_granted config now refuse packet lease old new (inr h) reports =
-    let grants : h.answer ≡ Granted lease = granted_by old.state h.answer now h.exchange lease (sym (ap public_state h.next) ∙ reports) in
+    let grants : h.answer ≡ Granted lease = granted_by config.message_forms old.state h.answer now h.exchange lease (sym (ap public_state h.next) ∙ reports) in
     let xid : h.exchange.xid ≡ old.exchange.xid = same h.exchange h.open_attempt in
-    let read : (reading_of (awaited old.state) (message_for (awaited old.state) old.exchange.xid h.heard) h.words).value ≡ Some (Granted lease) =
-    ap (λ (id : ℕ). (reading_of (awaited old.state) (message_for (awaited old.state) id h.heard) h.words).value) (sym xid) ∙ (h.read ∙ ap (λ (a : Answer). Some a) grants) in
-    let of : Reads (awaited old.state) (message_for (awaited old.state) old.exchange.xid h.heard) lease = read_granted _ _ h.words lease read in
+    let read : (reading_of (awaited config.message_forms old.state) (message_for (awaited config.message_forms old.state) old.exchange.xid h.heard) h.words).value ≡ Some (Granted lease) =
+    ap (λ (id : ℕ). (reading_of (awaited config.message_forms old.state) (message_for (awaited config.message_forms old.state) id h.heard) h.words).value) (sym xid) ∙ (h.read ∙ ap (λ (a : Answer). Some a) grants) in
+    let of : Reads (awaited config.message_forms old.state) (message_for (awaited config.message_forms old.state) old.exchange.xid h.heard) lease = read_granted _ _ h.words lease read in
     record {
       heard = h.heard;
       message = of.of;
@@ -147,15 +148,15 @@ unfolding lease_of_option
 is_bound given lease e = ap (λ (o : Option Lease). plain.Done (lease_of_option o given)) e
 
 -- the one that is held after an answer is reported
-answered_reports : (state : ClientState) (answer : Answer) (now : ℕ) (exchange : Exchange) (lease : Lease) → held_lease (after_answer state answer now exchange).state ≡ Some lease →
-    public_state (after_answer state answer now exchange).state ≡ plain.Done lease
-answered_reports state Refused now exchange lease e = absurd (cc e)
-answered_reports InitReboot (Granted offer) now exchange lease e = absurd (cc e)
-answered_reports (Selecting offer) (Granted given) now exchange lease e = is_bound given lease e
-answered_reports (Rebooting held) (Granted given) now exchange lease e = is_bound given lease e
-answered_reports (Done bound) (Granted given) now exchange lease e = is_bound given lease e
-answered_reports (Renewing bound) (Granted given) now exchange lease e = is_bound given lease e
-answered_reports (Rebinding bound) (Granted given) now exchange lease e = is_bound given lease e
+answered_reports : (forms : DhcpV4MessageForms) (state : ClientState) (answer : Answer) (now : ℕ) (exchange : Exchange) (lease : Lease) → held_lease (after_answer forms state answer now exchange).state ≡ Some lease →
+    public_state (after_answer forms state answer now exchange).state ≡ plain.Done lease
+answered_reports forms state Refused now exchange lease e = absurd (cc e)
+answered_reports forms InitReboot (Granted offer) now exchange lease e = absurd (cc e)
+answered_reports forms (Selecting offer) (Granted given) now exchange lease e = is_bound given lease e
+answered_reports forms (Rebooting held) (Granted given) now exchange lease e = is_bound given lease e
+answered_reports forms (Done bound) (Granted given) now exchange lease e = is_bound given lease e
+answered_reports forms (Renewing bound) (Granted given) now exchange lease e = is_bound given lease e
+answered_reports forms (Rebinding bound) (Granted given) now exchange lease e = is_bound given lease e
 
 -- over every link: the lease that is held after a change was held before it, or is reported by it
 pub lease_is_reported : (config : Config) (now : ℕ) (refuse : Bool) (packet : Option Packet) (lease : Lease) (old new : View ClientState Exchange) →
@@ -163,4 +164,4 @@ pub lease_is_reported : (config : Config) (now : ℕ) (refuse : Bool) (packet : 
     (held_lease old.state ≡ Some lease) ⊎ (public_state new.state ≡ plain.Done lease)
 lease_is_reported config now refuse packet lease old new (inl ended) holds = inl (ended_keeps old.state _ lease (sym (ap held_lease ended) ∙ holds))
 lease_is_reported config now refuse packet lease old new (inr h) holds =
-    inr (ap public_state h.next ∙ answered_reports old.state h.answer now h.exchange lease (sym (ap held_lease h.next) ∙ holds))
+    inr (ap public_state h.next ∙ answered_reports config.message_forms old.state h.answer now h.exchange lease (sym (ap held_lease h.next) ∙ holds))

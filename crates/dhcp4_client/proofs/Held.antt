@@ -8,6 +8,7 @@ use Rattle.dhcp4_msg.specs.declared.message.DhcpV4Message.{DhcpV4Message}
 use Rattle.dhcp4_msg.specs.Options.{OptionMap, said_by}
 use Rattle.dhcp4_msg.specs.Value.{seconds_said}
 use Rattle.dhcp4_lease.specs.Config.{Config}
+use Rattle.dhcp4_lease.specs.declared.message_forms.DhcpV4MessageForms.{DhcpV4MessageForms}
 use Rattle.dhcp4_lease.specs.declared.lease.times.LeaseTimes.{LeaseTimes}
 use Rattle.dhcp4_lease.specs.Lease.{Lease, are_in_order, are_times_in_order, lease_of, ordered_times, read_times, times_of}
 use Rattle.dhcp_history.specs.declared.client.Client.{Client}
@@ -29,10 +30,10 @@ use Rattle.dhcp4_client.specs.declared.client_state.ClientState.TheVariants.{Ini
 use Rattle.dhcp4_client.specs.declared.client_state.Exchange.{Exchange}
 use Rattle.dhcp4_client.specs.declared.state.PlainState.{PlainState}
 use Rattle.dhcp4_client.specs.declared.state.PlainState.TheVariants as plain
-use Rattle.dhcp4_client.specs.Answer.{awaited, is_of_type, message_for, reading_of}
+use Rattle.dhcp4_client.specs.Answer.{awaited, is_of_type, reading_of}
 use Rattle.dhcp4_client.specs.Client.{can_begin, first_state}
 use Rattle.dhcp4_client.specs.Held.{KeepsLease, bound_lease, has_times_in_order}
-use Rattle.dhcp4_client.specs.Rules.{protocol, public_state, after_answer, after_end, ending_moment, held_lease, lease_end}
+use Rattle.dhcp4_client.specs.Rules.{protocol, public_state, after_answer, after_end, ending_moment, held_lease, lease_end, message_in}
 
 -- 1. The times of a lease are in order.
 
@@ -91,7 +92,7 @@ order_preserved config = record { ended = ended; answered = answered; cleaned = 
     ended (Renewing bound) exchange h = h
     ended (Rebinding bound) exchange h = refl
 
-    by_state : (state : ClientState) (lease : Lease) (now : ℕ) (exchange : Exchange) → are_times_in_order lease ≡ true → has_times_in_order (after_answer state (Granted lease) now exchange).state ≡ true
+    by_state : (state : ClientState) (lease : Lease) (now : ℕ) (exchange : Exchange) → are_times_in_order lease ≡ true → has_times_in_order (after_answer config.message_forms state (Granted lease) now exchange).state ≡ true
     by_state InitReboot lease now exchange h = h
     by_state (Selecting offer) lease now exchange h = h
     by_state (Rebooting held) lease now exchange h = h
@@ -100,10 +101,10 @@ order_preserved config = record { ended = ended; answered = answered; cleaned = 
     by_state (Rebinding bound) lease now exchange h = h
 
     answered : (state : ClientState) (exchange : Exchange) (packet : Packet) (words : List ℕ) (answer : Answer) (now : ℕ) → has_times_in_order state ≡ true →
-        ((protocol config).reading state exchange packet words).value ≡ Some answer → has_times_in_order (after_answer state answer now exchange).state ≡ true
+        ((protocol config).reading state exchange packet words).value ≡ Some answer → has_times_in_order (after_answer config.message_forms state answer now exchange).state ≡ true
     answered state exchange packet words Refused now h read = refl
     answered state exchange packet words (Granted lease) now h read =
-        by_state state lease now exchange (granted_ordered (awaited state) (message_for (awaited state) exchange.xid packet) words lease read)
+        by_state state lease now exchange (granted_ordered (awaited config.message_forms state) (message_in config.message_forms state exchange packet) words lease read)
 
 -- those of the lease with which it begins are
 pub first_ordered : (config : Config) (lease : Option Lease) → can_begin config lease ≡ true → has_times_in_order (first_state lease) ≡ true
@@ -182,28 +183,28 @@ granted_now now given bound e =
     let same : record { lease = given; since = now } ≡ bound = some_bound (record { lease = given; since = now }) bound e in
     record { since = sym (ap (λ (b : Bound Lease). b.since) same); reports = ap (λ (b : Bound Lease). plain.Done b.lease) same }
 
-answered_held : (state : ClientState) (answer : Answer) (now : ℕ) (exchange : Exchange) (bound : Bound Lease) → bound_lease (after_answer state answer now exchange).state ≡ Some bound →
-    IsGrantedNow now bound (after_answer state answer now exchange).state
-answered_held state Refused now exchange bound e = absurd (cc e)
-answered_held InitReboot (Granted offer) now exchange bound e = absurd (cc e)
-answered_held (Selecting offer) (Granted given) now exchange bound e = granted_now now given bound e
-answered_held (Rebooting held) (Granted given) now exchange bound e = granted_now now given bound e
-answered_held (Done held) (Granted given) now exchange bound e = granted_now now given bound e
-answered_held (Renewing held) (Granted given) now exchange bound e = granted_now now given bound e
-answered_held (Rebinding held) (Granted given) now exchange bound e = granted_now now given bound e
+answered_held : (forms : DhcpV4MessageForms) (state : ClientState) (answer : Answer) (now : ℕ) (exchange : Exchange) (bound : Bound Lease) → bound_lease (after_answer forms state answer now exchange).state ≡ Some bound →
+    IsGrantedNow now bound (after_answer forms state answer now exchange).state
+answered_held forms state Refused now exchange bound e = absurd (cc e)
+answered_held forms InitReboot (Granted offer) now exchange bound e = absurd (cc e)
+answered_held forms (Selecting offer) (Granted given) now exchange bound e = granted_now now given bound e
+answered_held forms (Rebooting held) (Granted given) now exchange bound e = granted_now now given bound e
+answered_held forms (Done held) (Granted given) now exchange bound e = granted_now now given bound e
+answered_held forms (Renewing held) (Granted given) now exchange bound e = granted_now now given bound e
+answered_held forms (Rebinding held) (Granted given) now exchange bound e = granted_now now given bound e
 
 now_bound : (now : ℕ) (given lease : Lease) → plain.Done given ≡ plain.Done lease → bound_now now given ≡ bound_now now lease
 now_bound now given lease e = ap (bound_now now) (done_lease given lease e)
 
-answered_bound : (state : ClientState) (answer : Answer) (now : ℕ) (exchange : Exchange) (lease : Lease) → public_state (after_answer state answer now exchange).state ≡ plain.Done lease →
-    (after_answer state answer now exchange).state ≡ bound_now now lease
-answered_bound state Refused now exchange lease e = absurd (cc e)
-answered_bound InitReboot (Granted offer) now exchange lease e = absurd (cc e)
-answered_bound (Selecting offer) (Granted given) now exchange lease e = now_bound now given lease e
-answered_bound (Rebooting held) (Granted given) now exchange lease e = now_bound now given lease e
-answered_bound (Done held) (Granted given) now exchange lease e = now_bound now given lease e
-answered_bound (Renewing held) (Granted given) now exchange lease e = now_bound now given lease e
-answered_bound (Rebinding held) (Granted given) now exchange lease e = now_bound now given lease e
+answered_bound : (forms : DhcpV4MessageForms) (state : ClientState) (answer : Answer) (now : ℕ) (exchange : Exchange) (lease : Lease) → public_state (after_answer forms state answer now exchange).state ≡ plain.Done lease →
+    (after_answer forms state answer now exchange).state ≡ bound_now now lease
+answered_bound forms state Refused now exchange lease e = absurd (cc e)
+answered_bound forms InitReboot (Granted offer) now exchange lease e = absurd (cc e)
+answered_bound forms (Selecting offer) (Granted given) now exchange lease e = now_bound now given lease e
+answered_bound forms (Rebooting held) (Granted given) now exchange lease e = now_bound now given lease e
+answered_bound forms (Done held) (Granted given) now exchange lease e = now_bound now given lease e
+answered_bound forms (Renewing held) (Granted given) now exchange lease e = now_bound now given lease e
+answered_bound forms (Rebinding held) (Granted given) now exchange lease e = now_bound now given lease e
 
 -- a state that has not ended has a lease that has not ended, if its times are in order
 end_later : (now since first last : ℕ) → nat_le first last ≡ true → has_come now (Some (since + 1000 * first)) ≡ false → has_come now (Some (since + 1000 * last)) ≡ false
@@ -258,9 +259,9 @@ keeps_lease gives moves config now (Ok (Some reported)) old new words words' lin
     }
     by before same (inr h) = record {
       granted = λ lease is.
-          h.next ∙ answered_bound before.state h.answer now h.exchange lease (sym (ap public_state h.next) ∙ (sym says ∙ same_state (Ok (Some reported)) reported (plain.Done lease) refl is));
+          h.next ∙ answered_bound config.message_forms before.state h.answer now h.exchange lease (sym (ap public_state h.next) ∙ (sym says ∙ same_state (Ok (Some reported)) reported (plain.Done lease) refl is));
       held = λ bound holds.
-          let is : IsGrantedNow now bound (after_answer before.state h.answer now h.exchange).state = answered_held before.state h.answer now h.exchange bound (sym (ap bound_lease h.next) ∙ holds) in
+          let is : IsGrantedNow now bound (after_answer config.message_forms before.state h.answer now h.exchange).state = answered_held config.message_forms before.state h.answer now h.exchange bound (sym (ap bound_lease h.next) ∙ holds) in
           inr (is.since, ap (λ (s : PlainState). Ok (Some s)) (says ∙ (ap public_state h.next ∙ is.reports)));
       lasts = λ is. absurd (cc is);
     }

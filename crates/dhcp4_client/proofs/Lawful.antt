@@ -20,12 +20,12 @@ discovery_wait_long count word = go (2 ^ count) (2 ^ (count + 2)) (pow_pos count
 -- how many changes one event can bring at most: the way down to the search, and back by an answer
 abbrev rank : ClientState → Bool → ℕ
 rank InitReboot false = 0
-rank (Selecting offer) false = 0
+rank (Selecting offer) false = 1
 rank (Rebooting held) false = 1
 rank (Done bound) false = 3
 rank (Renewing bound) false = 2
 rank (Rebinding bound) false = 1
-rank InitReboot true = 1
+rank InitReboot true = 2
 rank (Selecting offer) true = 4
 rank (Rebooting held) true = 4
 rank (Done bound) true = 6

@@ -1,5 +1,5 @@
 -- The traffic of a client's history: its waits, by the laws of histories.
-use Rattle.std.proofs.Common.{subst, ◌≡◌, ℕ, ◌+◌, ◌-◌, ◌*◌, ◌^◌, ◌≤◌, ◌<◌, List, refl, Bool, true, arith}
+use Rattle.std.proofs.Common.{subst, sym, ◌≡◌, ℕ, ◌+◌, ◌-◌, ◌*◌, ◌^◌, ◌≤◌, ◌<◌, List, refl, Bool, true, arith}
 use Rattle.std.specs.Prelude.{Option, All, nat_le}
 use Rattle.std.specs.List.{Contains}
 use Rattle.std.proofs.lemmas.Bool.{leb-true, le-leb}
@@ -13,13 +13,15 @@ use Rattle.dhcp_history.specs.BoundLease.{after}
 use Rattle.dhcp_history.specs.Bounds.{HoldsAtEntries, EndsAfter, HasAtMost, IsSparse, attempts_of, taken_count, IsKept, Distant, IsTakenDistant, KeepsDistance}
 use Rattle.dhcp_history.proofs.Traffic.{keeps_distance}
 use Rattle.dhcp4_lease.specs.Config.{Config}
+use Rattle.dhcp4_lease.specs.declared.message_forms.DhcpV4MessageForms.{DhcpV4MessageForms}
+use Rattle.dhcp4_lease.specs.declared.message_forms.DhcpV4MessageForms.TheVariants.{Rfc2131}
 use Rattle.dhcp4_lease.specs.Lease.{Lease}
 use Rattle.dhcp4_client.specs.declared.client_state.ClientState.{ClientState}
 use Rattle.dhcp4_client.specs.declared.client_state.ClientState.TheVariants.{InitReboot, Selecting, Rebooting, Done, Renewing, Rebinding}
 use Rattle.dhcp4_client.specs.declared.client_state.Exchange.{Exchange}
 use Rattle.dhcp4_client.specs.Bounds.{HalvesIn, GetsRarer, distance}
 use Rattle.dhcp4_client.specs.Client.{first_state}
-use Rattle.dhcp4_client.specs.Rules.{protocol}
+use Rattle.dhcp4_client.specs.Rules.{is_last_request, protocol}
 use Rattle.dhcp4_client.proofs.Lawful.{discovery_wait_long}
 
 -- a lease is renewed from T1 on, and rebound from T2 on
@@ -79,6 +81,18 @@ four config held = record {
   some = omega arith;
   count = λ exchange. exchange.retry_count;
   last = λ exchange h. le-leb 3 exchange.retry_count (omega (arith, h));
+  rises = λ exchange h. omega (arith, h);
+  keeps = λ exchange start words. omega arith;
+}
+
+-- so is an offer, by the forms of RFC 2131
+pub four_of_an_offer : (config : Config) → config.message_forms ≡ Rfc2131 → (offer : Lease) → EndsAfter (protocol config) (Selecting offer) 4
+four_of_an_offer config forms offer = record {
+  some = omega arith;
+  count = λ exchange. exchange.retry_count;
+  last = λ exchange h.
+      let fourth : is_last_request Rfc2131 exchange ≡ true = le-leb 3 exchange.retry_count (omega (arith, h)) in
+      subst (λ (chosen : DhcpV4MessageForms). is_last_request chosen exchange ≡ true) (sym forms) fourth;
   rises = λ exchange h. omega (arith, h);
   keeps = λ exchange start words. omega arith;
 }

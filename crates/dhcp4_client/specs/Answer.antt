@@ -1,8 +1,11 @@
 -- What a packet answers to an open attempt, RFC 2131 sections 3.1 and 4.4: it is carried as the
 -- state awaits, to port 68; it has the transaction id of the attempt; and it is of the awaited
 -- type, or a refusal.
-use Rattle.std.specs.Prelude.{ℕ, ◌==◌, ◌&&◌, ◌||◌, Bool, true, false, List, Option, Some, None, option_map, if◌then◌else◌}
+use Rattle.std.specs.Prelude.{ℕ, ◌==◌, ◌&&◌, ◌||◌, Bool, false, List, Option, Some, None, option_map, unwrap_or, if◌then◌else◌}
+use Rattle.std.specs.Net.Addr.{ipv4_octets}
 use Rattle.std.specs.Option.{option_map_or}
+use Rattle.std.specs.Str.{bytes_eq}
+use Rattle.std.specs.declared.net.Ipv4Addr.{Ipv4Addr}
 use Rattle.dhcp_wire.specs.Field.{◌>>=◌}
 use Rattle.dhcp_clock.specs.declared.link.Packet.{Packet}
 use Rattle.dhcp_clock.specs.declared.link.PacketKind.{PacketKind}
@@ -13,29 +16,48 @@ use Rattle.dhcp_frame.specs.declared.frame.Frame.{Frame}
 use Rattle.dhcp4_msg.specs.declared.message.DhcpV4Message.{DhcpV4Message}
 use Rattle.dhcp4_msg.specs.declared.message_type.DhcpV4MessageType.{DhcpV4MessageType}
 use Rattle.dhcp4_msg.specs.declared.message_type.DhcpV4MessageType.TheVariants.{Offer, Ack, Nack}
-use Rattle.dhcp4_msg.specs.Message.{read_message}
+use Rattle.dhcp4_msg.specs.Message.{no_address, read_message}
 use Rattle.dhcp4_msg.specs.MessageType.{type_number}
-use Rattle.dhcp4_msg.specs.Options.{message_type}
-use Rattle.dhcp4_lease.specs.Lease.{read_lease}
+use Rattle.dhcp4_msg.specs.Options.{message_type, server_identifier}
+use Rattle.dhcp4_lease.specs.declared.message_forms.DhcpV4MessageForms.{DhcpV4MessageForms}
+use Rattle.dhcp4_lease.specs.declared.message_forms.DhcpV4MessageForms.TheVariants.{Mozim, Rfc2131}
+use Rattle.dhcp4_lease.specs.Lease.{Lease, read_lease}
 use Rattle.dhcp4_client.specs.declared.answer.Answer.{Answer}
 use Rattle.dhcp4_client.specs.declared.answer.Answer.TheVariants.{Granted, Refused}
 use Rattle.dhcp4_client.specs.declared.answer.Awaited.{Awaited}
+use Rattle.dhcp4_client.specs.declared.answer.Refuser.{Refuser}
+use Rattle.dhcp4_client.specs.declared.answer.Refuser.TheVariants.{Nobody, AnyServer, Server}
 use Rattle.dhcp4_client.specs.declared.client_state.ClientState.{ClientState}
 use Rattle.dhcp4_client.specs.declared.client_state.ClientState.TheVariants.{InitReboot, Selecting, Rebooting, Done, Renewing, Rebinding}
+use Rattle.dhcp4_client.specs.Message.{renewal_server}
 
--- an Ack or a Nack, carried so
-abbrev pub ack_in : PacketKind → Awaited
-ack_in carrier = record { carrier = carrier; grant = Ack; may_refuse = true }
+-- Who may refuse a request of this offer or lease, RFC 2131 section 3.1: by its forms the server
+-- that is asked, or that granted the lease; by mozim's any server.
+abbrev pub refuser_of : DhcpV4MessageForms → Lease → Refuser
+refuser_of Mozim lease = AnyServer
+refuser_of Rfc2131 lease = Server lease.srv_id
 
--- what a state awaits
-abbrev pub awaited : ClientState → Option Awaited
-awaited InitReboot =
-    Some (record { carrier = carriers.Frame; grant = Offer; may_refuse = false })
-awaited (Selecting offer) = Some (ack_in carriers.Frame)
-awaited (Rebooting held) = Some (ack_in carriers.Frame)
-awaited (Done bound) = None
-awaited (Renewing bound) = Some (ack_in carriers.Payload)
-awaited (Rebinding bound) = Some (ack_in carriers.Frame)
+-- how the answer to a renewal is carried: as the renewal is that goes to this server, or to any
+abbrev pub renewal_carrier : Option Ipv4Addr → PacketKind
+renewal_carrier None = carriers.Frame
+renewal_carrier (Some server) = carriers.Payload
+
+-- an Ack, carried so, or a Nack
+abbrev pub ack_in : PacketKind → Refuser → Awaited
+ack_in carrier refuser = record { carrier = carrier; grant = Ack; refuser = refuser }
+
+-- What a state awaits. In REBOOTING any server may refuse: none is asked by name (RFC 2131, section
+-- 3.2).
+abbrev pub awaited : DhcpV4MessageForms → ClientState → Option Awaited
+awaited forms InitReboot =
+    Some (record { carrier = carriers.Frame; grant = Offer; refuser = Nobody })
+awaited forms (Selecting offer) = Some (ack_in carriers.Frame (refuser_of forms offer))
+awaited forms (Rebooting held) = Some (ack_in carriers.Frame AnyServer)
+awaited forms (Done bound) = None
+awaited forms (Renewing bound) =
+    Some (ack_in (renewal_carrier (renewal_server forms bound.lease))
+    (refuser_of forms bound.lease))
+awaited forms (Rebinding bound) = Some (ack_in carriers.Frame (refuser_of forms bound.lease))
 
 -- the payload of a frame to the port of a client
 abbrev pub payload_to_client : Frame → Option (List ℕ)
@@ -60,14 +82,24 @@ is_of_type kind message =
     option_map_or (λ found. type_number found == type_number kind)
     (message_type message.options) false
 
--- whether a message refuses a request, where it may
-abbrev pub is_refusal : Awaited → DhcpV4Message → Bool
-is_refusal awaited message = awaited.may_refuse && is_of_type Nack message
+-- whether a message is from the server with this identifier, option 54 (RFC 2132, section 9.7); one
+-- without it is from 0.0.0.0
+abbrev pub is_from : Ipv4Addr → DhcpV4Message → Bool
+is_from server message =
+    bytes_eq (ipv4_octets (unwrap_or (server_identifier message.options) no_address))
+    (ipv4_octets server)
+
+-- whether a message is a Nack of one who may refuse
+abbrev pub is_refusal : Refuser → DhcpV4Message → Bool
+is_refusal Nobody message = false
+is_refusal AnyServer message = is_of_type Nack message
+is_refusal (Server server) message = is_of_type Nack message && is_from server message
 
 -- whether a message has the transaction id, and the type that is awaited or that of a refusal
 abbrev pub concerns : Awaited → ℕ → DhcpV4Message → Bool
 concerns awaited xid message =
-    (message.xid == xid) && (is_of_type awaited.grant message || is_refusal awaited message)
+    (message.xid == xid)
+    && (is_of_type awaited.grant message || is_refusal awaited.refuser message)
 
 -- the message of a packet that concerns an attempt with this transaction id
 abbrev pub concerning : Awaited → ℕ → DhcpV4Message → Option DhcpV4Message

@@ -25,6 +25,10 @@ pub record GetsRarer (stay : Stay ClientState Handed) : Type 0 where
 abbrev pub HasFourRequests : Stay ClientState Handed → Type 0
 HasFourRequests = TakesAtMost 4 Rebooting
 
+-- so is an offer, where a client gives it up
+abbrev pub HasFourRequestsOfAnOffer : Stay ClientState Handed → Type 0
+HasFourRequestsOfAnOffer = TakesAtMost 4 Selecting
+
 -- how far apart the messages of a state are at least, in milliseconds
 abbrev pub distance : ClientState → ℕ
 distance InitReboot = 3000

@@ -26,7 +26,7 @@ pub record IsGranted (config : Config) (now : ℕ) (refuse : Bool) (packet : Opt
   pub expected : Awaited
   pub asked : asks (protocol config) now refuse old ≡ true
   pub given : packet ≡ Some heard
-  pub awaits : awaited old.state ≡ Some expected
+  pub awaits : awaited config.message_forms old.state ≡ Some expected
   pub carried : message_for (Some expected) old.exchange.xid heard ≡ Some message
   pub grants : is_of_type expected.grant message ≡ true
   pub fields : HasFieldsOf message lease

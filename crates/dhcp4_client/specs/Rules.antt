@@ -1,4 +1,6 @@
--- The table of states, RFC 2131 section 4.4: one function for each column, every state named.
+-- The table of states, RFC 2131 section 4.4: one function for each column, every state named. Three
+-- columns depend on the forms of the messages: which attempt is the last, which packets answer, and
+-- what follows an answer.
 use Rattle.std.specs.Prelude.{ℕ, ◌+◌, ◌-◌, ◌^◌, ◌==◌, min, nat_le, Bool, true, false, List, drop, Option, Some, None, is_some, if◌then◌else◌}
 use Rattle.dhcp_clock.specs.declared.link.Packet.{Packet}
 use Rattle.dhcp_clock.specs.declared.link.Handed.{Handed}
@@ -8,6 +10,9 @@ use Rattle.dhcp_history.specs.declared.rules.AttemptStart.{AttemptStart}
 use Rattle.dhcp_history.specs.BoundLease.{after}
 use Rattle.dhcp_history.specs.declared.rules.NewAttempt.{NewAttempt}
 use Rattle.dhcp_history.specs.Protocol.{Protocol, NextState}
+use Rattle.dhcp4_msg.specs.declared.message.DhcpV4Message.{DhcpV4Message}
+use Rattle.dhcp4_lease.specs.declared.message_forms.DhcpV4MessageForms.{DhcpV4MessageForms}
+use Rattle.dhcp4_lease.specs.declared.message_forms.DhcpV4MessageForms.TheVariants.{Mozim, Rfc2131}
 use Rattle.dhcp4_lease.specs.Config.{Config}
 use Rattle.dhcp4_lease.specs.Lease.{Lease}
 use Rattle.dhcp4_client.specs.declared.answer.Answer.{Answer}
@@ -65,7 +70,7 @@ pause (Renewing bound) exchange words = undrawn 0 words
 pause (Rebinding bound) exchange words = undrawn 0 words
 
 -- The wait in INIT, REQUESTING and REBOOTING, RFC 2131 section 4.1. The longest is 62 to 64
--- seconds, so that none is longer than the RFC allows. Since the count goes on from INIT to
+-- seconds, so that none is longer than the RFC allows. Where the count goes on from INIT to
 -- REQUESTING, the first Request of an offer may have a longer wait than 5 seconds.
 abbrev pub growing_wait : Exchange → List ℕ → Drawn ℕ
 growing_wait exchange words = record {
@@ -105,26 +110,41 @@ abbrev pub after_wait : Exchange → Exchange
 after_wait exchange =
     record exchange { retry_count = min (exchange.retry_count + 1) (2 ^ 32 - 1) }
 
--- A lease that was held before is requested four times, and an offer until an answer comes or the
--- time limit is over. By RFC 2131 section 3.1 a client gives up an offer after some requests, four
--- in its example, and begins its search anew.
-abbrev pub is_last_attempt : ClientState → Exchange → Bool
-is_last_attempt InitReboot exchange = false
-is_last_attempt (Selecting offer) exchange = false
-is_last_attempt (Rebooting held) exchange = nat_le 3 exchange.retry_count
-is_last_attempt (Done bound) exchange = false
-is_last_attempt (Renewing bound) exchange = false
-is_last_attempt (Rebinding bound) exchange = false
+-- whether three requests had no answer, so that the fourth is the last one
+abbrev pub is_fourth : Exchange → Bool
+is_fourth exchange = nat_le 3 exchange.retry_count
+
+-- Whether this request of an offer is the last one. By RFC 2131 section 3.1 a client gives up an
+-- offer after some requests, four in its example, and begins its search anew; by mozim it requests
+-- it until an answer comes or the time limit is over.
+abbrev pub is_last_request : DhcpV4MessageForms → Exchange → Bool
+is_last_request Mozim exchange = false
+is_last_request Rfc2131 exchange = is_fourth exchange
+
+-- a lease that was held before is requested four times
+abbrev pub is_last_attempt : DhcpV4MessageForms → ClientState → Exchange → Bool
+is_last_attempt forms InitReboot exchange = false
+is_last_attempt forms (Selecting offer) exchange = is_last_request forms exchange
+is_last_attempt forms (Rebooting held) exchange = is_fourth exchange
+is_last_attempt forms (Done bound) exchange = false
+is_last_attempt forms (Renewing bound) exchange = false
+is_last_attempt forms (Rebinding bound) exchange = false
+
+-- the message of a packet that concerns an attempt in a state
+abbrev pub message_in : DhcpV4MessageForms → ClientState → Exchange → Packet → Option DhcpV4Message
+message_in forms state exchange packet =
+    message_for (awaited forms state) exchange.xid packet
 
 -- what a packet answers
-abbrev pub reading : ClientState → Exchange → Packet → List ℕ → Drawn (Option Answer)
-reading state exchange packet words =
-    reading_of (awaited state) (message_for (awaited state) exchange.xid packet) words
+abbrev pub reading : DhcpV4MessageForms → ClientState → Exchange → Packet → List ℕ →
+    Drawn (Option Answer)
+reading forms state exchange packet words =
+    reading_of (awaited forms state) (message_in forms state exchange packet) words
 
 -- Reading a packet may need memory only if its carrier and its transaction id are those of the
--- attempt, and its type is one that may answer.
-abbrev pub needs_memory : ClientState → Exchange → Packet → Bool
-needs_memory state exchange packet = is_some (message_for (awaited state) exchange.xid packet)
+-- attempt, and its type, and the server of a Nack, are such that it may answer.
+abbrev pub needs_memory : DhcpV4MessageForms → ClientState → Exchange → Packet → Bool
+needs_memory forms state exchange packet = is_some (message_in forms state exchange packet)
 
 -- the next state, with the retry count as it is
 abbrev pub entering : ClientState → Exchange → NextState ClientState Exchange
@@ -143,19 +163,29 @@ abbrev pub bound_from : ℕ → Lease → Exchange → NextState ClientState Exc
 bound_from now lease exchange =
     starting (Done (record { lease = lease; since = now })) exchange
 
+-- the exchange with which a client requests an offer: by RFC 2131 its count begins anew, by mozim
+-- it goes on
+abbrev pub requesting : DhcpV4MessageForms → Exchange → Exchange
+requesting Mozim exchange = exchange
+requesting Rfc2131 exchange = restarted exchange
+
 -- the state after a lease was offered or granted; BOUND awaits none
-abbrev pub after_grant : ClientState → Lease → ℕ → Exchange → NextState ClientState Exchange
-after_grant InitReboot offer now exchange = entering (Selecting offer) exchange
-after_grant (Selecting offer) lease now exchange = bound_from now lease exchange
-after_grant (Rebooting held) lease now exchange = bound_from now lease exchange
-after_grant (Done bound) lease now exchange = bound_from now lease exchange
-after_grant (Renewing bound) lease now exchange = bound_from now lease exchange
-after_grant (Rebinding bound) lease now exchange = bound_from now lease exchange
+abbrev pub after_grant : DhcpV4MessageForms → ClientState → Lease → ℕ → Exchange →
+    NextState ClientState Exchange
+after_grant forms InitReboot offer now exchange =
+    entering (Selecting offer) (requesting forms exchange)
+after_grant forms (Selecting offer) lease now exchange = bound_from now lease exchange
+after_grant forms (Rebooting held) lease now exchange = bound_from now lease exchange
+after_grant forms (Done bound) lease now exchange = bound_from now lease exchange
+after_grant forms (Renewing bound) lease now exchange = bound_from now lease exchange
+after_grant forms (Rebinding bound) lease now exchange = bound_from now lease exchange
 
 -- the state after an answer; a refusal leads to INIT, with the retry count as it is
-abbrev pub after_answer : ClientState → Answer → ℕ → Exchange → NextState ClientState Exchange
-after_answer state (Granted lease) now exchange = after_grant state lease now exchange
-after_answer state Refused now exchange = entering InitReboot exchange
+abbrev pub after_answer : DhcpV4MessageForms → ClientState → Answer → ℕ → Exchange →
+    NextState ClientState Exchange
+after_answer forms state (Granted lease) now exchange =
+    after_grant forms state lease now exchange
+after_answer forms state Refused now exchange = entering InitReboot exchange
 
 -- the state after the end of one; to REBINDING the count begins anew, else it is kept
 abbrev pub after_end : ClientState → Exchange → NextState ClientState Exchange
@@ -197,10 +227,10 @@ protocol config = record {
   pause = pause;
   attempt = attempt config;
   after_wait = after_wait;
-  is_last_attempt = is_last_attempt;
-  reading = reading;
+  is_last_attempt = is_last_attempt config.message_forms;
+  reading = reading config.message_forms;
   ending_moment = ending_moment;
-  after_answer = after_answer;
+  after_answer = after_answer config.message_forms;
   after_end = after_end;
   after_clean_up = after_clean_up;
   held_lease = held_lease;

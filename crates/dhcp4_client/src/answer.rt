@@ -9,15 +9,17 @@ ghost use Rattle.dhcp_clock.specs.Words.{DrawsBy};
 ghost use Rattle.dhcp_history.specs.Rules.{GivesDrawn};
 ghost use Rattle.dhcp4_lease.specs.Lease.{read_lease};
 ghost use Rattle.dhcp4_client.specs.Answer as answers;
+ghost use Rattle.dhcp4_client.specs.Message.{renewal_server};
 
 use crate::client_state::ClientState;
-use crate::message::CLIENT_PORT;
+use crate::message::{CLIENT_PORT, renewal_server};
 use dhcp_clock::{Packet, PacketKind, Words};
 use dhcp_frame::FrameView;
 use dhcp_wire::{DhcpError, none_if_refused};
-use dhcp4_lease::DhcpV4Lease;
+use dhcp4_lease::{DhcpV4Lease, DhcpV4MessageForms};
 use dhcp4_msg::{DhcpV4MessageType, DhcpV4View};
 use std::alloc::Global;
+use std::net::Ipv4Addr;
 
 /// What a packet answers.
 #[derive(Drop)]
@@ -35,37 +37,94 @@ pub struct Awaited {
     pub carrier: PacketKind,
     /// The type of the message that offers or grants a lease.
     pub grant: DhcpV4MessageType,
-    /// Whether a Nack refuses the request.
-    pub may_refuse: bool,
+    /// Whose Nack refuses the request.
+    pub refuser: Refuser,
+}
+
+/// Who may refuse a request, by a Nack.
+#[derive(Clone, Copy, Debug, PartialEq, Eq)]
+pub enum Refuser {
+    /// Nobody: a search is not refused.
+    Nobody,
+    /// Any server.
+    AnyServer,
+    /// The server with this identifier, option 54 (RFC 2132, section 9.7); 0.0.0.0 is that of a
+    /// message without the option.
+    Server(Ipv4Addr),
+}
+
+impl Refuser {
+    // Who may refuse a request of this offer or lease.
+    fn of(forms: DhcpV4MessageForms, lease: &DhcpV4Lease) -> Refuser
+        ensures { result ≡ answers.refuser_of forms lease.now }
+    {
+        match forms {
+            DhcpV4MessageForms::Mozim => Refuser::AnyServer,
+            DhcpV4MessageForms::Rfc2131 => Refuser::Server(lease.srv_id),
+        }
+    }
+
+    // Whether a message is a Nack of one who may refuse.
+    fn sends(self, message: &DhcpV4View) -> bool
+        ensures { result ≡ answers.is_refusal self message.now }
+    {
+        match self {
+            Refuser::Nobody => false,
+            Refuser::AnyServer => is_of_type(DhcpV4MessageType::Nack, message),
+            Refuser::Server(server) => {
+                is_of_type(DhcpV4MessageType::Nack, message) && is_from(server, message)
+            }
+        }
+    }
 }
 
 impl Awaited {
-    /// What a state awaits.
-    pub fn in_state(state: &ClientState) -> Option<Awaited>
-        ensures { result ≡ answers.awaited state.now }
+    /// What a state awaits. In REBOOTING any server may refuse: none is asked by name (RFC 2131,
+    /// section 3.2).
+    pub fn in_state(forms: DhcpV4MessageForms, state: &ClientState) -> Option<Awaited>
+        ensures { result ≡ answers.awaited forms state.now }
     {
         match state {
             ClientState::InitReboot => Some(Awaited {
                 carrier: PacketKind::Frame,
                 grant: DhcpV4MessageType::Offer,
-                may_refuse: false,
+                refuser: Refuser::Nobody,
             }),
-            ClientState::Selecting(_) => Some(Awaited::ack_in(PacketKind::Frame)),
-            ClientState::Rebooting(_) => Some(Awaited::ack_in(PacketKind::Frame)),
+            ClientState::Selecting(offer) => {
+                Some(Awaited::ack_in(PacketKind::Frame, Refuser::of(forms, offer)))
+            }
+            ClientState::Rebooting(_) => {
+                Some(Awaited::ack_in(PacketKind::Frame, Refuser::AnyServer))
+            }
             ClientState::Done(_) => None,
-            ClientState::Renewing(_) => Some(Awaited::ack_in(PacketKind::Payload)),
-            ClientState::Rebinding(_) => Some(Awaited::ack_in(PacketKind::Frame)),
+            ClientState::Renewing(bound) => Some(Awaited::renewed(forms, bound.lease())),
+            ClientState::Rebinding(bound) => {
+                Some(Awaited::ack_in(PacketKind::Frame, Refuser::of(forms, bound.lease())))
+            }
         }
     }
 
-    // An Ack or a Nack, carried so.
-    fn ack_in(carrier: PacketKind) -> Awaited
-        ensures { result ≡ answers.ack_in carrier }
+    // The answer to a renewal of this lease: it is carried as the renewal is.
+    fn renewed(forms: DhcpV4MessageForms, lease: &DhcpV4Lease) -> Awaited
+        ensures { result ≡ answers.ack_in
+            (answers.renewal_carrier (renewal_server forms lease.now))
+            (answers.refuser_of forms lease.now) }
+    {
+        let carrier = match renewal_server(forms, lease) {
+            None => PacketKind::Frame,
+            Some(_) => PacketKind::Payload,
+        };
+        Awaited::ack_in(carrier, Refuser::of(forms, lease))
+    }
+
+    // An Ack, carried so, or a Nack.
+    fn ack_in(carrier: PacketKind, refuser: Refuser) -> Awaited
+        ensures { result ≡ answers.ack_in carrier refuser }
     {
         Awaited {
             carrier,
             grant: DhcpV4MessageType::Ack,
-            may_refuse: true,
+            refuser,
         }
     }
 }
@@ -130,9 +189,16 @@ fn payload_of_frame(bytes: &[u8]) -> Option<&[u8]>
 fn concerns(awaited: Awaited, xid: u32, message: &DhcpV4View) -> bool
     ensures { result ≡ answers.concerns awaited xid message.now }
 {
-    message.xid() == xid
-        && (is_of_type(awaited.grant, message)
-            || (awaited.may_refuse && is_of_type(DhcpV4MessageType::Nack, message)))
+    message.xid() == xid && (is_of_type(awaited.grant, message) || awaited.refuser.sends(message))
+}
+
+// Whether a message is from the server with this identifier.
+#[tactic(auto, using(std::proofs::lemmas::Grind::common_steps))]
+fn is_from(server: Ipv4Addr, message: &DhcpV4View) -> bool
+    ensures { result ≡ answers.is_from server message.now }
+{
+    let identifier = message.server_identifier().unwrap_or(Ipv4Addr::UNSPECIFIED);
+    identifier.octets() == server.octets()
 }
 
 // Whether a message is of this type.

@@ -104,7 +104,8 @@ impl DhcpV4Client {
         link: &mut L,
     ) -> Result<Option<DhcpV4State>, DhcpError>
         requires { now < 2 ^ 60 }
-        ensures ran { IsRun protocol plain_state needs_memory now result
+        ensures ran { IsRun protocol plain_state (needs_memory self.old.config.message_forms)
+            now result
             (seen self.old (W.left words.old) (L.shown link.old) (L.faults link.old))
             (seen self.new (W.left words.new) (L.shown link.new) (L.faults link.new)) }
         ensures traced { UnlessNoMemory (run_answer plain_state result)

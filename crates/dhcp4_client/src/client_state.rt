@@ -70,8 +70,9 @@ pub struct Exchange {
     /// The transaction id, which the client drew at its start.
     pub xid: u32,
     /// How many attempts that the link took had no answer when their wait was over, since `init`,
-    /// or since the client last entered BOUND or REBINDING. So it counts on from INIT to
-    /// REQUESTING; and a Nack, the last request in REBOOTING, the end of a lease, a clean-up and a
-    /// release lead to INIT with the count as it is. It stays at 2^32 - 1 once it is there.
+    /// or since the client last entered BOUND or REBINDING, or by the forms of RFC 2131 REQUESTING;
+    /// by those of mozim it counts on from INIT to REQUESTING. A Nack, the last request in
+    /// REQUESTING or REBOOTING, the end of a lease, a clean-up and a release lead to INIT with the
+    /// count as it is. It stays at 2^32 - 1 once it is there.
     pub retry_count: u32,
 }

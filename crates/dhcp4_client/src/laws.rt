@@ -19,10 +19,16 @@ ghost use Rattle.dhcp_history.specs.Laws.{KeepsLaws};
 ghost use Rattle.dhcp_history.specs.Protocol.{Lawful};
 ghost use Rattle.dhcp_history.specs.Script.{Script};
 ghost use Rattle.dhcp4_lease.specs.Config.{Config};
+ghost use Rattle.dhcp4_lease.specs.declared.message_forms.DhcpV4MessageForms.TheVariants.{Rfc2131};
 ghost use Rattle.dhcp4_client.specs.declared.client_state.ClientState.{ClientState};
 ghost use Rattle.dhcp4_client.specs.declared.client_state.Exchange.{Exchange};
 ghost use Rattle.dhcp4_lease.specs.Lease.{Lease};
-ghost use Rattle.dhcp4_client.specs.Bounds.{GetsRarer, HasFourRequests, distance};
+ghost use Rattle.dhcp4_client.specs.Bounds.{
+  GetsRarer,
+  HasFourRequests,
+  HasFourRequestsOfAnOffer,
+  distance,
+};
 ghost use Rattle.dhcp4_client.specs.Client.{first_state};
 ghost use Rattle.dhcp4_client.specs.Rules.{held_lease, protocol, public_state};
 ghost use Rattle.dhcp4_client.specs.declared.state.PlainState.{PlainState};
@@ -94,6 +100,17 @@ pub fn requests_get_rarer(client: &DhcpV4Client)
 pub fn four_requests_of_a_lease(client: &DhcpV4Client)
     ensures { (script : Script Packet ClientState Exchange) →
         All HasFourRequests (history (protocol client.now.config) script) }
+{
+    laws::attempts_run_out(&client.rules);
+}
+
+/// In a history of a client that has the message forms of RFC 2131 an offer is requested at most
+/// four times in a stay: after the fourth request without an answer it begins its search anew
+/// (section 3.1).
+pub fn four_requests_of_an_offer(client: &DhcpV4Client)
+    ensures { client.now.config.message_forms ≡ Rfc2131 →
+        (script : Script Packet ClientState Exchange) →
+        All HasFourRequestsOfAnOffer (history (protocol client.now.config) script) }
 {
     laws::attempts_run_out(&client.rules);
 }

@@ -12,8 +12,8 @@ mod state;
 
 pub use client::DhcpV4Client;
 pub use dhcp4_lease::{
-    DhcpV4Config, DhcpV4Lease, built_messages_read_back, discovery_is_short, new_discovery,
-    new_rebind, new_reboot_request, new_release, new_renew, new_request, requests_are_short,
-    usual_times_are_in_order,
+    DhcpV4Config, DhcpV4Lease, DhcpV4MessageForms, built_messages_read_back, discovery_is_short,
+    new_discovery, new_rebind, new_reboot_request, new_release, new_renew, new_request,
+    requests_are_short, usual_times_are_in_order,
 };
 pub use state::{DhcpV4State, PlainState};

@@ -1,5 +1,5 @@
-//! What a client hands to its link, RFC 2131 section 4.1 and table 5: each message with its
-//! carrier.
+//! What a client hands to its link, RFC 2131 sections 4.1 and 4.3.6, tables 4 and 5: each message
+//! with its carrier.
 
 ghost use Rattle.std.specs.Prelude.{◌≡◌, ◌≤◌, IfOk, IsTrue, length, option_copied};
 ghost use Rattle.dhcp_wire.specs.Outcome.{Makes};
@@ -15,8 +15,8 @@ use dhcp_clock::Handed;
 use dhcp_frame::{Frame, write_frame};
 use dhcp_wire::{BROADCAST_MAC_ADDRESS, BufferMut, Bytes, DhcpError};
 use dhcp4_lease::{
-    DhcpV4Config, DhcpV4Lease, discovery_is_short, new_discovery, new_rebind, new_reboot_request,
-    new_release, new_renew, new_request, requests_are_short,
+    DhcpV4Config, DhcpV4Lease, DhcpV4MessageForms, discovery_is_short, new_discovery, new_rebind,
+    new_reboot_request, new_release, new_renew, new_request, requests_are_short, server_of,
 };
 use dhcp4_msg::DhcpV4Message;
 use std::alloc::Global;
@@ -43,9 +43,8 @@ pub fn attempt_message(
     with_carrier(alloc, config, state, payload)
 }
 
-/// The release of a lease by a client that holds this one or none. Its `ciaddr` is 0, and option 50
-/// is the address; by RFC 2131 table 5 `ciaddr` is the address, and option 50 is absent. Out of
-/// memory is the only error.
+/// The release of a lease by a client that holds this one or none: as a proxy, or without a lease
+/// that it holds, in a frame; else in a payload. Out of memory is the only error.
 pub fn release_message(
     alloc: Global,
     xid: u32,
@@ -59,10 +58,35 @@ pub fn release_message(
 {
     let payload = release_bytes(alloc, xid, config, lease)?;
     match held {
-        Some(held) if !config.is_proxy => Ok(to_server(held, payload)),
+        Some(held) if !config.is_proxy => Ok(payload_release(config, held, lease, payload)),
         Some(_) => framed_release(alloc, config, lease, payload),
         None => framed_release(alloc, config, lease, payload),
     }
+}
+
+// The server to which the release of a lease goes: by RFC 2131 section 4.4.6 the server of that
+// lease; by mozim's form this next server.
+fn release_server(forms: DhcpV4MessageForms, next_server: Ipv4Addr, lease: &DhcpV4Lease) -> Ipv4Addr
+    ensures { result ≡ messages.release_server forms next_server lease.now }
+{
+    match forms {
+        DhcpV4MessageForms::Mozim => next_server,
+        DhcpV4MessageForms::Rfc2131 => server_of(lease),
+    }
+}
+
+// The release of a lease in a payload, from the address of the lease that is held.
+fn payload_release(
+    config: &DhcpV4Config,
+    held: &DhcpV4Lease,
+    lease: &DhcpV4Lease,
+    payload: Bytes,
+) -> Handed
+    ensures { result ≡ Handed.Udp4 held.now.yiaddr (messages.release_server
+        config.now.message_forms held.now.siaddr lease.now) payload }
+{
+    let server = release_server(config.message_forms(), held.siaddr, lease);
+    Handed::Udp4(held.yiaddr, server, payload)
 }
 
 // The release of a lease in a frame, from its address to its server, with this payload.
@@ -76,14 +100,8 @@ fn framed_release(
     ensures { Makes (λ message. message) result
         (Handed.Frame (frame_bytes (messages.release_frame config.now lease.now payload))) }
 {
-    frame_to(
-        alloc,
-        config,
-        lease.srv_mac,
-        lease.yiaddr,
-        lease.siaddr,
-        payload,
-    )
+    let server = release_server(config.message_forms(), lease.siaddr, lease);
+    frame_to(alloc, config, lease.srv_mac, lease.yiaddr, server, payload)
 }
 
 // The bytes of the release of a lease.
@@ -112,7 +130,8 @@ fn payload_of(
 ) -> Result<Bytes, DhcpError>
     requires { IsTrue (is_within_limits config.now) }
     ensures bytes { Makes (λ bytes. bytes) result
-        (messages.message_bytes xid config.now (messages.row state.now)) }
+        (messages.message_bytes xid config.now
+        (messages.row config.now.message_forms state.now)) }
     ensures short { IfOk result (λ bytes. length bytes ≤ most_payload) }
 {
     has_short_message(config, state);
@@ -120,8 +139,8 @@ fn payload_of(
     bytes_of(alloc, &message)
 }
 
-// The message of a state. That of RENEWING and REBINDING has options 50 and 54, which RFC 2131
-// section 4.3.2 forbids there.
+// The message of a state. That of RENEWING and REBINDING has, by mozim's form, options 50 and 54,
+// which RFC 2131 section 4.3.2 forbids there.
 fn message_of(
     alloc: Global,
     xid: u32,
@@ -130,7 +149,8 @@ fn message_of(
 ) -> Result<DhcpV4Message, DhcpError>
     requires { IsTrue (is_within_limits config.now) }
     ensures { Makes (λ message. message) result
-        (table.table_message xid config.now (messages.row state.now)) }
+        (table.table_message xid config.now
+        (messages.row config.now.message_forms state.now)) }
 {
     match state {
         ClientState::InitReboot => new_discovery(alloc, xid, config),
@@ -145,7 +165,7 @@ fn message_of(
 // The message of each state is short.
 fn has_short_message(config: &DhcpV4Config, state: &ClientState)
     requires { IsTrue (is_within_limits config.now) }
-    ensures { RowIsShort config.now (messages.row state.now) }
+    ensures { RowIsShort config.now (messages.row config.now.message_forms state.now) }
 {
     match state {
         ClientState::InitReboot => discovery_is_short(config),
@@ -166,12 +186,34 @@ fn bytes_of(alloc: Global, message: &DhcpV4Message) -> Result<Bytes, DhcpError>
     Ok(buffer.into_bytes())
 }
 
-// A payload from the address of a lease to its `siaddr`. By RFC 2131 section 4.4.5 it goes to the
-// server that granted the lease, whose address may be another.
-fn to_server(lease: &DhcpV4Lease, payload: Bytes) -> Handed
-    ensures { result ≡ messages.to_server lease.now payload }
+/// The server that renews a lease, to which its renewals go: by RFC 2131 section 4.4.5 the one that
+/// granted it, by its identifier, if it has one; by mozim its next server, `siaddr`.
+pub fn renewal_server(forms: DhcpV4MessageForms, lease: &DhcpV4Lease) -> Option<Ipv4Addr>
+    ensures { result ≡ messages.renewal_server forms lease.now }
 {
-    Handed::Udp4(lease.yiaddr, lease.siaddr, payload)
+    match forms {
+        DhcpV4MessageForms::Mozim => Some(lease.siaddr),
+        DhcpV4MessageForms::Rfc2131 if lease.srv_id.is_unspecified() => None,
+        DhcpV4MessageForms::Rfc2131 => Some(lease.srv_id),
+    }
+}
+
+// A payload from the address of a lease to the server that renews it, or else, to any server, in
+// the frame of REBINDING.
+fn renewal(
+    alloc: Global,
+    config: &DhcpV4Config,
+    lease: &DhcpV4Lease,
+    payload: Bytes,
+) -> Result<Handed, DhcpError>
+    requires { length payload ≤ most_payload }
+    ensures { Makes (λ message. message) result
+        (messages.renewal_of config.now lease.now payload) }
+{
+    match renewal_server(config.message_forms(), lease) {
+        None => broadcast(alloc, config, payload),
+        Some(server) => Ok(Handed::Udp4(lease.yiaddr, server, payload)),
+    }
 }
 
 // A payload with the carrier of a state: RENEWING alone sends it to the server of its lease.
@@ -189,8 +231,8 @@ fn with_carrier(
         ClientState::InitReboot => broadcast(alloc, config, payload),
         ClientState::Selecting(_) => broadcast(alloc, config, payload),
         ClientState::Rebooting(_) => broadcast(alloc, config, payload),
-        ClientState::Done(bound) => Ok(to_server(bound.lease(), payload)),
-        ClientState::Renewing(bound) => Ok(to_server(bound.lease(), payload)),
+        ClientState::Done(bound) => renewal(alloc, config, bound.lease(), payload),
+        ClientState::Renewing(bound) => renewal(alloc, config, bound.lease(), payload),
         ClientState::Rebinding(_) => broadcast(alloc, config, payload),
     }
 }

@@ -1,5 +1,6 @@
 //! The table of states, RFC 2131 section 4.4, as rules of dhcp_history: one method for each column,
-//! every state named.
+//! every state named. Three columns depend on the forms of the messages: which attempt is the last,
+//! which packets answer, and what follows an answer.
 
 ghost use Rattle.std.specs.Prelude.{◌≡◌, ◌<◌, ◌-◌, ◌^◌, IfOk, IsTrue, OnErr, OnOk, None, Ok, Some, Option};
 ghost use Rattle.dhcp_clock.specs.Wait as waits;
@@ -18,7 +19,7 @@ use crate::client_state::{ClientState, Exchange};
 use crate::message::{attempt_message, release_message};
 use dhcp_clock::{Handed, Packet, Words, discovery_wait, draw, half_wait};
 use dhcp_history::{AttemptStart, BoundLease, NewAttempt, Reported, Rules};
-use dhcp4_lease::{DhcpV4Config, DhcpV4Lease};
+use dhcp4_lease::{DhcpV4Config, DhcpV4Lease, DhcpV4MessageForms};
 use std::alloc::{AllocError, Global};
 use std::mem;
 
@@ -26,8 +27,9 @@ use std::mem;
 /// for one to ten seconds.
 const MOST_PAUSE: u64 = 200;
 
-/// How often the Request of a lease that was held before is sent again, so that it is sent four
-/// times in all; RFC 2131 section 3.2 leaves the number open.
+/// How often the Request of a lease that was held before, or by the forms of RFC 2131 that of an
+/// offer, is sent again, so that it is sent four times in all; RFC 2131 section 3.2 leaves the
+/// number open, and section 3.1 has four as its example.
 const MOST_RETRIES: u32 = 3;
 
 /// The rules of a client with this configuration.
@@ -55,7 +57,7 @@ impl Rules for ClientRules {
 
     ghost protocol = { λ rules. table.protocol rules.config };
 
-    ghost needs_memory = { λ rules. table.needs_memory };
+    ghost needs_memory = { λ rules. table.needs_memory rules.config.message_forms };
 
     fn ending_moment(&self, state: &ClientState) -> Option<u64> {
         match state {
@@ -79,13 +81,11 @@ impl Rules for ClientRules {
         }
     }
 
-    // A lease that was held before is requested four times. In REQUESTING no attempt is the last:
-    // the offer is requested until an answer comes or the time limit is over. By RFC 2131 section
-    // 3.1 a client gives up after some requests, four in its example, and begins its search anew.
+    // A lease that was held before is requested four times.
     fn is_last_attempt(&self, state: &ClientState, exchange: Exchange) -> bool {
         match state {
             ClientState::InitReboot => false,
-            ClientState::Selecting(_) => false,
+            ClientState::Selecting(_) => is_last_request(self.config.message_forms(), exchange),
             ClientState::Rebooting(_) => exchange.retry_count >= MOST_RETRIES,
             ClientState::Done(_) => false,
             ClientState::Renewing(_) => false,
@@ -135,7 +135,7 @@ impl Rules for ClientRules {
         packet: Packet,
         words: &mut W,
     ) -> Result<Option<Answer>, AllocError> {
-        let Some(awaited) = Awaited::in_state(state) else {
+        let Some(awaited) = Awaited::in_state(self.config.message_forms(), state) else {
             return Ok(None);
         };
         // not by map_err, which copies a lease that is answered
@@ -197,8 +197,8 @@ impl ClientRules {
         exchange: &mut Exchange,
     ) -> Result<Reported<DhcpV4State>, AllocError>
         requires { now < 2 ^ 60 }
-        ensures next { OnOk result (IsNext (table.after_grant state.old lease now exchange.old)
-            state.new exchange.new) }
+        ensures next { OnOk result (IsNext (table.after_grant self.now.config.message_forms
+            state.old lease now exchange.old) state.new exchange.new) }
         ensures reported { IfOk result (λ reported.
             reported ≡ table.public_state state.new) }
         ensures unchanged { OnErr result (state.new ≡ state.old) }
@@ -206,6 +206,7 @@ impl ClientRules {
         match state {
             ClientState::InitReboot => {
                 enter(state, ClientState::Selecting(lease));
+                *exchange = requesting(self.config.message_forms(), *exchange);
                 Ok(Reported::new(DhcpV4State::Selecting))
             }
             ClientState::Selecting(_) => self.bind(state, lease, now, exchange),
@@ -296,6 +297,29 @@ fn done_with(alloc: Global, lease: &DhcpV4Lease) -> Result<DhcpV4State, AllocErr
     Ok(DhcpV4State::Done(Box::new(alloc, copy)?))
 }
 
+// Whether this request of an offer is the last one. By RFC 2131 section 3.1 a client gives up an
+// offer after some requests, four in its example, and begins its search anew; by mozim it requests
+// it until an answer comes or the time limit is over.
+fn is_last_request(forms: DhcpV4MessageForms, exchange: Exchange) -> bool
+    ensures { result ≡ table.is_last_request forms exchange }
+{
+    match forms {
+        DhcpV4MessageForms::Mozim => false,
+        DhcpV4MessageForms::Rfc2131 => exchange.retry_count >= MOST_RETRIES,
+    }
+}
+
+// The exchange with which a client requests an offer: by RFC 2131 its count begins anew, by mozim
+// it goes on.
+fn requesting(forms: DhcpV4MessageForms, exchange: Exchange) -> Exchange
+    ensures { result ≡ table.requesting forms exchange }
+{
+    match forms {
+        DhcpV4MessageForms::Mozim => exchange,
+        DhcpV4MessageForms::Rfc2131 => restarted(exchange),
+    }
+}
+
 /// An exchange whose count begins anew.
 pub fn restarted(exchange: Exchange) -> Exchange
     ensures { result ≡ table.restarted exchange }
@@ -351,7 +375,7 @@ fn half_until(moment: u64, now: u64) -> u64
 
 // The wait in INIT, REQUESTING and REBOOTING, in milliseconds: about 4, 8, 16, 32 and then 64
 // seconds, by the retry count (RFC 2131 section 4.1). The last is 62 to 64 seconds, so that none is
-// longer than the RFC allows. Since the count goes on from INIT to REQUESTING, the first Request of
+// longer than the RFC allows. Where the count goes on from INIT to REQUESTING, the first Request of
 // an offer may have a longer wait than 5 seconds.
 fn growing_wait<W: Words>(exchange: Exchange, words: &mut W) -> u64
     ensures drawn { GivesDrawn (table.growing_wait exchange)

@@ -19,10 +19,13 @@ use Rattle.dhcp4_msg.specs.Message.{no_address, read_message, written_message}
 use Rattle.dhcp4_msg.specs.Options.{OptionMap}
 use Rattle.dhcp4_msg.specs.Value.{option_code, option_number, fits}
 use Rattle.std.specs.Net.Addr.{ipv4_octets, IsIpv4Addr}
+use Rattle.dhcp4_lease.specs.declared.message_forms.DhcpV4MessageForms.{DhcpV4MessageForms}
+use Rattle.dhcp4_lease.specs.declared.message_forms.DhcpV4MessageForms.TheVariants.{Mozim, Rfc2131}
 use Rattle.dhcp4_lease.specs.declared.message_table.Row.{Row}
 use Rattle.dhcp4_lease.specs.Config.{Config, is_within_limits}
 use Rattle.dhcp4_lease.specs.Laws.{IsTyped, IsRow, RowReadsBack}
-use Rattle.dhcp4_lease.specs.MessageTable.{host_name_option, requested_option, server_option, options_of, with_options, table_message}
+use Rattle.dhcp4_lease.specs.Lease.{Lease}
+use Rattle.dhcp4_lease.specs.MessageTable.{client_option, extend, host_name_option, options_of, release, requested_option, server_of, server_option, table_message, with_options}
 use Rattle.dhcp4_lease.proofs.OptionLemmas.{host_name_fits, requested_fits, server_fits, type_fits, requests_fit, client_fits, limits_of}
 
 -- an option that reads back under its own number
@@ -75,9 +78,9 @@ stands_requests : (config : Config) → IsTrue (is_within_limits config) → Sta
 unfolding option_code number_of ReadsBack
 stands_requests config within = record { is_byte = lit< tt; is_own = refl; fit = requests_fit config.request_opts config refl within; reads_back = tt }
 
-stands_client : (config : Config) → IsTrue (is_within_limits config) → Stands (ClientIdentifier config.client_id)
+stands_client : (bytes : List ℕ) → IsTrue (fits (ClientIdentifier bytes)) → Stands (ClientIdentifier bytes)
 unfolding option_code number_of ReadsBack
-stands_client config within = record { is_byte = lit< tt; is_own = refl; fit = client_fits config.client_id config refl within; reads_back = tt }
+stands_client bytes fit = record { is_byte = lit< tt; is_own = refl; fit = fit; reads_back = tt }
 
 -- The options of a part of a row, where there are any.
 
@@ -93,6 +96,11 @@ all_server : (server : Option Ipv4Addr) → IfSome server IsIpv4Addr → AllByRe
 all_server None is = tt
 all_server (Some address) is = (stands_server address is, tt)
 
+all_client : (forms : DhcpV4MessageForms) (bytes : List ℕ) → IsTrue (fits (ClientIdentifier bytes)) → AllByRecursion Stands (client_option forms bytes)
+all_client Mozim bytes fit = (stands_client bytes fit, tt)
+all_client Rfc2131 [] fit = tt
+all_client Rfc2131 (byte ∷ bytes) fit = (stands_client (byte ∷ bytes) fit, tt)
+
 -- the host name of a configuration within its limits
 host_name_within : (config : Config) → IsTrue (is_within_limits config) → IsTyped config → FitsOption config.host_name
 host_name_within config within typed =
@@ -105,8 +113,9 @@ all_options config row within typed is =
     let host_name = all_host_name config.host_name (host_name_within config within typed) in
     let requested = all_requested row.requested is.requested in
     let server = all_server row.server is.server in
+    let client = all_client config.message_forms config.client_id (client_fits config.client_id config refl within) in
     all_of_both _ _ (all_of_both _ _ (all_of_both _ _ host_name requested) (stands_type row.message_type, server))
-    (stands_requests config within, (stands_client config within, tt))
+    (stands_requests config within, client)
 
 -- the empty text fits each field
 no_text : (n : ℕ) → 0 < n → FitsField n []
@@ -148,3 +157,12 @@ no_address_is = (refl, small)
     small (suc (suc zero)) = lit< tt
     small (suc (suc (suc zero))) = lit< tt
     small (suc (suc (suc (suc k)))) = lit< tt
+
+-- the rows of a lease whose addresses are IPv4 addresses, by either form
+pub extend_is : (forms : DhcpV4MessageForms) (held : Lease) → IsIpv4Addr held.yiaddr → IsIpv4Addr (server_of held) → IsRow (extend forms held)
+extend_is Mozim held yiaddr server = record { ciaddr = yiaddr; requested = yiaddr; server = server }
+extend_is Rfc2131 held yiaddr server = record { ciaddr = yiaddr; requested = tt; server = tt }
+
+pub release_is : (forms : DhcpV4MessageForms) (held : Lease) → IsIpv4Addr held.yiaddr → IsIpv4Addr (server_of held) → IsRow (release forms held)
+release_is Mozim held yiaddr server = record { ciaddr = no_address_is; requested = yiaddr; server = server }
+release_is Rfc2131 held yiaddr server = record { ciaddr = yiaddr; requested = tt; server = server }

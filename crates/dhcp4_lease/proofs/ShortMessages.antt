@@ -14,16 +14,18 @@ use Rattle.std.proofs.lemmas.List.{length-map, length-take}
 use Rattle.dhcp_wire.specs.Field.{terminated_text}
 use Rattle.dhcp_wire.proofs.FieldLaws.{length-bytes_high_first}
 use Rattle.dhcp4_msg.specs.declared.option.DhcpV4Option.{DhcpV4Option}
-use Rattle.dhcp4_msg.specs.declared.option.DhcpV4Option.TheVariants.{MessageType, ParameterRequestList, ClientIdentifier}
+use Rattle.dhcp4_msg.specs.declared.option.DhcpV4Option.TheVariants.{MessageType, ParameterRequestList}
 use Rattle.dhcp4_msg.specs.declared.message.DhcpV4Message.{DhcpV4Message}
 use Rattle.dhcp4_msg.specs.OptionCode.{number_of}
 use Rattle.dhcp4_msg.specs.Message.{no_address, magic_cookie, written_numbers, written_addresses, written_texts, written_message}
 use Rattle.dhcp4_msg.specs.Options.{OptionMap, added_end, written_options}
 use Rattle.dhcp4_msg.specs.Value.{option_number, written_option, written_value}
+use Rattle.dhcp4_lease.specs.declared.message_forms.DhcpV4MessageForms.{DhcpV4MessageForms}
+use Rattle.dhcp4_lease.specs.declared.message_forms.DhcpV4MessageForms.TheVariants.{Mozim, Rfc2131}
 use Rattle.dhcp4_lease.specs.declared.message_table.Row.{Row}
 use Rattle.dhcp4_lease.specs.Config.{Config, is_within_limits}
 use Rattle.dhcp4_lease.specs.Laws.{IsTyped, IsRow, RowIsShort}
-use Rattle.dhcp4_lease.specs.MessageTable.{host_name_option, requested_option, server_option, options_of, with_options, table_message}
+use Rattle.dhcp4_lease.specs.MessageTable.{client_option, host_name_option, options_of, requested_option, server_option, table_message, with_options}
 use Rattle.dhcp4_lease.proofs.OptionLemmas.{limits_of}
 
 -- how many bytes options take in a message, by entries of a map and as a list
@@ -76,12 +78,18 @@ unfolding written_option written_value
 total-server None is = omega arith
 total-server (Some address) is = omega (arith, is.0)
 
+total-client : (forms : DhcpV4MessageForms) (bytes : List ℕ) → total (client_option forms bytes) ≤ length bytes + 2
+unfolding written_option written_value
+total-client Mozim bytes = omega arith
+total-client Rfc2131 [] = omega arith
+total-client Rfc2131 (byte ∷ bytes) = omega arith
+
 total-fixed : (config : Config) (row : Row) → IsTrue (is_within_limits config) →
-    total (ParameterRequestList config.request_opts ∷ ClientIdentifier config.client_id ∷ []) ≤ 514
+    total (ParameterRequestList config.request_opts ∷ client_option config.message_forms config.client_id) ≤ 514
 unfolding written_option written_value
 total-fixed config row within =
     let limits = limits_of config within in
-    omega (arith, limits.request_opts, limits.client_id, length-map config.request_opts number_of)
+    omega (arith, limits.request_opts, limits.client_id, total-client config.message_forms config.client_id, length-map config.request_opts number_of)
 
 total-type : (row : Row) → length (written_option (MessageType row.message_type)) ≡ 3
 unfolding written_option written_value
@@ -92,7 +100,7 @@ total-options config row within is =
     let name = host_name_option config.host_name in
     let requested = requested_option row.requested in
     let server = server_option row.server in
-    let fixed = ParameterRequestList config.request_opts ∷ ClientIdentifier config.client_id ∷ [] in
+    let fixed = ParameterRequestList config.request_opts ∷ client_option config.message_forms config.client_id in
     let middle = MessageType row.message_type ∷ server in
     omega (
       arith,

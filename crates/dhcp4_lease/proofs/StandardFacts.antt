@@ -15,6 +15,7 @@ use Rattle.dhcp4_msg.specs.Value.{option_code, option_number, written_option, wr
 use Rattle.dhcp4_msg.specs.declared.option.DhcpV4Option.{DhcpV4Option}
 use Rattle.dhcp4_msg.specs.declared.option_code.DhcpV4OptionCode.TheVariants.{DomainNameServer, Router, SubnetMask}
 use Rattle.dhcp4_lease.specs.Config.{Config}
+use Rattle.dhcp4_lease.specs.declared.message_forms.DhcpV4MessageForms.TheVariants.{Mozim}
 use Rattle.dhcp4_lease.specs.MessageTable.{discover, options_of, table_message, with_options}
 
 -- an option put among others, by its number
@@ -57,6 +58,7 @@ config = record {
   client_id = 1 ∷ 2 ∷ 0 ∷ 0 ∷ 0 ∷ 0 ∷ 1 ∷ [];
   host_name = 0x66 ∷ 0x6f ∷ 0x6f ∷ [];
   request_opts = SubnetMask ∷ Router ∷ DomainNameServer ∷ [];
+  message_forms = Mozim;
 }
 
 -- the options of its Discover: host name, message type, parameter request list, client identifier

@@ -8,10 +8,12 @@ use Rattle.dhcp_wire.specs.declared.error.ErrorKind.TheVariants.{NotSupported}
 use Rattle.dhcp_wire.specs.Mac.{bytes_of_mac}
 use Rattle.dhcp4_msg.specs.declared.option_code.DhcpV4OptionCode.{DhcpV4OptionCode}
 use Rattle.dhcp4_msg.specs.OptionCode.{code_of, number_of}
+use Rattle.dhcp4_lease.specs.declared.message_forms.DhcpV4MessageForms.{DhcpV4MessageForms}
+use Rattle.dhcp4_lease.specs.declared.message_forms.DhcpV4MessageForms.TheVariants.{Mozim}
 
 -- what contracts see of a configuration: the interface, whether the client asks for another host,
 -- the time limit in seconds, the MAC address, the client identifier with its type byte, the
--- host name, and the options that are asked for
+-- host name, the options that are asked for, and the forms of the messages
 pub record Config : Type 0 where
   pub iface_name : List ℕ
   pub iface_index : ℕ
@@ -21,6 +23,7 @@ pub record Config : Type 0 where
   pub client_id : List ℕ
   pub host_name : List ℕ
   pub request_opts : List DhcpV4OptionCode
+  pub message_forms : DhcpV4MessageForms
 
 -- the option codes of the default parameter request list
 abbrev pub default_requests : List ℕ
@@ -37,6 +40,7 @@ config_of name = record {
   client_id = [];
   host_name = [];
   request_opts = map code_of default_requests;
+  message_forms = Mozim;
 }
 
 -- a MAC address: six bytes

@@ -1,4 +1,5 @@
--- The messages that a client sends, RFC 2131 section 4.3 and table 5: one row for each.
+-- The messages that a client sends, RFC 2131 section 4.3 and tables 4 and 5: one row for each. Two
+-- of them depend on the forms of the configuration, and so does option 61.
 use Rattle.std.specs.Prelude.{◌≡◌, ℕ, List, [], ◌∷◌, ◌++◌, fold, replicate, Option, Some, None, Result, Ok, Err, if◌then◌else◌, Bool}
 use Rattle.std.specs.Net.Addr.{ipv4_octets}
 use Rattle.std.specs.Str.{bytes_eq}
@@ -12,6 +13,8 @@ use Rattle.dhcp4_msg.specs.declared.message.DhcpV4Message.{DhcpV4Message}
 use Rattle.dhcp4_msg.specs.Message.{no_address}
 use Rattle.dhcp4_msg.specs.Options.{OptionMap}
 use Rattle.dhcp4_msg.specs.Value.{option_number}
+use Rattle.dhcp4_lease.specs.declared.message_forms.DhcpV4MessageForms.{DhcpV4MessageForms}
+use Rattle.dhcp4_lease.specs.declared.message_forms.DhcpV4MessageForms.TheVariants.{Mozim, Rfc2131}
 use Rattle.dhcp4_lease.specs.declared.message_table.Row.{Row}
 use Rattle.dhcp4_lease.specs.Config.{Config}
 use Rattle.dhcp4_lease.specs.Lease.{Lease}
@@ -51,21 +54,35 @@ reboot held = record {
   server = None;
 }
 
--- the request to renew or to rebind a lease that is held, RFC 2131 section 4.4.5
-abbrev pub extend : Lease → Row
-extend held = record {
+-- The request to renew or to rebind a lease that is held, RFC 2131 section 4.4.5: by table 4 ciaddr
+-- is its address, and neither the address nor the server is an option.
+abbrev pub extend : DhcpV4MessageForms → Lease → Row
+extend Mozim held = record {
   message_type = Request;
   ciaddr = held.yiaddr;
   requested = Some held.yiaddr;
   server = Some (server_of held);
 }
+extend Rfc2131 held = record {
+  message_type = Request;
+  ciaddr = held.yiaddr;
+  requested = None;
+  server = None;
+}
 
--- the release of a lease, RFC 2131 section 4.4.6
-abbrev pub release : Lease → Row
-release held = record {
+-- The release of a lease, RFC 2131 section 4.4.6: by table 5 ciaddr is its address, which is no
+-- option, and the server is one.
+abbrev pub release : DhcpV4MessageForms → Lease → Row
+release Mozim held = record {
   message_type = Release;
   ciaddr = no_address;
   requested = Some held.yiaddr;
+  server = Some (server_of held);
+}
+release Rfc2131 held = record {
+  message_type = Release;
+  ciaddr = held.yiaddr;
+  requested = None;
   server = Some (server_of held);
 }
 
@@ -84,12 +101,20 @@ abbrev pub server_option : Option Ipv4Addr → List DhcpV4Option
 server_option None = []
 server_option (Some address) = ServerIdentifier address ∷ []
 
+-- option 61; by the forms of RFC 2131 if there is an identifier, since the option has at least two
+-- bytes (RFC 2132, section 9.14)
+abbrev pub client_option : DhcpV4MessageForms → List ℕ → List DhcpV4Option
+client_option Mozim bytes = ClientIdentifier bytes ∷ []
+client_option Rfc2131 [] = []
+client_option Rfc2131 (byte ∷ bytes) = ClientIdentifier (byte ∷ bytes) ∷ []
+
 -- the options of a row, by rising code: 12, 50, 53, 54, 55, 61
 abbrev pub options_of : Config → Row → List DhcpV4Option
 options_of config row =
     host_name_option config.host_name ++ requested_option row.requested
     ++ MessageType row.message_type ∷ server_option row.server
-    ++ ParameterRequestList config.request_opts ∷ ClientIdentifier config.client_id ∷ []
+    ++ ParameterRequestList config.request_opts
+    ∷ client_option config.message_forms config.client_id
 
 -- these options added to others, by their numbers
 abbrev pub with_options : OptionMap → List DhcpV4Option → OptionMap

@@ -19,6 +19,7 @@ ghost use Rattle.dhcp4_lease.specs.Config.{
   with_mac,
 };
 
+use crate::DhcpV4MessageForms;
 use dhcp_wire::{
     Bytes, DhcpError, ErrorKind, FixedText, Sequence, Text, codes_of, parse_mac, setter_answer,
 };
@@ -49,6 +50,8 @@ pub struct DhcpV4Config {
     pub(crate) host_name: Text,
     // The parameter request list, option 55.
     pub(crate) request_opts: Sequence<DhcpV4OptionCode>,
+    // The forms of its messages.
+    pub(crate) message_forms: DhcpV4MessageForms,
 }
 
 impl Model for DhcpV4Config {
@@ -65,6 +68,7 @@ impl Model for DhcpV4Config {
       client_id = config.client_id;
       host_name = config.host_name;
       request_opts = config.request_opts;
+      message_forms = config.message_forms;
     } };
 
     ghost inverse = { λ seen. record {
@@ -76,12 +80,14 @@ impl Model for DhcpV4Config {
       client_id = seen.client_id;
       host_name = seen.host_name;
       request_opts = seen.request_opts;
+      message_forms = seen.message_forms;
     } };
 }
 
 impl DhcpV4Config {
-    /// A configuration with nothing set: no interface, the MAC address 00:00:00:00:00:00, and the
-    /// default parameter request list. Out of memory is the only error.
+    /// A configuration with nothing set: no interface, the MAC address 00:00:00:00:00:00, the
+    /// default parameter request list, and the message forms of mozim. Out of memory is the only
+    /// error.
     pub fn empty(alloc: Global) -> Result<Self, DhcpError>
         ensures { Makes (λ config. config) result (config_of []) }
     {
@@ -103,6 +109,7 @@ impl DhcpV4Config {
             client_id: Bytes::new(alloc),
             host_name: Text::new(alloc),
             request_opts: codes_of(alloc, &DEFAULT_REQUESTS)?,
+            message_forms: DhcpV4MessageForms::Mozim,
         })
     }
 
@@ -145,6 +152,13 @@ impl DhcpV4Config {
         self.src_mac
     }
 
+    /// The forms of the messages that the client sends.
+    pub fn message_forms(&self) -> DhcpV4MessageForms
+        ensures { result ≡ self.now.message_forms }
+    {
+        self.message_forms
+    }
+
     /// A copy. Out of memory is the only error.
     pub fn try_clone(&self, alloc: Global) -> Result<Self, DhcpError>
         ensures { Makes (λ config. config) result self.now }
@@ -158,6 +172,7 @@ impl DhcpV4Config {
             client_id: self.client_id.try_clone(alloc)?,
             host_name: self.host_name.try_clone(alloc)?,
             request_opts: self.request_opts.try_clone(alloc)?,
+            message_forms: self.message_forms,
         })
     }
 
@@ -176,6 +191,15 @@ impl DhcpV4Config {
         ensures same { result.ghost_name ≡ self.entry.ghost_name }
     {
         self.timeout_sec = timeout_sec;
+        self
+    }
+
+    /// Sets the forms of the messages that the client sends; `Mozim` if they are not set.
+    pub fn set_message_forms(&mut self, forms: DhcpV4MessageForms) -> &mut Self
+        ensures set { result.now ≡ record self.old { message_forms = forms } }
+        ensures same { result.ghost_name ≡ self.entry.ghost_name }
+    {
+        self.message_forms = forms;
         self
     }
 
@@ -214,7 +238,8 @@ impl DhcpV4Config {
         setter_answer(self.put_host_name(alloc, host_name))
     }
 
-    /// Sets the client identifier, option 61: its type, then its bytes, RFC 2132 section 9.14.
+    /// Sets the client identifier, option 61: its type, then its bytes, RFC 2132 section 9.14. Until
+    /// it is set there is none; `Mozim` then sends the option without bytes, `Rfc2131` not at all.
     /// After an error nothing has changed.
     pub fn set_client_id(
         &mut self,

@@ -30,8 +30,8 @@ pub fn built_messages_read_back(config: &DhcpV4Config, lease: &DhcpV4Lease)
     ensures discover { RowReadsBack config.now table.discover }
     ensures request { RowReadsBack config.now (table.request lease.now) }
     ensures reboot { RowReadsBack config.now (table.reboot lease.now) }
-    ensures extend { RowReadsBack config.now (table.extend lease.now) }
-    ensures release { RowReadsBack config.now (table.release lease.now) }
+    ensures extend { RowReadsBack config.now (table.extend config.now.message_forms lease.now) }
+    ensures release { RowReadsBack config.now (table.release config.now.message_forms lease.now) }
 {
     is_typed(config);
     has_addresses(lease);
@@ -52,8 +52,8 @@ pub fn requests_are_short(config: &DhcpV4Config, lease: &DhcpV4Lease)
     requires { IsTrue (is_within_limits config.now) }
     ensures request { RowIsShort config.now (table.request lease.now) }
     ensures reboot { RowIsShort config.now (table.reboot lease.now) }
-    ensures extend { RowIsShort config.now (table.extend lease.now) }
-    ensures release { RowIsShort config.now (table.release lease.now) }
+    ensures extend { RowIsShort config.now (table.extend config.now.message_forms lease.now) }
+    ensures release { RowIsShort config.now (table.release config.now.message_forms lease.now) }
 {
     is_typed(config);
     has_addresses(lease);

@@ -1,14 +1,17 @@
-//! The messages that a client sends, RFC 2131 section 4.3 and table 5: one row for each.
+//! The messages that a client sends, RFC 2131 section 4.3 and tables 4 and 5: one row for each. Two
+//! of them depend on the forms of the configuration, and so does option 61.
 
 ghost use Rattle.std.specs.Prelude.{◌≡◌, ◌++◌, IsTrue, replicate};
 ghost use Rattle.std.specs.FinMap as map;
 ghost use Rattle.dhcp_wire.specs.Outcome.{Makes};
+ghost use Rattle.dhcp4_msg.specs.Value.{fits};
+ghost use Rattle.dhcp4_msg.specs.declared.option.DhcpV4Option.TheVariants.{ClientIdentifier};
 ghost use Rattle.dhcp4_lease.specs.Config.{is_within_limits};
 ghost use Rattle.dhcp4_lease.specs.MessageTable as table;
 ghost use Rattle.dhcp4_lease.specs.MessageTable.{Adds, table_message};
 
-use crate::{DhcpV4Config, DhcpV4Lease};
-use dhcp_wire::{DhcpError, Text};
+use crate::{DhcpV4Config, DhcpV4Lease, DhcpV4MessageForms};
+use dhcp_wire::{Bytes, DhcpError, Text};
 use dhcp4_msg::{DhcpV4Message, DhcpV4MessageType, DhcpV4Option, DhcpV4Options};
 use std::alloc::Global;
 use std::net::Ipv4Addr;
@@ -56,7 +59,8 @@ pub fn new_reboot_request(
     message_of(alloc, xid, config, Row::reboot(lease))
 }
 
-/// The Request that renews a lease that is held, from T1 on (RFC 2131, section 4.4.5).
+/// The Request that renews a lease that is held, from T1 on (RFC 2131, section 4.4.5). By the forms
+/// of `Rfc2131` it has neither option 50 nor option 54; by those of `Mozim` it has both.
 pub fn new_renew(
     alloc: Global,
     xid: u32,
@@ -65,9 +69,9 @@ pub fn new_renew(
 ) -> Result<DhcpV4Message, DhcpError>
     requires { IsTrue (is_within_limits config.now) }
     ensures { Makes (λ message. message) result
-        (table_message xid config.now (table.extend lease.now)) }
+        (table_message xid config.now (table.extend config.now.message_forms lease.now)) }
 {
-    message_of(alloc, xid, config, Row::extend(lease))
+    message_of(alloc, xid, config, Row::extend(config.message_forms, lease))
 }
 
 /// The Request that rebinds a lease that is held, from T2 on: the same message as to renew it (RFC
@@ -80,12 +84,13 @@ pub fn new_rebind(
 ) -> Result<DhcpV4Message, DhcpError>
     requires { IsTrue (is_within_limits config.now) }
     ensures { Makes (λ message. message) result
-        (table_message xid config.now (table.extend lease.now)) }
+        (table_message xid config.now (table.extend config.now.message_forms lease.now)) }
 {
-    message_of(alloc, xid, config, Row::extend(lease))
+    message_of(alloc, xid, config, Row::extend(config.message_forms, lease))
 }
 
-/// The Release of a lease that is held (RFC 2131, section 4.4.6).
+/// The Release of a lease that is held (RFC 2131, section 4.4.6). By the forms of `Rfc2131` its
+/// address is `ciaddr`; by those of `Mozim` it is option 50.
 pub fn new_release(
     alloc: Global,
     xid: u32,
@@ -94,9 +99,14 @@ pub fn new_release(
 ) -> Result<DhcpV4Message, DhcpError>
     requires { IsTrue (is_within_limits config.now) }
     ensures { Makes (λ message. message) result
-        (table_message xid config.now (table.release lease.now)) }
+        (table_message xid config.now (table.release config.now.message_forms lease.now)) }
 {
-    message_of(alloc, xid, config, Row::release(lease))
+    message_of(
+        alloc,
+        xid,
+        config,
+        Row::release(config.message_forms, lease),
+    )
 }
 
 /// What the messages of a client differ in.
@@ -104,8 +114,8 @@ pub fn new_release(
 pub struct Row {
     /// The type of the message, option 53.
     pub message_type: DhcpV4MessageType,
-    /// The client's own address, in a Request that renews or rebinds; 0.0.0.0 in any other message,
-    /// also in a Release.
+    /// The client's own address, in a Request that renews or rebinds, and by the forms of `Rfc2131`
+    /// in a Release; 0.0.0.0 in any other message.
     pub ciaddr: Ipv4Addr,
     /// The address that is requested or released, option 50.
     pub requested: Option<Ipv4Addr>,
@@ -151,32 +161,40 @@ impl Row {
     }
 
     // The request to renew or to rebind a lease that is held.
-    fn extend(held: &DhcpV4Lease) -> Row
-        ensures { result ≡ table.extend held.now }
+    fn extend(forms: DhcpV4MessageForms, held: &DhcpV4Lease) -> Row
+        ensures { result ≡ table.extend forms held.now }
     {
+        let (requested, server) = match forms {
+            DhcpV4MessageForms::Mozim => (Some(held.yiaddr), Some(server_of(held))),
+            DhcpV4MessageForms::Rfc2131 => (None, None),
+        };
         Row {
             message_type: DhcpV4MessageType::Request,
             ciaddr: held.yiaddr,
-            requested: Some(held.yiaddr),
-            server: Some(server_of(held)),
+            requested,
+            server,
         }
     }
 
     // The release of a lease.
-    fn release(held: &DhcpV4Lease) -> Row
-        ensures { result ≡ table.release held.now }
+    fn release(forms: DhcpV4MessageForms, held: &DhcpV4Lease) -> Row
+        ensures { result ≡ table.release forms held.now }
     {
+        let (ciaddr, requested) = match forms {
+            DhcpV4MessageForms::Mozim => (Ipv4Addr::UNSPECIFIED, Some(held.yiaddr)),
+            DhcpV4MessageForms::Rfc2131 => (held.yiaddr, None),
+        };
         Row {
             message_type: DhcpV4MessageType::Release,
-            ciaddr: Ipv4Addr::UNSPECIFIED,
-            requested: Some(held.yiaddr),
+            ciaddr,
+            requested,
             server: Some(server_of(held)),
         }
     }
 }
 
-// The server of a lease: its identifier, or the next server if that is unspecified.
-pub(crate) fn server_of(lease: &DhcpV4Lease) -> Ipv4Addr
+/// The server of a lease: its identifier, or the next server, `siaddr`, if that is unspecified.
+pub fn server_of(lease: &DhcpV4Lease) -> Ipv4Addr
     ensures { result ≡ table.server_of lease.now }
 {
     if lease.srv_id.is_unspecified() {
@@ -229,7 +247,11 @@ fn add_options(
     options.insert(DhcpV4Option::MessageType(row.message_type))?;
     add_server(options, row.server)?;
     options.insert(DhcpV4Option::ParameterRequestList(config.request_opts.try_clone(alloc)?))?;
-    options.insert(DhcpV4Option::ClientIdentifier(config.client_id.try_clone(alloc)?))
+    add_client(
+        options,
+        config.message_forms,
+        config.client_id.try_clone(alloc)?,
+    )
 }
 
 // Adds option 12, if there is a host name.
@@ -263,4 +285,19 @@ fn add_server(options: &mut DhcpV4Options, server: Option<Ipv4Addr>) -> Result<(
         Some(address) => options.insert(DhcpV4Option::ServerIdentifier(address)),
         None => Ok(()),
     }
+}
+
+// Adds option 61; by the forms of RFC 2131 only if there is an identifier.
+fn add_client(
+    options: &mut DhcpV4Options,
+    forms: DhcpV4MessageForms,
+    client_id: Bytes,
+) -> Result<(), DhcpError>
+    requires { IsTrue (fits (ClientIdentifier client_id)) }
+    ensures { Adds result options.old options.new (table.client_option forms client_id) }
+{
+    if forms == DhcpV4MessageForms::Rfc2131 && client_id.is_empty() {
+        return Ok(());
+    }
+    options.insert(DhcpV4Option::ClientIdentifier(client_id))
 }

@@ -5,6 +5,7 @@ use Rattle.std.specs.Ordering.{nat_cmp}
 use Rattle.std.specs.List.{All, count_by, flat_map, filter_map}
 use Rattle.std.specs.Option.{option_or}
 use Rattle.std.specs.FinMap as map
+use Rattle.std.specs.declared.net.Ipv4Addr.{Ipv4Addr}
 use Rattle.dhcp_wire.specs.Field.{Read, ◌>>=◌}
 use Rattle.dhcp_wire.specs.RawOption.{RawOptionParts, raw_option_at, raw_options}
 use Rattle.dhcp_wire.specs.declared.raw_option.RawOption.{RawOption}
@@ -13,7 +14,7 @@ use Rattle.dhcp4_msg.specs.declared.message_type.DhcpV4MessageType.{DhcpV4Messag
 use Rattle.dhcp4_msg.specs.declared.option.DhcpV4Option.{DhcpV4Option}
 use Rattle.dhcp4_msg.specs.declared.route.DhcpV4ClasslessRoute.{DhcpV4ClasslessRoute}
 use Rattle.dhcp4_msg.specs.OptionCode.{code_of}
-use Rattle.dhcp4_msg.specs.Value.{value_of, written_option, type_said, routes_said, option_number, fits}
+use Rattle.dhcp4_msg.specs.Value.{address_said, value_of, written_option, type_said, routes_said, option_number, fits}
 
 -- options by their numbers
 abbrev pub OptionMap : Type 0
@@ -79,6 +80,10 @@ said_by says options number = map.get options number >>= says
 -- the type of a message with these options, of option 53
 unfoldable pub message_type : OptionMap → Option DhcpV4MessageType
 message_type options = said_by type_said options 53
+
+-- the server of a message with these options, of option 54
+unfoldable pub server_identifier : OptionMap → Option Ipv4Addr
+server_identifier options = said_by address_said options 54
 
 -- the routes of option 121, RFC 3442; where it is absent those of option 249, in which some servers
 -- send them

@@ -1,13 +1,12 @@
 -- A message in the bytes that it was received in.
-use Rattle.std.specs.Prelude.{◌≡◌, ℕ, ◌==◌, List, Result, Ok, Err, Option, Some, None, if◌then◌else◌}
+use Rattle.std.specs.Prelude.{◌≡◌, ℕ, ◌==◌, List, [], ◌∷◌, Result, Ok, Err, Option, Some, None, if◌then◌else◌}
+use Rattle.std.specs.Option.{option_or}
 use Rattle.std.specs.Int.{w8, w16, w32}
 use Rattle.std.specs.declared.net.Ipv4Addr.{Ipv4Addr}
 use Rattle.dhcp_wire.specs.declared.error.ErrorKind.TheVariants.{InvalidDhcpMessage}
 use Rattle.dhcp_wire.specs.Error.{ErrorParts}
 use Rattle.dhcp_wire.specs.Field.{◌>>=◌, Read, number_at, address_at}
 use Rattle.dhcp_wire.specs.RawOption.{RawOptionParts}
-use Rattle.dhcp4_msg.specs.declared.message_type.DhcpV4MessageType.{DhcpV4MessageType}
-use Rattle.dhcp4_msg.specs.Value.{type_in}
 use Rattle.dhcp4_msg.specs.declared.message.DhcpV4Message.{DhcpV4Message}
 use Rattle.dhcp4_msg.specs.declared.view.DhcpV4View.TheInside.{Inside}
 use Rattle.dhcp4_msg.specs.Options.{read_options}
@@ -32,9 +31,15 @@ message_of view = record {
   options = read_options view.options.now;
 }
 
--- the type that a raw option says, if it is option 53 and reads
-abbrev pub type_under : RawOptionParts → Option DhcpV4MessageType
-type_under raw = if 53 == raw.code then type_in raw.value else None
+-- the value of a raw option, if it has this number and reads
+abbrev pub value_under : {X : Type 0} → (List ℕ → Option X) → ℕ → RawOptionParts → Option X
+value_under value_in number raw = if number == raw.code then value_in raw.value else None
+
+-- that of the last of some raw options of this number that reads
+abbrev pub last_value : {X : Type 0} → (List ℕ → Option X) → ℕ → List RawOptionParts → Option X
+last_value value_in number [] = None
+last_value value_in number (raw ∷ later) =
+    option_or (last_value value_in number later) (value_under value_in number raw)
 
 -- ---- the parts that are read one after the other
 

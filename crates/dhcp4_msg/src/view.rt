@@ -1,6 +1,8 @@
 //! A DHCPv4 message in the bytes that it was received in, RFC 2131 section 2.
 
 ghost use Rattle.std.specs.Prelude.{◌≡◌, ok_or};
+ghost use Rattle.dhcp_wire.specs.RawOption.{raw_options};
+ghost use Rattle.dhcp_wire.specs.declared.raw_option.OptionFormat.TheVariants as formats;
 ghost use Rattle.dhcp_wire.specs.Outcome.{Answers, Finds, Makes};
 ghost use Rattle.dhcp4_msg.specs.Message.{read_message};
 ghost use Rattle.dhcp4_msg.specs.Options as maps;
@@ -10,13 +12,18 @@ ghost use Rattle.dhcp4_msg.specs.View.{ReadsInPart};
 use crate::message::{MAGIC_COOKIE, hardware_address};
 use crate::value::type_of;
 use crate::{DhcpV4Message, DhcpV4MessageType, DhcpV4Options};
-use dhcp_wire::{Buffer, DhcpError, ErrorKind, FixedText, OptionFormat, RawOption, Text};
+use dhcp_wire::{
+    Buffer, DhcpError, ErrorKind, FixedText, OptionFormat, RawOption, Text, address_in,
+};
 use std::alloc::Global;
 use std::marker::Model;
 use std::net::Ipv4Addr;
 
 // The code of the option that says the type of a message, RFC 2132 section 9.6.
 const MESSAGE_TYPE: u16 = 53;
+
+// The code of the option that says the server of a message, RFC 2132 section 9.7.
+const SERVER_IDENTIFIER: u16 = 54;
 
 /// A message in the bytes that it was received in: it can be tested before anything is copied.
 /// Contracts see it as the message that the bytes read as.
@@ -114,7 +121,14 @@ impl<'a> DhcpV4View<'a> {
     pub fn message_type(&self) -> Option<DhcpV4MessageType>
         ensures { result ≡ maps.message_type self.now.options }
     {
-        last_type(self.options)
+        last_value(self.options, MESSAGE_TYPE)
+    }
+
+    /// The server that its last readable option 54 names, if it has one. Does not allocate.
+    pub fn server_identifier(&self) -> Option<Ipv4Addr>
+        ensures { result ≡ maps.server_identifier self.now.options }
+    {
+        last_value(self.options, SERVER_IDENTIFIER)
     }
 
     /// A copy of the message, as `DhcpV4Message::parse` of the payload gives it; out of memory is
@@ -169,25 +183,57 @@ fn read_addresses(buf: &mut Buffer) -> Result<(Ipv4Addr, Ipv4Addr, Ipv4Addr, Ipv
     Ok((ciaddr, yiaddr, siaddr, giaddr))
 }
 
-// The type that the last readable option 53 of a list says, if it has one.
-fn last_type(options: &[u8]) -> Option<DhcpV4MessageType>
-    ensures { result ≡ maps.message_type (maps.read_options options.now) }
+// A value that an option holds, and that is read without a copy.
+trait OptionValue: Copy {
+    ghost use Rattle.std.specs.Prelude.{ℕ, List, Option};
+
+    // What bytes read as.
+    ghost value_in: { List ℕ → Option Self };
+
+    // The value of these bytes, if they read.
+    fn read(value: &[u8]) -> Option<Self>
+        ensures { result ≡ value_in value.now };
+}
+
+impl OptionValue for DhcpV4MessageType {
+    ghost use Rattle.dhcp4_msg.specs.Value.{type_in};
+
+    ghost value_in = { type_in };
+
+    fn read(value: &[u8]) -> Option<Self> {
+        type_of(value).ok()
+    }
+}
+
+impl OptionValue for Ipv4Addr {
+    ghost use Rattle.dhcp_wire.specs.Value.{address_in};
+
+    ghost value_in = { address_in };
+
+    fn read(value: &[u8]) -> Option<Self> {
+        address_in(value).ok()
+    }
+}
+
+// The value of the last readable option of this code in a list, if there is one.
+fn last_value<V: OptionValue>(options: &[u8], code: u16) -> Option<V>
+    ensures { result ≡ views.last_value V.value_in code (raw_options formats.DhcpV4 options.now) }
 {
     let mut found = None;
     let mut rest = options;
     while let Some((raw, later)) = OptionFormat::DhcpV4.raw_option_at(rest) {
-        found = type_under(raw).or(found);
+        found = value_under(raw, code).or(found);
         rest = OptionFormat::DhcpV4.counted_after(raw.code, later);
     }
     found
 }
 
-// The type that a raw option says, if it has one.
-fn type_under(raw: RawOption) -> Option<DhcpV4MessageType>
-    ensures { result ≡ views.type_under (maps.parts_of raw.entry) }
+// The value of a raw option, if it has this code and reads.
+fn value_under<V: OptionValue>(raw: RawOption, code: u16) -> Option<V>
+    ensures { result ≡ views.value_under V.value_in code (maps.parts_of raw.entry) }
 {
-    if raw.code == MESSAGE_TYPE {
-        type_of(raw.value).ok()
+    if raw.code == code {
+        V::read(raw.value)
     } else {
         None
     }

@@ -9,7 +9,7 @@ insert-requires-2 c =
     let same = ap (λ (config : Config). config.request_opts) c.config.view_is in
     requests_fit _ c.args.config.now (c.in_ok-try_clone-2.ensures ∙ same) c.requires
 
-pub insert-requires-3 : goal.insert-requires-3
-insert-requires-3 c =
+pub add_client-requires : goal.add_client-requires
+add_client-requires c =
     let same = ap (λ (config : Config). config.client_id) c.config.view_is in
     client_fits _ c.args.config.now (c.in_ok-try_clone-3.ensures ∙ same) c.requires

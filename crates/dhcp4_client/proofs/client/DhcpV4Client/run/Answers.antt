@@ -1,5 +1,5 @@
 -- What a poll leaves of the lease that is held.
-use Rattle.std.proofs.Common.{◌≡◌, sym, subst, arith, rules}
+use Rattle.std.proofs.Common.{◌≡◌, ◌∙◌, ap, sym, subst, refl, arith, rules}
 use Rattle.std.specs.Prelude.{Option, Ok, option_map}
 use Rattle.dhcp4_client.specs.declared.state.PlainState.{PlainState}
 use Rattle.dhcp4_client.specs.declared.state.PlainState.TheVariants as states
@@ -10,7 +10,7 @@ use Rattle.dhcp4_client.specs.State.{plain_state}
 use Rattle.dhcp4_client.specs.Held.{KeepsLease, has_times_in_order}
 use Rattle.dhcp_history.specs.Errors.{run_answer}
 use Rattle.dhcp_history.proofs.ErrorLemmas.{on_failure}
-use Rattle.dhcp_history.proofs.GrantedLast.{granted_by}
+use Rattle.dhcp_history.proofs.GrantedLast.{granted_by, traced_as}
 use Rattle.dhcp4_client.proofs.Held.{keeps_lease, order_preserved}
 use Rattle.dhcp4_client.proofs.client.DhcpV4Client.run.Goals as goal
 
@@ -34,6 +34,33 @@ returns-clause-leases g c =
     c.in_ok-reported.ensures.traced tt c.in_ok-reported.ensures.polls.still c.in_ok-reported.ensures.polls.reported
     (λ is. (c.in_ok-reported.ensures.polls.settles (c.table_is_lawful.ensures c.self.inside.rules.config) is).lasts)
     (c.run.ensures.polls.keeps has_times_in_order (order_preserved c.self.inside.rules.config) c.self.invariant.1)))
+
+pub returns-in_err-reported-clause-ran : goal.returns-in_err-reported-clause-ran
+returns-in_err-reported-clause-ran g c =
+    let same : run_answer plain_state c.from_residual.result ≡ c.run.result = grind arith in
+    rw (← c.self.view_is) (record { polls = rw same c.run.ensures.polls; settled = search rules; errors = grind arith; config = refl })
+
+pub returns-in_err-reported-clause-traced : goal.returns-in_err-reported-clause-traced
+returns-in_err-reported-clause-traced g c =
+    let same : run_answer plain_state c.from_residual.result ≡ c.run.result = grind arith in
+    rw (← c.self.view_is) (rw same c.run.ensures.traced)
+
+pub returns-clause-ran : goal.returns-clause-ran
+returns-clause-ran g c =
+    let same : run_answer plain_state (Ok c.map.result) ≡ c.run.result = grind arith in
+    rw (← c.self.view_is) (record {
+      polls = rw same c.run.ensures.polls;
+      settled = λ none. c.run.ensures.polls.settles (c.table_is_lawful.ensures c.self.inside.rules.config) (sym same ∙ ap (run_answer plain_state) none);
+      errors = search rules;
+      config = refl;
+    })
+
+pub returns-clause-traced : goal.returns-clause-traced
+returns-clause-traced g c =
+    let same : run_answer plain_state (Ok c.map.result) ≡ c.run.result = grind arith in
+    rw (← c.self.view_is)
+    (traced_as (protocol c.self.inside.rules.config) g.W.Words.gives g.L.DhcpLink.moves c.args.now (run_answer plain_state (Ok c.map.result)) c.run.result c.self.inside.client c.run.new.client
+    c.args.words.now c.run.new.words c.args.link.now c.run.new.link same c.run.ensures.traced)
 
 pub returns-clause-heard : goal.returns-clause-heard
 returns-clause-heard g c =
