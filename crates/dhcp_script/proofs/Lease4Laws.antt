@@ -21,7 +21,7 @@ use Rattle.dhcp_script.specs.declared.lease4.reader.LeaseServers.{LeaseServers}
 use Rattle.dhcp_script.specs.declared.lease4.reader.LeaseNames.{LeaseNames}
 use Rattle.dhcp_script.specs.declared.lease4.reader.Version2Fields.{Version2Fields}
 use Rattle.dhcp_script.specs.declared.version.Version.{Version}
-use Rattle.dhcp_script.specs.declared.version.Version.TheVariants.{One, Two}
+use Rattle.dhcp_script.specs.declared.version.Version.TheVariants.{One, Later}
 use Rattle.dhcp_script.specs.Lease4Reader.{addresses_at, addresses_of, lease4_at, lease4_of, link_at, link_of, names_at, names_of, no_version2_fields, servers_at, servers_of, times_at, times_of, version2_fields_at, version2_fields_of}
 use Rattle.dhcp_script.specs.FieldReader.{held_at, list_in, route_in, route_of, word_or}
 use Rattle.dhcp_script.specs.Lease4.{HasLeaseText, IsLease4, IsRoute, addresses_text, first_alone, lease_text, route_text, versioned_lease_text}
@@ -163,11 +163,11 @@ version2_parts x = (x.link, (x.servers, x.names))
 
 version2_print : Version → Version2Fields → List ℕ
 version2_print One x = []
-version2_print Two x = link_print x.link ++ (servers_print x.servers ++ names_print x.names)
+version2_print Later x = link_print x.link ++ (servers_print x.servers ++ names_print x.names)
 
 Version2Fits : Version → Version2Fields → Type 0
 Version2Fits One x = x ≡ no_version2_fields
-Version2Fits Two x = LinkFits x.link × (ServersFit x.servers × NamesFit x.names)
+Version2Fits Later x = LinkFits x.link × (ServersFit x.servers × NamesFit x.names)
 
 codec_version2 : (version : Version) → IsCodec (version2_print version) (Version2Fits version) (version2_fields_at version)
 unfolding version2_fields_at version2_parts version2_print Version2Fits
@@ -175,7 +175,7 @@ codec_version2 One = record {
   sound = λ text x rest h. let parts = same_read no_version2_fields x text rest h in (parts.1, sym parts.0);
   complete = λ x rest fits. ap (λ (fields : Version2Fields). Some (fields, rest)) (sym fits);
 }
-codec_version2 Two = IsCodec-made_of (IsCodec-both codec_link (IsCodec-both codec_servers codec_names)) version2_fields_of version2_parts (λ x. refl) (λ y. refl)
+codec_version2 Later = IsCodec-made_of (IsCodec-both codec_link (IsCodec-both codec_servers codec_names)) version2_fields_of version2_parts (λ x. refl) (λ y. refl)
 
 -- what a lease has of them
 version2_in : Lease4 → Version2Fields
@@ -208,7 +208,7 @@ lease_line version lease =
 lease_line-is : (version : Version) (lease : Lease4) → lease_line version lease ≡ versioned_lease_text version lease ++ 10 ∷ []
 unfolding lease_line lease_text lease_parts version2_in addresses_print times_print version2_print link_print servers_print names_print
 lease_line-is One lease = simp append_assoc
-lease_line-is Two lease = simp append_assoc
+lease_line-is Later lease = simp append_assoc
 
 FirstFits : Lease4 → Type 0
 FirstFits lease = AddressesFit (lease_parts lease).0 × TimesFit (lease_parts lease).1.0
@@ -259,7 +259,7 @@ unfolding PartsFit FirstFits Version2Fits lease_parts version2_in AddressesFit T
 fits_to One lease fits =
     let same : lease ≡ first_alone lease = ap (λ (fields : Version2Fields). lease4_of ((lease_parts lease).0, ((lease_parts lease).1.0, fields))) fits.1.1 in
     (subst (λ (l : Lease4). IsLease4 l) (sym same) (first_alone-fits lease (fits.0, fits.1.0)), same)
-fits_to Two lease fits = record {
+fits_to Later lease fits = record {
   yiaddr = fits.0.0;
   siaddr = fits.0.1.0;
   srv_id = fits.0.1.1;
@@ -280,7 +280,7 @@ fits_to Two lease fits = record {
 fits_from : (version : Version) (lease : Lease4) → HasLeaseText version lease → PartsFit version lease
 unfolding PartsFit FirstFits Version2Fits version2_in LinkFits ServersFit NamesFit empty_lease
 fits_from One lease fits = let first = first_from lease fits.0 in (first.0, (first.1, ap version2_in fits.1))
-fits_from Two lease fits =
+fits_from Later lease fits =
     let first = first_from lease fits in (
       first.0,
       (
@@ -302,13 +302,13 @@ IsCodec-lease version =
 -- a lease that has a text is one
 is_lease : (version : Version) (lease : Lease4) → HasLeaseText version lease → IsLease4 lease
 is_lease One lease fits = fits.0
-is_lease Two lease fits = fits
+is_lease Later lease fits = fits
 
 -- the text of a lease begins with its address
 begins_with : (version : Version) (lease : Lease4) → (more : List ℕ) × (versioned_lease_text version lease ≡ address_text lease.yiaddr ++ 32 ∷ more)
 unfolding lease_text
 begins_with One lease = (_, refl)
-begins_with Two lease = (_, refl)
+begins_with Later lease = (_, refl)
 
 -- an address holds no `o`
 begins : (version : Version) (lease : Lease4) → HasLeaseText version lease → BeginsOtherwise (versioned_lease_text version lease)

@@ -23,7 +23,7 @@ use Rattle.dhcp_script.specs.declared.lease6.reader.LeaseAssociation.{LeaseAssoc
 use Rattle.dhcp_script.specs.declared.lease6.reader.LeaseTimes.{LeaseTimes}
 use Rattle.dhcp_script.specs.declared.lease6.reader.Version2Fields.{Version2Fields}
 use Rattle.dhcp_script.specs.declared.version.Version.{Version}
-use Rattle.dhcp_script.specs.declared.version.Version.TheVariants.{One, Two}
+use Rattle.dhcp_script.specs.declared.version.Version.TheVariants.{One, Later}
 use Rattle.dhcp_script.specs.FieldReader.{held_at}
 use Rattle.dhcp_script.specs.Lease6.{HasLeaseText, IsLease6, first_alone, ia_type_text, lease_text, versioned_lease_text}
 use Rattle.dhcp_script.specs.Lease6Reader.{association_at, association_of, ia_type_in, lease6_at, lease6_of, no_version2_fields, times_at, times_of, version2_fields_at, version2_fields_of}
@@ -124,11 +124,11 @@ version2_parts x = (x.xid, (x.cli_duid, x.srv_ip))
 
 version2_print : Version → Version2Fields → List ℕ
 version2_print One x = []
-version2_print Two x = (decimal x.xid ++ 32 ∷ []) ++ ((hex_text x.cli_duid ++ 32 ∷ []) ++ (address6_text x.srv_ip ++ 10 ∷ []))
+version2_print Later x = (decimal x.xid ++ 32 ∷ []) ++ ((hex_text x.cli_duid ++ 32 ∷ []) ++ (address6_text x.srv_ip ++ 10 ∷ []))
 
 Version2Fits : Version → Version2Fields → Type 0
 Version2Fits One x = x ≡ no_version2_fields
-Version2Fits Two x = (x.xid ≤ 4294967295) × (IsBytes x.cli_duid × IsIpv6Addr x.srv_ip)
+Version2Fits Later x = (x.xid ≤ 4294967295) × (IsBytes x.cli_duid × IsIpv6Addr x.srv_ip)
 
 codec_version2 : (version : Version) → IsCodec (version2_print version) (Version2Fits version) (version2_fields_at version)
 unfolding version2_fields_at version2_parts version2_print Version2Fits
@@ -136,7 +136,7 @@ codec_version2 One = record {
   sound = λ text x rest h. let parts = same_read no_version2_fields x text rest h in (parts.1, sym parts.0);
   complete = λ x rest fits. ap (λ (fields : Version2Fields). Some (fields, rest)) (sym fits);
 }
-codec_version2 Two = IsCodec-made_of (IsCodec-both (u32_field 32 (omega arith)) (IsCodec-both hex_field (address6_field 10 (omega arith)))) version2_fields_of version2_parts (λ x. refl) (λ y. refl)
+codec_version2 Later = IsCodec-made_of (IsCodec-both (u32_field 32 (omega arith)) (IsCodec-both hex_field (address6_field 10 (omega arith)))) version2_fields_of version2_parts (λ x. refl) (λ y. refl)
 
 -- what a lease has of them
 version2_in : Lease6 → Version2Fields
@@ -156,7 +156,7 @@ lease_line version lease =
 lease_line-is : (version : Version) (lease : Lease6) → lease_line version lease ≡ versioned_lease_text version lease ++ 10 ∷ []
 unfolding lease_line lease_text lease_parts version2_in association_print times_print version2_print
 lease_line-is One lease = simp append_assoc
-lease_line-is Two lease = simp append_assoc
+lease_line-is Later lease = simp append_assoc
 
 -- the address :: is one
 unspecified-fits : IsIpv6Addr unspecified
@@ -203,7 +203,7 @@ unfolding PartsFit Version2Fits lease_parts version2_in empty_lease written_duid
 fits_to One lease fits =
     let same : lease ≡ first_alone lease = ap (λ (fields : Version2Fields). lease6_of ((lease_parts lease).0, ((lease_parts lease).1.0, fields))) fits.1.1 in
     (subst (λ (l : Lease6). IsLease6 l) (sym same) (made_fit (first_alone lease) fits.0 fits.1.0 (omega arith) none-fits unspecified-fits), same)
-fits_to Two lease fits = made_fit lease fits.0 fits.1.0 (let small = fits.1.1.0 in omega arith) fits.1.1.1.0 fits.1.1.1.1
+fits_to Later lease fits = made_fit lease fits.0 fits.1.0 (let small = fits.1.1.0 in omega arith) fits.1.1.1.0 fits.1.1.1.1
 
 FirstFits : Lease6 → Type 0
 FirstFits lease = AssociationFits (lease_parts lease).0 × TimesFit (lease_parts lease).1.0
@@ -221,7 +221,7 @@ first_from lease fits = (
 fits_from : (version : Version) (lease : Lease6) → HasLeaseText version lease → PartsFit version lease
 unfolding PartsFit FirstFits Version2Fits version2_in empty_lease written_duid
 fits_from One lease fits = let first = first_from lease fits.0 in (first.0, (first.1, ap version2_in fits.1))
-fits_from Two lease fits = let first = first_from lease fits in (first.0, (first.1, ((let small = fits.xid in omega arith), (fits.cli_duid, fits.srv_ip))))
+fits_from Later lease fits = let first = first_from lease fits in (first.0, (first.1, ((let small = fits.xid in omega arith), (fits.cli_duid, fits.srv_ip))))
 
 -- the line of a lease
 pub IsCodec-lease : (version : Version) → IsCodec (λ lease. versioned_lease_text version lease ++ 10 ∷ []) (HasLeaseText version) (lease6_at version)
@@ -234,7 +234,7 @@ IsCodec-lease version =
 begins_with : (version : Version) (lease : Lease6) → (more : List ℕ) × (versioned_lease_text version lease ≡ ia_type_text lease.ia_type ++ 32 ∷ more)
 unfolding lease_text
 begins_with One lease = (_, refl)
-begins_with Two lease = (_, refl)
+begins_with Later lease = (_, refl)
 
 -- which holds no `o`
 begins : (version : Version) (lease : Lease6) → HasLeaseText version lease → BeginsOtherwise (versioned_lease_text version lease)

@@ -1,3 +1,4 @@
+pub mod ChoiceLaws
 pub mod Clear
 pub mod CodesLaws
 pub mod DemoLaws
@@ -12,3 +13,4 @@ pub mod Script6Laws
 pub mod ScriptLaws
 pub mod Utf8
 pub mod ValueLaws
+pub mod Version3Laws

@@ -17,7 +17,7 @@ use Rattle.dhcp_script.specs.Codes.{listed_text}
 use Rattle.dhcp_script.specs.Field.{byte_digits, list_text, unless_none}
 use Rattle.dhcp_script.specs.Lease4.{addresses_text, lease_text, route_text}
 use Rattle.dhcp_script.specs.Life.{life_text}
-use Rattle.dhcp_script.specs.declared.version.Version.TheVariants.{Two}
+use Rattle.dhcp_script.specs.declared.version.Version.TheVariants.{Later}
 use Rattle.dhcp_script.specs.Script4.{first_lines, script4_text}
 use Rattle.dhcp_script.specs.Lease6 as lease6
 use Rattle.dhcp_script.specs.Script6 as script6
@@ -128,14 +128,14 @@ lease6_text-pieces lease =
     (decimal lease.xid) (hex_text lease.cli_duid) (address6_text lease.srv_ip)
 
 -- the text of a script, by its lines
-pub script4_text-lines : (script : Script4) → script4_text Two script
-    ≡ first_lines Two script ++ line (codes "codes " ++ listed_text hex_text script.codes) ++ line (codes "lease " ++ unless_none lease_text script.lease)
+pub script4_text-lines : (script : Script4) → script4_text Later script
+    ≡ first_lines Later script ++ line (codes "codes " ++ listed_text hex_text script.codes) ++ line (codes "lease " ++ unless_none lease_text script.lease)
     ++ life_text script.words script.start script.events
 unfolding script4_text
 script4_text-lines script = refl
 
-pub script6_text-lines : (script : Script6) → script6.script6_text Two script
-    ≡ script6.first_lines Two script ++ line (codes "codes " ++ listed_text (numbers_text w16) script.codes) ++ line (codes "lease " ++ unless_none lease6.lease_text script.lease)
+pub script6_text-lines : (script : Script6) → script6.script6_text Later script
+    ≡ script6.first_lines Later script ++ line (codes "codes " ++ listed_text (numbers_text w16) script.codes) ++ line (codes "lease " ++ unless_none lease6.lease_text script.lease)
     ++ life_text script.words script.start script.events
 unfolding script6.script6_text
 script6_text-lines script = refl

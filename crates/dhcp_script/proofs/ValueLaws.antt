@@ -12,7 +12,7 @@ use Rattle.dhcp_stream.specs.TextReader.{in_field}
 use Rattle.dhcp_stream.proofs.CodecLaws.{HasNo, IsCodec, IsCodec-in_field, IsValue, bind_some, map_some}
 use Rattle.dhcp_stream.proofs.ValueLemmas.{IsValue-number}
 use Rattle.dhcp_script.specs.declared.version.Version.{Version}
-use Rattle.dhcp_script.specs.declared.version.Version.TheVariants.{One, Two}
+use Rattle.dhcp_script.specs.declared.version.Version.TheVariants.{One, Later}
 use Rattle.dhcp_script.specs.Field.{list_text, unless_none}
 use Rattle.dhcp_script.specs.FieldReader.{each_in, items_in, list_in, then_value, u32_at, word_or}
 use Rattle.dhcp_script.specs.Version.{end_of_times}
@@ -138,4 +138,4 @@ u32_field end below = IsCodec-in_field (IsValue-number 4294967295 (omega arith))
 -- what follows the last of the times of a lease is such a terminator
 pub end_of_times-below : (version : Version) → end_of_times version < 48
 end_of_times-below One = omega arith
-end_of_times-below Two = omega arith
+end_of_times-below Later = omega arith

@@ -89,6 +89,7 @@ demo_script n = record {
   mac = client_mac;
   is_proxy = false;
   timeout_sec = 0;
+  forms = None;
   host = [];
   client = [];
   codes = Some (1 ∷ 3 ∷ 6 ∷ []);

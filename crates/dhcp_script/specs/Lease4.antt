@@ -9,7 +9,7 @@ use Rattle.dhcp4_msg.specs.declared.route.DhcpV4ClasslessRoute.{DhcpV4ClasslessR
 use Rattle.dhcp4_lease.specs.Lease.{Lease, empty_lease}
 use Rattle.dhcp_script.specs.declared.lease4.Lease4.{Lease4}
 use Rattle.dhcp_script.specs.declared.version.Version.{Version}
-use Rattle.dhcp_script.specs.declared.version.Version.TheVariants.{One, Two}
+use Rattle.dhcp_script.specs.declared.version.Version.TheVariants.{One, Later}
 use Rattle.dhcp_script.specs.Field.{list_text, spaced, unless_none}
 
 -- whether a lease is not rebound before it is renewed, and does not end before it is rebound
@@ -107,7 +107,7 @@ lease_text lease = spaced (first_fields lease ++ later_fields lease)
 -- the fields that it has in a version
 abbrev pub versioned_lease_text : Version → Lease4 → List ℕ
 versioned_lease_text One lease = spaced (first_fields lease)
-versioned_lease_text Two lease = lease_text lease
+versioned_lease_text Later lease = lease_text lease
 
 -- a route whose numbers fit their types
 pub record IsRoute (route : DhcpV4ClasslessRoute) : Type 0 where
@@ -148,4 +148,4 @@ first_alone lease = record (fields_of empty_lease) {
 -- lease
 abbrev pub HasLeaseText : Version → Lease4 → Type 0
 HasLeaseText One lease = IsLease4 lease × (lease ≡ first_alone lease)
-HasLeaseText Two lease = IsLease4 lease
+HasLeaseText Later lease = IsLease4 lease

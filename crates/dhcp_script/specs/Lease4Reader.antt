@@ -13,7 +13,7 @@ use Rattle.dhcp_script.specs.declared.lease4.reader.LeaseServers.{LeaseServers}
 use Rattle.dhcp_script.specs.declared.lease4.reader.LeaseNames.{LeaseNames}
 use Rattle.dhcp_script.specs.declared.lease4.reader.Version2Fields.{Version2Fields}
 use Rattle.dhcp_script.specs.declared.version.Version.{Version}
-use Rattle.dhcp_script.specs.declared.version.Version.TheVariants.{One, Two}
+use Rattle.dhcp_script.specs.declared.version.Version.TheVariants.{One, Later}
 use Rattle.dhcp_script.specs.FieldReader.{list_in, route_in, u32_at, word_or}
 use Rattle.dhcp_script.specs.Version.{end_of_times}
 
@@ -84,7 +84,7 @@ no_version2_fields = record {
 -- the fields that version 2 alone has
 unfoldable pub version2_fields_at : Version → List ℕ → Read Version2Fields
 version2_fields_at One text = Some (no_version2_fields, text)
-version2_fields_at Two text =
+version2_fields_at Later text =
     made_of version2_fields_of (both link_at (both servers_at names_at)) text
 
 abbrev pub lease4_of : LeaseAddresses × (LeaseTimes × Version2Fields) → Lease4

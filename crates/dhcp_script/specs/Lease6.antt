@@ -10,7 +10,7 @@ use Rattle.dhcp6_msg.specs.declared.mode.DhcpV6IaType.TheVariants.{NonTemporaryA
 use Rattle.dhcp6_msg.specs.Lease.{Lease, empty_lease, is_unspecified}
 use Rattle.dhcp_script.specs.declared.lease6.Lease6.{Lease6}
 use Rattle.dhcp_script.specs.declared.version.Version.{Version}
-use Rattle.dhcp_script.specs.declared.version.Version.TheVariants.{One, Two}
+use Rattle.dhcp_script.specs.declared.version.Version.TheVariants.{One, Later}
 use Rattle.dhcp_script.specs.Duid.{duid_of, is_duid}
 use Rattle.dhcp_script.specs.Field.{spaced}
 
@@ -96,7 +96,7 @@ lease_text lease = spaced (first_fields lease ++ later_fields lease)
 -- the fields that it has in a version
 abbrev pub versioned_lease_text : Version → Lease6 → List ℕ
 versioned_lease_text One lease = spaced (first_fields lease)
-versioned_lease_text Two lease = lease_text lease
+versioned_lease_text Later lease = lease_text lease
 
 -- a lease whose numbers, addresses and bytes fit their types
 pub record IsLease6 (lease : Lease6) : Type 0 where
@@ -124,4 +124,4 @@ first_alone lease = record lease {
 -- lease
 abbrev pub HasLeaseText : Version → Lease6 → Type 0
 HasLeaseText One lease = IsLease6 lease × (lease ≡ first_alone lease)
-HasLeaseText Two lease = IsLease6 lease
+HasLeaseText Later lease = IsLease6 lease

@@ -12,7 +12,7 @@ use Rattle.dhcp_script.specs.declared.lease6.reader.LeaseAssociation.{LeaseAssoc
 use Rattle.dhcp_script.specs.declared.lease6.reader.LeaseTimes.{LeaseTimes}
 use Rattle.dhcp_script.specs.declared.lease6.reader.Version2Fields.{Version2Fields}
 use Rattle.dhcp_script.specs.declared.version.Version.{Version}
-use Rattle.dhcp_script.specs.declared.version.Version.TheVariants.{One, Two}
+use Rattle.dhcp_script.specs.declared.version.Version.TheVariants.{One, Later}
 use Rattle.dhcp_script.specs.FieldReader.{u32_at}
 use Rattle.dhcp_script.specs.Version.{end_of_times}
 
@@ -63,7 +63,7 @@ no_version2_fields = record { xid = 0; cli_duid = []; srv_ip = unspecified }
 -- the fields that version 2 alone has
 unfoldable pub version2_fields_at : Version → List ℕ → Read Version2Fields
 version2_fields_at One text = Some (no_version2_fields, text)
-version2_fields_at Two text =
+version2_fields_at Later text =
     made_of version2_fields_of
     (both (u32_at 32) (both (in_field hex_in 32) (in_field address6_in 10))) text
 

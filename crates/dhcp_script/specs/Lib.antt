@@ -16,6 +16,7 @@ pub mod Script4
 pub mod Script6
 pub mod ScriptReader
 pub mod Version
+pub mod Version3
 -- the definitions that a function unfolds beside another
 pub use Rattle.dhcp_script.specs.Script4.{config_of}
 pub use Rattle.dhcp_script.specs.Script6.{config_of as config6_of}

@@ -4,7 +4,7 @@ use Rattle.dhcp_wire.specs.Error.{ErrorParts, no_memory}
 use Rattle.dhcp_script.specs.declared.script.Script.{Script}
 use Rattle.dhcp_script.specs.declared.script.Script.TheVariants.{V4, V6}
 use Rattle.dhcp_script.specs.declared.version.Version.{Version}
-use Rattle.dhcp_script.specs.declared.version.Version.TheVariants.{One, Two}
+use Rattle.dhcp_script.specs.declared.version.Version.TheVariants.{One, Later}
 use Rattle.dhcp_script.specs.Script4 as v4
 use Rattle.dhcp_script.specs.Script4.{IsScript4, script4_text}
 use Rattle.dhcp_script.specs.Script6 as v6
@@ -25,21 +25,22 @@ abbrev pub HasTextIn : Version → Script → Type 0
 HasTextIn version (V4 script) = IsScript4 version script
 HasTextIn version (V6 script) = IsScript6 version script
 
--- the text of a script: that of version 2
+-- the text of a script: that of version 2; of version 3 if it is of an IPv4 client and says the
+-- forms of its messages
 abbrev pub script_text : Script → List ℕ
-script_text script = text_in Two script
+script_text script = text_in Later script
 
 -- a script whose numbers, addresses and bytes fit their types, and the names of whose IPv4 lease,
 -- if it has one, are UTF-8
 abbrev pub IsScript : Script → Type 0
-IsScript script = HasTextIn Two script
+IsScript script = HasTextIn Later script
 
 -- the version 1 text of a script
 abbrev pub script_text_v1 : Script → List ℕ
 script_text_v1 script = text_in One script
 
--- the same, whose lease, if there is one, has in all fields that version 1 does not name those of
--- the empty lease
+-- the same that says no forms of messages, and whose lease, if there is one, has in all fields that
+-- version 1 does not name those of the empty lease
 abbrev pub IsScriptV1 : Script → Type 0
 IsScriptV1 script = HasTextIn One script
 

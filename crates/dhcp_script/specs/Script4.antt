@@ -1,5 +1,5 @@
 -- Scripts of an IPv4 client: their limits, the configuration that they give, and their text.
-use Rattle.std.specs.Prelude.{ℕ, ◌==◌, ◌<◌, ◌^◌, Bool, true, ◌&&◌, not, nat_le, List, [], ◌∷◌, ◌++◌, length, codes, Option, Some, None, IfSome}
+use Rattle.std.specs.Prelude.{◌≡◌, ℕ, ◌==◌, ◌<◌, ◌^◌, Bool, true, ◌&&◌, not, nat_le, List, [], ◌∷◌, ◌++◌, length, codes, Option, Some, None, unwrap_or, IfSome}
 use Rattle.std.specs.List.{list_any}
 use Rattle.std.specs.Str.{is_utf8}
 use Rattle.std.specs.Fmt.{decimal}
@@ -7,6 +7,8 @@ use Rattle.hex.specs.Hex.{IsBytes, encode_lower}
 use Rattle.dhcp_stream.specs.HexText.{IsMac, hex_text}
 use Rattle.dhcp_stream.specs.Line.{line}
 use Rattle.dhcp4_msg.specs.declared.option_code.DhcpV4OptionCode.{DhcpV4OptionCode}
+use Rattle.dhcp4_lease.specs.declared.message_forms.DhcpV4MessageForms.{DhcpV4MessageForms}
+use Rattle.dhcp4_lease.specs.declared.message_forms.DhcpV4MessageForms.TheVariants.{Mozim, Rfc2131}
 use Rattle.dhcp4_lease.specs.Config as configs
 use Rattle.dhcp4_lease.specs.Config.{Config, rising_codes}
 use Rattle.dhcp_script.specs.declared.lease4.Lease4.{Lease4}
@@ -16,9 +18,10 @@ use Rattle.dhcp_script.specs.Codes.{listed_text}
 use Rattle.dhcp_script.specs.Event.{are_valid}
 use Rattle.dhcp_script.specs.Field.{flag_text, spaced, unless_none}
 use Rattle.dhcp_script.specs.declared.version.Version.{Version}
+use Rattle.dhcp_script.specs.declared.version.Version.TheVariants.{Later, One}
 use Rattle.dhcp_script.specs.Lease4.{are_times_in_order, versioned_lease_text, HasLeaseText}
 use Rattle.dhcp_script.specs.Life.{IsLife, life_text}
-use Rattle.dhcp_script.specs.Version.{first_line4}
+use Rattle.dhcp_script.specs.Version.{family4, number4}
 
 -- how many bytes a host name, a client identifier and a list of codes have at most
 abbrev pub most_host_bytes : ℕ
@@ -66,6 +69,7 @@ with_fields script config = record config {
   client_id = script.client;
   host_name = script.host;
   request_opts = request_list script.codes config.request_opts;
+  message_forms = unwrap_or script.forms Mozim;
 }
 
 -- the configuration of the script's client; the interface has no name
@@ -78,11 +82,22 @@ iface_text script =
     spaced (decimal script.iface_index ∷ encode_lower script.mac
     ∷ flag_text (codes "1") (codes "0") script.is_proxy ∷ decimal script.timeout_sec ∷ [])
 
+-- the word for forms of messages
+abbrev pub forms_word : DhcpV4MessageForms → List ℕ
+forms_word Mozim = codes "mozim"
+forms_word Rfc2131 = codes "rfc2131"
+
+-- the line of the forms of the messages, if they are said
+abbrev pub forms_text : Option DhcpV4MessageForms → List ℕ
+forms_text None = []
+forms_text (Some forms) = line (codes "forms " ++ forms_word forms)
+
 -- the lines up to that of the client identifier
 abbrev pub first_lines : Version → Script4 → List ℕ
 first_lines version script =
-    first_line4 version
+    family4 ++ number4 version script.forms
     ++ line (codes "iface " ++ iface_text script)
+    ++ forms_text script.forms
     ++ line (codes "host " ++ hex_text script.host)
     ++ line (codes "client " ++ hex_text script.client)
 
@@ -94,12 +109,18 @@ script4_text version script =
     ++ line (codes "lease " ++ unless_none (versioned_lease_text version) script.lease)
     ++ life_text script.words script.start script.events
 
+-- the forms of the messages are said in a later version alone
+abbrev pub HasFormsText : Version → Option DhcpV4MessageForms → Type 0
+HasFormsText One forms = forms ≡ None
+HasFormsText Later forms = Unit {0}
+
 -- a script that has a text in a version: one whose numbers and bytes fit their types, and whose
--- lease, if there is one, has a text in it
+-- lease and forms, if there are any, have a text in it
 pub record IsScript4 (version : Version) (script : Script4) : Type 0 where
   pub iface_index : script.iface_index < 2 ^ 32
   pub mac : IsMac script.mac
   pub timeout_sec : script.timeout_sec < 2 ^ 32
+  pub forms : HasFormsText version script.forms
   pub host : IsBytes script.host
   pub client : IsBytes script.client
   pub codes : IfSome script.codes IsBytes

@@ -55,6 +55,7 @@ pub fn demo_script(alloc: Global, n: u32) -> Result<Script, DhcpError>
         mac: [2, 0, 0, 0, 0, 1],
         is_proxy: false,
         timeout_sec: 0,
+        forms: None,
         host: Bytes::new(alloc),
         client: Bytes::new(alloc),
         codes: Some(codes),

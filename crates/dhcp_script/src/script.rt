@@ -46,14 +46,14 @@ impl Script {
     }
 }
 
-/// The script of a text. None if and only if no script has this text; no text is that of two
-/// scripts. Out of memory is the only error.
+/// The script of a text, in version 2, or of an IPv4 client in version 3. None if and only if no
+/// script has this text; no text is that of two scripts. Out of memory is the only error.
 pub fn read_script(alloc: Global, text: &[u8]) -> Result<Option<Script>, DhcpError>
     ensures reading { GivesReading script_text IsScript result text.now }
     ensures one { (script : Script) → IsScript script → script_text script ≡ text.now →
         Makes (λ read. read) result (Some script) }
 {
-    read_version(alloc, Version::Two, text)
+    read_version(alloc, Version::Later, text)
 }
 
 /// The script of a text in version 1, which has the first fields of a lease alone, six of an IPv4
@@ -68,7 +68,8 @@ pub fn read_script_v1(alloc: Global, text: &[u8]) -> Result<Option<Script>, Dhcp
     read_version(alloc, Version::One, text)
 }
 
-/// The text of the script that has this text in version 1. None if and only if no script has it.
+/// The text, in version 2, of the script that has this text in version 1. None if and only if no
+/// script has it.
 /// Out of memory is the only error.
 pub fn upgrade(alloc: Global, text: &[u8]) -> Result<Option<Bytes>, DhcpError>
     ensures upgrading { GivesUpgrade result text.now }
@@ -102,7 +103,8 @@ fn read_version(alloc: Global, version: Version, text: &[u8]) -> Result<Option<S
     }
 }
 
-/// The text of a script. Out of memory is the only error.
+/// The text of a script, in version 2, or in version 3 if it says the forms of its client's messages.
+/// Out of memory is the only error.
 pub fn write_script(alloc: Global, script: &Script) -> Result<Bytes, DhcpError>
     ensures { Makes (λ text. text) result (script_text script.now) }
 {

@@ -15,7 +15,7 @@ ghost use Rattle.dhcp_script.specs.Script4.{config_of, is_valid, request_list};
 use crate::codes::are_few;
 use crate::{Event, Lease4, are_valid};
 use dhcp_wire::{Bytes, DhcpError, Sequence};
-use dhcp4_lease::{DhcpV4Config, DhcpV4Lease};
+use dhcp4_lease::{DhcpV4Config, DhcpV4Lease, DhcpV4MessageForms};
 use std::alloc::Global;
 
 /// A script of an IPv4 client: its configuration, a lease that it held before, the random words
@@ -31,6 +31,9 @@ pub struct Script4 {
     /// How long the client may be in a state other than done before it gives up, in seconds; it is
     /// counted anew in each state, and 0 is no limit.
     pub timeout_sec: u32,
+    /// The forms of the client's messages; none are those of mozim. A script that says them has a
+    /// text in version 3, any other in version 2.
+    pub forms: Option<DhcpV4MessageForms>,
     /// The host name, option 12; it is UTF-8 in a valid script, and empty is none (RFC 2132,
     /// section 3.14).
     pub host: Bytes,
@@ -98,6 +101,7 @@ impl Script4 {
         config.iface_index = self.iface_index;
         config.is_proxy = self.is_proxy;
         config.timeout_sec = self.timeout_sec;
+        config.set_message_forms(self.forms.unwrap_or(DhcpV4MessageForms::Mozim));
         put_mac(config, &self.mac)?;
         put_host(alloc, config, self.host.as_slice())?;
         put_client(alloc, config, self.client.as_slice())?;

@@ -8,8 +8,9 @@ ghost use Rattle.dhcp_script.specs.Version as versions;
 pub enum Version {
     /// The first one: of a lease it has the first fields alone, up to the last of its times.
     One,
-    /// The second one, in which texts are written.
-    Two,
+    /// The later ones, in which texts are written: version 2, and version 3 of a script of an IPv4
+    /// client that says the forms of its messages.
+    Later,
 }
 
 impl Version {
@@ -19,7 +20,7 @@ impl Version {
     {
         match self {
             Version::One => b'\n',
-            Version::Two => b' ',
+            Version::Later => b' ',
         }
     }
 }

@@ -13,7 +13,7 @@ ghost use Rattle.dhcp_script.specs.Life.{IsEvent, IsLife};
 ghost use Rattle.dhcp_script.specs.Script.{IsScript};
 ghost use Rattle.dhcp_script.specs.Script4.{IsScript4};
 ghost use Rattle.dhcp_script.specs.Script6.{IsMode, IsScript6};
-ghost use Rattle.dhcp_script.specs.declared.version.Version.TheVariants.{Two};
+ghost use Rattle.dhcp_script.specs.declared.version.Version.TheVariants.{Later};
 
 use crate::{Event, EventWhat, Lease4, Lease6, Script, Script4, Script6};
 use dhcp_wire::laws::{
@@ -239,7 +239,7 @@ impl Widths for Lease6 {
 }
 
 impl Widths for Script4 {
-    ghost fits = { IsScript4 Two };
+    ghost fits = { IsScript4 Later };
 
     fn widths(&self) {
         fits_four_bytes(self.iface_index);
@@ -254,7 +254,7 @@ impl Widths for Script4 {
 }
 
 impl Widths for Script6 {
-    ghost fits = { IsScript6 Two };
+    ghost fits = { IsScript6 Later };
 
     fn widths(&self) {
         fits_four_bytes(self.iface_index);

@@ -166,7 +166,7 @@ fn read_version2_fields(
 {
     match version {
         Version::One => Ok(Version2Fields::none()),
-        Version::Two => Ok(Version2Fields {
+        Version::Later => Ok(Version2Fields {
             link: read_link(alloc, text)?,
             servers: read_servers(alloc, text)?,
             names: read_names(alloc, text)?,

@@ -130,7 +130,7 @@ fn read_version2_fields(
 {
     match version {
         Version::One => Ok(Version2Fields::none(alloc)),
-        Version::Two => Ok(Version2Fields {
+        Version::Later => Ok(Version2Fields {
             xid: read_field(alloc, text, b' ')?,
             cli_duid: text.hex(alloc, b' ')?,
             srv_ip: read_field(alloc, text, b'\n')?,

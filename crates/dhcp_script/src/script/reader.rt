@@ -1,9 +1,9 @@
 //! The reader of a script of either family.
 
 ghost use Rattle.std.specs.Prelude.{if◌then◌else◌, ◌==◌, length, None, Some};
-ghost use Rattle.dhcp_stream.specs.TextReader.{tag_at, Finds, Skips, Takes};
+ghost use Rattle.dhcp_stream.specs.TextReader.{tag_at, Finds, Takes};
 ghost use Rattle.dhcp_script.specs.ScriptReader.{script_at, script_in};
-ghost use Rattle.dhcp_script.specs.Version.{first_line4, first_line6};
+ghost use Rattle.dhcp_script.specs.Version.{first_line6};
 
 use crate::Script;
 use crate::script4::reader::read_script4;
@@ -38,21 +38,11 @@ fn at_end<T: Drop>(text: &TextReader, read: T) -> Result<T, ReadError>
 fn read_front(alloc: Global, version: Version, text: &mut TextReader) -> Result<Script, ReadError>
     ensures { Takes result text.new (script_at version text.old) }
 {
-    if skip_first_line4(version, text) {
+    if text.skip(b"dhcp4 ") {
         return Ok(Script::V4(read_script4(alloc, version, text)?));
     }
     skip_first_line6(version, text)?;
     Ok(Script::V6(read_script6(alloc, version, text)?))
-}
-
-// Skips the first line of a script of an IPv4 client, if the text goes on with it.
-fn skip_first_line4(version: Version, text: &mut TextReader) -> bool
-    ensures { Skips result text.old text.new (tag_at (first_line4 version) text.old) }
-{
-    match version {
-        Version::One => text.skip(b"dhcp4 1\n"),
-        Version::Two => text.skip(b"dhcp4 2\n"),
-    }
 }
 
 // Skips the first line of a script of an IPv6 client.
@@ -61,6 +51,6 @@ fn skip_first_line6(version: Version, text: &mut TextReader) -> Result<(), ReadE
 {
     match version {
         Version::One => text.tag(b"dhcp6 1\n"),
-        Version::Two => text.tag(b"dhcp6 2\n"),
+        Version::Later => text.tag(b"dhcp6 2\n"),
     }
 }

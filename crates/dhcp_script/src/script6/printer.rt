@@ -3,7 +3,7 @@
 ghost use Rattle.std.specs.Prelude.{◌≡◌, ◌++◌, ◌∷◌, [], OnOk, codes, string_bytes};
 ghost use Rattle.dhcp_stream.specs.HexText.{address6_text};
 ghost use Rattle.dhcp_stream.specs.Line.{line};
-ghost use Rattle.dhcp_script.specs.declared.version.Version.TheVariants.{Two};
+ghost use Rattle.dhcp_script.specs.declared.version.Version.TheVariants.{Later};
 ghost use Rattle.dhcp_script.specs.Script6.{
   first_lines,
   iface_text,
@@ -25,7 +25,7 @@ use std::alloc::AllocError;
 #[tactic(auto, unfolding(crate::specs::Script6::script6_text))]
 pub fn push_script6(text: &mut String, script: &Script6) -> Result<(), AllocError>
     ensures { OnOk result (string_bytes text.new
-        ≡ string_bytes text.old ++ script6_text Two script.now) }
+        ≡ string_bytes text.old ++ script6_text Later script.now) }
 {
     push_first_lines(text, script)?;
     push_codes(text, &script.codes)?;
@@ -36,7 +36,7 @@ pub fn push_script6(text: &mut String, script: &Script6) -> Result<(), AllocErro
 // Puts the lines up to that of the identifier at the end of a text.
 fn push_first_lines(text: &mut String, script: &Script6) -> Result<(), AllocError>
     ensures { OnOk result (string_bytes text.new
-        ≡ string_bytes text.old ++ first_lines Two script.now) }
+        ≡ string_bytes text.old ++ first_lines Later script.now) }
 {
     text.push_str("dhcp6 2\n")?;
     push_iface(text, script)?;

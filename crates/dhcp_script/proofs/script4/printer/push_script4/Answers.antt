@@ -3,7 +3,7 @@ use Rattle.dhcp_stream.specs.Line.{line}
 use Rattle.dhcp_script.specs.Field.{unless_none}
 use Rattle.dhcp_script.specs.Lease4.{lease_text}
 use Rattle.dhcp_script.specs.Life.{life_text}
-use Rattle.dhcp_script.specs.declared.version.Version.TheVariants.{Two}
+use Rattle.dhcp_script.specs.declared.version.Version.TheVariants.{Later}
 use Rattle.dhcp_script.specs.Codes.{listed_text}
 use Rattle.dhcp_script.specs.Script4.{first_lines}
 use Rattle.dhcp_stream.specs.HexText.{hex_text}
@@ -15,5 +15,5 @@ returns c =
     let script = c.args.script.now in
     let asked = line (codes "codes " ++ listed_text hex_text script.codes) in
     let held = line (codes "lease " ++ unless_none lease_text script.lease) in
-    pushed4 c.push_life.result _ _ _ _ _ (first_lines Two script) asked held (life_text script.words script.start script.events) _
+    pushed4 c.push_life.result _ _ _ _ _ (first_lines Later script) asked held (life_text script.words script.start script.events) _
     c.push_life.ensures c.in_ok-push_held_lease.ensures c.in_ok-push_codes.ensures c.in_ok-push_first_lines.ensures (script4_text-lines script)
