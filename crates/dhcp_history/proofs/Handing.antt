@@ -68,14 +68,19 @@ module _ {PublicState Packet Message State Exchange Answer Lease : Type 0} (p : 
         by_end false v vs ih =
             own-append setting.state (last.acts ++ (refused_release p setting progress.exchange v ++ Attempted (attempt_at p setting now v) ∷ [])) (course p fuel setting (progress_after p setting now v) (after_call v ∷ vs)).acts
             (own-append setting.state last.acts (refused_release p setting progress.exchange v ++ Attempted (attempt_at p setting now v) ∷ []) heard
-            (own-append setting.state (refused_release p setting progress.exchange v) (Attempted (attempt_at p setting now v) ∷ []) (denied_own progress.exchange v)
-            (((progress_after p setting now v).exchange, record {
-              before = exchange_after p now;
-              start = record { is_first = is_none_yet now.last; entered = setting.entered; now = v.moment };
-              words = now.words;
-              at_its_moment = refl;
-              made = refl;
-            }), tt)))
+            (own-append setting.state (refused_release p setting progress.exchange v) (Attempted (attempt_at p setting now v) ∷ []) (denied_own progress.exchange v) (
+              (
+                (progress_after p setting now v).exchange,
+                record {
+                  before = exchange_after p now;
+                  start = record { is_first = is_none_yet now.last; entered = setting.entered; now = v.moment };
+                  words = now.words;
+                  at_its_moment = refl;
+                  made = refl;
+                },
+              ),
+              tt,
+            )))
             (ih (progress_after p setting now v) (after_call v ∷ vs))
 
         go : (answer : Option Answer) (xs : List (Event Packet)) → ((next : Progress Exchange) (ys : List (Event Packet)) → AllOwn setting.state (course p fuel setting next ys).acts) →

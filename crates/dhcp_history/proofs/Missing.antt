@@ -368,7 +368,7 @@ module _ {PublicState Packet Message State Exchange Answer Lease : Type 0} (p : 
                 ih next (after_call v) vs few inside (ahead_called e packet brings v vs here) xs later attempt (tail_of (attempt_at p setting now v) x (attempts_of run.acts) (xs ++ attempt ∷ later) h) by taken awaited past
             by_place (x ∷ xs) h (inr gone) =
                 let more : e.number < attempt.event = one_of (λ (a : Attempt Message). e.number < a.event) xs attempt later
-                    (subst Later (tail_of (attempt_at p setting now v) x (attempts_of run.acts) (xs ++ attempt ∷ later) h) (attempts_later setting fuel next (after_call v ∷ vs) gone)) in
+                (subst Later (tail_of (attempt_at p setting now v) x (attempts_of run.acts) (xs ++ attempt ∷ later) h) (attempts_later setting fuel next (after_call v ∷ vs) gone)) in
                 absurd (omega (arith, more, by))
 
         go : (answer : Option Answer) (xs : List (Event Packet)) → from (is_at_or_past progress.due) events ≡ xs →
@@ -498,7 +498,7 @@ module _ {PublicState Packet Message State Exchange Answer Lease : Type 0} (p : 
           e.moment < attempt.moment + attempt.wait → overruns p setting e ≡ false → ends p setting e ≡ false → LastsPast e.number next.closing → IsNoAnswer p packet setting.state attempt
       of_attempt (inr past) earlier later attempt split by taken awaited in_time in_state lasts =
           let more : e.number < attempt.event = one_of (λ (a : Attempt Message). e.number < a.event) earlier attempt later
-              (subst Later split (attempts_later setting (suc (length events)) progress window (past_before e packet brings (closes p setting) events past))) in
+          (subst Later split (attempts_later setting (suc (length events)) progress window (past_before e packet brings (closes p setting) events past))) in
           absurd (omega (arith, more, by))
       of_attempt (inl ahead) earlier later attempt split by taken awaited in_time in_state lasts = by_place (ahead_split e packet brings (closes p setting) open_still events ahead)
         where
@@ -535,8 +535,8 @@ module _ {PublicState Packet Message State Exchange Answer Lease : Type 0} (p : 
         attempts-append course'.acts turn.acts ∙ (ap (λ (more : List (Attempt Message)). attempts_of course'.acts ++ more) (none_turned p setting course'.finish (late setting progress (v ∷ vs))) ∙ append-nil (attempts_of course'.acts)) in (
           λ attempt is_open' lasts. of_attempt setting progress (v ∷ vs) stands is_open'.earlier is_open'.later attempt (sym same ∙ is_open'.among) is_open'.by_then is_open'.taken is_open'.awaited is_open'.in_time is_open'.in_state lasts,
           stays_hear fuel timeout_sec turn.entry turn.events
-          (turn_stands setting course'.finish (late setting progress (v ∷ vs)) (rest_stands setting progress (v ∷ vs) stands) (stands_from (closes p setting) (v ∷ vs) stands) unanswered.0)
-          unanswered.1,
+              (turn_stands setting course'.finish (late setting progress (v ∷ vs)) (rest_stands setting progress (v ∷ vs) stands) (stands_from (closes p setting) (v ∷ vs) stands) unanswered.0)
+              unanswered.1,
         )
 
 -- No packet is missed that would answer an attempt which is open.
