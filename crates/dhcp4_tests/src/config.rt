@@ -1,22 +1,19 @@
 //! Configurations.
 
 use dhcp_wire::{DhcpError, ErrorKind};
-use dhcp4_lease::DhcpV4Config;
+use dhcp4_lease::{DhcpV4Config, DhcpV4MessageForms};
 use std::alloc::Global;
 
 // The MAC address of every configuration.
 const MAC: [u8; 6] = [2, 0, 0, 0, 0, 1];
-
-// A configuration that requests the mask, routers and name servers.
-pub(crate) fn plain_config(alloc: Global) -> Result<DhcpV4Config, DhcpError> {
-    stepped(alloc, Step::Override)
-}
 
 // What changes a new configuration.
 #[derive(Clone, Copy)]
 pub(crate) enum Step {
     None,
     Override,
+    Rfc2131,
+    Rfc2131WithClient,
     Extra,
     Client,
     MacAsClient,
@@ -38,6 +35,12 @@ fn change(alloc: Global, config: &mut DhcpV4Config, step: Step) -> Result<(), Dh
     match step {
         Step::None => config,
         Step::Override => config.override_request_dhcp_opts(alloc, &[6, 3, 1, 3])?,
+        Step::Rfc2131 => config
+            .override_request_dhcp_opts(alloc, &[1, 3, 6])?
+            .set_message_forms(DhcpV4MessageForms::Rfc2131),
+        Step::Rfc2131WithClient => config
+            .set_message_forms(DhcpV4MessageForms::Rfc2131)
+            .set_client_id(alloc, 5, &[9])?,
         Step::Extra => config.request_extra_dhcp_opts(alloc, &[3, 2])?,
         Step::Client => config.set_client_id(alloc, 5, &[9])?,
         Step::MacAsClient => config.use_mac_as_client_id(alloc)?,
@@ -103,17 +106,28 @@ fn numbers_are_set_in_a_chain(rt: HostRuntime) {
     assert!(rt; (config.iface_index, config.timeout_sec) == (3, 60));
 }
 
+#[test]
+fn the_message_forms_are_those_of_mozim_unless_set(rt: HostRuntime) {
+    let mut config = DhcpV4Config::empty(rt.alloc()).expect(&rt, "memory");
+    assert!(rt; DhcpV4MessageForms::default() == DhcpV4MessageForms::Mozim);
+    assert!(rt; config.message_forms() == DhcpV4MessageForms::Mozim);
+    config.set_message_forms(DhcpV4MessageForms::Rfc2131);
+    assert!(rt; config.message_forms() == DhcpV4MessageForms::Rfc2131);
+}
+
 // A configuration whose MAC address is set from a text, and a copy of it.
 fn is_copied(alloc: Global) -> Result<bool, DhcpError> {
     let mut config = DhcpV4Config::empty(alloc)?;
     config.set_iface_mac(alloc, "02:00:00:00:00:01")?;
+    config.set_message_forms(DhcpV4MessageForms::Rfc2131);
     is_equal_to_copy(alloc, &config)
 }
 
 // Whether a configuration is equal to its copy.
 fn is_equal_to_copy(alloc: Global, config: &DhcpV4Config) -> Result<bool, DhcpError> {
     let copy = config.try_clone(alloc)?;
-    Ok(copy == *config && copy.iface_mac() == MAC)
+    let has_forms = copy.message_forms() == DhcpV4MessageForms::Rfc2131;
+    Ok(copy == *config && copy.iface_mac() == MAC && has_forms)
 }
 
 #[test]

@@ -3,7 +3,7 @@
 ghost use Rattle.std.specs.Prelude.{IsTrue};
 ghost use Rattle.dhcp4_lease.specs.Config.{is_within_limits};
 
-use crate::config::{Step, plain_config, stepped};
+use crate::config::{Step, stepped};
 use dhcp_wire::{BufferMut, Bytes, DhcpError, ErrorKind, FixedText};
 use dhcp4_lease::{
     DhcpV4Config, DhcpV4Lease, new_discovery, new_rebind, new_reboot_request, new_release,
@@ -88,22 +88,30 @@ fn bytes_of(
     written(alloc, &message)
 }
 
-// The bytes of one of the six messages, of the plain configuration and this lease.
-fn plain_bytes(alloc: Global, lease: &DhcpV4Lease, sent: Sent) -> Result<Bytes, DhcpError> {
-    let config = plain_config(alloc)?;
+// The bytes of one of the six messages, of a configuration that this step has changed and of this
+// lease.
+fn bytes_after(
+    alloc: Global,
+    step: Step,
+    lease: &DhcpV4Lease,
+    sent: Sent,
+) -> Result<Bytes, DhcpError> {
+    let config = stepped(alloc, step)?;
     bytes_of(alloc, &config, lease, sent)
 }
 
-// Whether a message of the plain lease has this client address and these options.
+// Whether a message of the plain lease, and of a configuration that this step has changed, has this
+// client address and these options.
 fn is_written(
     alloc: Global,
+    step: Step,
     sent: Sent,
     ciaddr: [u8; 4],
     options: &[u8],
 ) -> Result<bool, DhcpError> {
     let wanted = payload(alloc, ciaddr, options)?;
     let lease = plain_lease(alloc);
-    let bytes = plain_bytes(alloc, &lease, sent);
+    let bytes = bytes_after(alloc, step, &lease, sent);
     Ok(bytes? == wanted)
 }
 
@@ -128,7 +136,32 @@ fn each_message_is_its_row_byte_by_byte(rt: HostRuntime) {
         (Sent::Release, [0; 4], &release),
     ];
     for (sent, ciaddr, options) in cases {
-        assert!(rt; is_written(rt.alloc(), sent, ciaddr, options).expect(&rt, "answer"));
+        let is_written = is_written(rt.alloc(), Step::Override, sent, ciaddr, options);
+        assert!(rt; is_written.expect(&rt, "answer"));
+    }
+}
+
+// By tables 4 and 5 of RFC 2131, without a client identifier.
+#[test]
+fn each_message_by_rfc_2131_is_its_row_byte_by_byte(rt: HostRuntime) {
+    let discover = [0x35, 1, 1, 0x37, 3, 1, 3, 6, 255];
+    let request = [
+        0x32, 4, 192, 0, 2, 10, 0x35, 1, 3, 0x36, 4, 192, 0, 2, 1, 0x37, 3, 1, 3, 6, 255,
+    ];
+    let reboot = [0x32, 4, 192, 0, 2, 10, 0x35, 1, 3, 0x37, 3, 1, 3, 6, 255];
+    let extend = [0x35, 1, 3, 0x37, 3, 1, 3, 6, 255];
+    let release = [0x35, 1, 7, 0x36, 4, 192, 0, 2, 1, 0x37, 3, 1, 3, 6, 255];
+    let cases: [(Sent, [u8; 4], &[u8]); 6] = [
+        (Sent::Discover, [0; 4], &discover),
+        (Sent::Request, [0; 4], &request),
+        (Sent::Reboot, [0; 4], &reboot),
+        (Sent::Renew, [192, 0, 2, 10], &extend),
+        (Sent::Rebind, [192, 0, 2, 10], &extend),
+        (Sent::Release, [192, 0, 2, 10], &release),
+    ];
+    for (sent, ciaddr, options) in cases {
+        let is_written = is_written(rt.alloc(), Step::Rfc2131, sent, ciaddr, options);
+        assert!(rt; is_written.expect(&rt, "answer"));
     }
 }
 
@@ -160,7 +193,8 @@ fn discovers_after(alloc: Global, step: Step, option: &[u8]) -> Result<bool, Dhc
 fn what_is_set_is_sent(rt: HostRuntime) {
     let usual = [0x37, 9, 0x0c, 1, 3, 6, 0x0f, 0x1a, 0x2a, 0x79, 0xf9];
     let more = [0x37, 10, 1, 2, 3, 6, 0x0c, 0x0f, 0x1a, 0x2a, 0x79, 0xf9];
-    let cases: [(Step, &[u8]); 8] = [
+    let cases: [(Step, &[u8]); 9] = [
+        (Step::Rfc2131WithClient, &[0x3d, 2, 5, 9]),
         (Step::None, &usual),
         (Step::Extra, &more),
         (Step::Client, &[0x3d, 2, 5, 9]),
@@ -189,6 +223,7 @@ fn without_a_server_identifier_the_next_server_is_named(rt: HostRuntime) {
     let request = [
         0x32, 4, 192, 0, 2, 10, 0x35, 1, 3, 0x36, 4, 192, 0, 2, 7, 0x37, 3, 1, 3, 6, 0x3d, 0, 255,
     ];
-    let bytes = plain_bytes(alloc, &anonymous_lease(alloc), Sent::Request).expect(&rt, "answer");
+    let lease = anonymous_lease(alloc);
+    let bytes = bytes_after(alloc, Step::Override, &lease, Sent::Request).expect(&rt, "answer");
     assert!(rt; bytes == payload(alloc, [0; 4], &request).expect(&rt, "answer"));
 }

@@ -10,11 +10,13 @@ use Rattle.dhcp4_msg.specs.declared.message.DhcpV4Message.{DhcpV4Message}
 use Rattle.dhcp4_msg.specs.declared.message_type.DhcpV4MessageType.{DhcpV4MessageType}
 use Rattle.dhcp4_msg.specs.declared.message_type.DhcpV4MessageType.TheVariants.{Offer, Ack}
 use Rattle.dhcp4_lease.specs.Config.{Config}
+use Rattle.dhcp4_lease.specs.declared.message_forms.DhcpV4MessageForms.{DhcpV4MessageForms}
+use Rattle.dhcp4_lease.specs.declared.message_forms.DhcpV4MessageForms.TheVariants.{Mozim, Rfc2131}
 use Rattle.dhcp4_lease.specs.Lease.{Lease}
 use Rattle.dhcp4_client.specs.Answer.{awaited, message_for, reading_of}
 use Rattle.dhcp4_client.specs.Client.{first_state}
 use Rattle.dhcp4_client.specs.Message.{attempt_message}
-use Rattle.dhcp4_client.specs.Rules.{after_answer, after_end, protocol, reading}
+use Rattle.dhcp4_client.specs.Rules.{after_answer, after_end, protocol, reading, requesting}
 use Rattle.dhcp4_client.specs.declared.answer.Answer.{Answer}
 use Rattle.dhcp4_client.specs.declared.answer.Answer.TheVariants.{Granted, Refused}
 use Rattle.dhcp4_client.specs.declared.answer.Awaited.{Awaited}
@@ -42,17 +44,17 @@ module _ (config : Config) (before : Option Lease) (events : List (LifeEvent Pac
   grant_of (Rebinding bound) = Ack
 
   abbrev Read : ℕ → ClientState → Answer → Type 0
-  Read number state (Granted lease) = IsReadFrom events xid number (grant_of state) lease
+  Read number state (Granted lease) = IsReadFrom config.message_forms events xid number (grant_of state) lease
   Read number state Refused = Unit {0}
 
   abbrev Fits : ClientState → Handed → Type 0
   Fits = IsMessageOf config xid
 
   abbrev Held : ℕ → ClientState → Type 0
-  Held number state = HasBasis before events xid number state
+  Held number state = HasBasis config.message_forms before events xid number state
 
-  awaits : (state : ClientState) (message : Option DhcpV4Message) (words : List ℕ) (lease : Lease) → (reading_of (awaited state) message words).value ≡ Some (Granted lease) →
-      option_map (λ (found : Awaited). found.grant) (awaited state) ≡ Some (grant_of state)
+  awaits : (state : ClientState) (message : Option DhcpV4Message) (words : List ℕ) (lease : Lease) → (reading_of (awaited config.message_forms state) message words).value ≡ Some (Granted lease) →
+      option_map (λ (found : Awaited). found.grant) (awaited config.message_forms state) ≡ Some (grant_of state)
   awaits InitReboot message words lease is = refl
   awaits (Selecting offer) message words lease is = refl
   awaits (Rebooting held) message words lease is = refl
@@ -61,22 +63,22 @@ module _ (config : Config) (before : Option Lease) (events : List (LifeEvent Pac
   awaits (Rebinding bound) message words lease is = refl
 
   reads : (number : ℕ) (state : ClientState) (exchange : Exchange) (packet : Packet) (words : List ℕ) → Good exchange → ComesInBy events number packet →
-      kept.ReadIf (protocol config) Good Held Read (ComesInBy events) Fits number state (reading state exchange packet words).value
-  reads number state exchange packet words good comes = go (reading state exchange packet words).value refl
+      kept.ReadIf (protocol config) Good Held Read (ComesInBy events) Fits number state (reading config.message_forms state exchange packet words).value
+  reads number state exchange packet words good comes = go (reading config.message_forms state exchange packet words).value refl
     where
-      go : (answer : Option Answer) → (reading state exchange packet words).value ≡ answer → kept.ReadIf (protocol config) Good Held Read (ComesInBy events) Fits number state answer
+      go : (answer : Option Answer) → (reading config.message_forms state exchange packet words).value ≡ answer → kept.ReadIf (protocol config) Good Held Read (ComesInBy events) Fits number state answer
       go None is = tt
       go (Some Refused) is = tt
       go (Some (Granted lease)) is = record {
         packet = packet;
         comes_in = comes;
         state = state;
-        awaits = awaits state (message_for (awaited state) exchange.xid packet) words lease is;
+        awaits = awaits state (message_for (awaited config.message_forms state) exchange.xid packet) words lease is;
         drawn = words;
-        reads = ap (λ (id : ℕ). (reading_of (awaited state) (message_for (awaited state) id packet) words).value) (sym good) ∙ is;
+        reads = ap (λ (id : ℕ). (reading_of (awaited config.message_forms state) (message_for (awaited config.message_forms state) id packet) words).value) (sym good) ∙ is;
       }
 
-  read_later : (number more : ℕ) (kind : DhcpV4MessageType) (lease : Lease) → number ≤ more → IsReadFrom events xid number kind lease → IsReadFrom events xid more kind lease
+  read_later : (number more : ℕ) (kind : DhcpV4MessageType) (lease : Lease) → number ≤ more → IsReadFrom config.message_forms events xid number kind lease → IsReadFrom config.message_forms events xid more kind lease
   read_later number more kind lease le read = record {
     packet = read.packet;
     comes_in = comes_later events number more read.packet le read.comes_in;
@@ -94,7 +96,7 @@ module _ (config : Config) (before : Option Lease) (events : List (LifeEvent Pac
   later number more (Renewing bound) le held = read_later number more Ack bound.lease le held
   later number more (Rebinding bound) le held = read_later number more Ack bound.lease le held
 
-  answered_held : (number : ℕ) (state : ClientState) (answer : Answer) (now : ℕ) (exchange : Exchange) → Read number state answer → Held number (after_answer state answer now exchange).state
+  answered_held : (number : ℕ) (state : ClientState) (answer : Answer) (now : ℕ) (exchange : Exchange) → Read number state answer → Held number (after_answer config.message_forms state answer now exchange).state
   answered_held number state Refused now exchange read = tt
   answered_held number InitReboot (Granted lease) now exchange read = read
   answered_held number (Selecting offer) (Granted lease) now exchange read = read
@@ -103,9 +105,14 @@ module _ (config : Config) (before : Option Lease) (events : List (LifeEvent Pac
   answered_held number (Renewing bound) (Granted lease) now exchange read = read
   answered_held number (Rebinding bound) (Granted lease) now exchange read = read
 
-  answered_good : (state : ClientState) (answer : Answer) (now : ℕ) (exchange : Exchange) → Good exchange → Good (after_answer state answer now exchange).exchange
+  -- the count alone may begin anew
+  same_xid : (forms : DhcpV4MessageForms) (exchange : Exchange) → (requesting forms exchange).xid ≡ exchange.xid
+  same_xid Mozim exchange = refl
+  same_xid Rfc2131 exchange = refl
+
+  answered_good : (state : ClientState) (answer : Answer) (now : ℕ) (exchange : Exchange) → Good exchange → Good (after_answer config.message_forms state answer now exchange).exchange
   answered_good state Refused now exchange good = good
-  answered_good InitReboot (Granted lease) now exchange good = good
+  answered_good InitReboot (Granted lease) now exchange good = same_xid config.message_forms exchange ∙ good
   answered_good (Selecting offer) (Granted lease) now exchange good = good
   answered_good (Rebooting held) (Granted lease) now exchange good = good
   answered_good (Done bound) (Granted lease) now exchange good = good
@@ -150,7 +157,7 @@ module _ (config : Config) (before : Option Lease) (events : List (LifeEvent Pac
       go None is = tt
       go (Some lease) is = is
 
-pub names_its_basis : (config : Config) (lease : Option Lease) (words : List ℕ) (events : List Event) → All (NamesItsBasis (HasBasis lease (numbered 1 events) (next_of words)) (IsMessageOf config (next_of words))) (history4 config lease words events)
+pub names_its_basis : (config : Config) (lease : Option Lease) (words : List ℕ) (events : List Event) → All (NamesItsBasis (HasBasis config.message_forms lease (numbered 1 events) (next_of words)) (IsMessageOf config (next_of words))) (history4 config lease words events)
 names_its_basis config lease words events =
     let xid : ℕ = next_of words in
     let all : List (LifeEvent Packet) = numbered 1 events in

@@ -11,9 +11,11 @@ use Rattle.dhcp_history.specs.declared.script.Event.{Event as LifeEvent}
 use Rattle.dhcp4_msg.specs.declared.message_type.DhcpV4MessageType.{DhcpV4MessageType}
 use Rattle.dhcp4_msg.specs.declared.message_type.DhcpV4MessageType.TheVariants.{Offer, Ack}
 use Rattle.dhcp4_lease.specs.Config.{Config}
+use Rattle.dhcp4_lease.specs.declared.message_forms.DhcpV4MessageForms.{DhcpV4MessageForms}
+use Rattle.dhcp4_lease.specs.declared.message_forms.DhcpV4MessageForms.TheVariants.{Rfc2131}
 use Rattle.dhcp4_lease.specs.Lease.{Lease}
 use Rattle.dhcp4_client.specs.Answer.{awaited, message_for, reading_of}
-use Rattle.dhcp4_client.specs.Bounds.{GetsRarer, HasFourRequests, distance}
+use Rattle.dhcp4_client.specs.Bounds.{GetsRarer, HasFourRequests, HasFourRequestsOfAnOffer, distance}
 use Rattle.dhcp4_client.specs.Message.{attempt_message}
 use Rattle.dhcp4_client.specs.Rules.{protocol}
 use Rattle.dhcp4_client.specs.declared.answer.Answer.TheVariants.{Granted}
@@ -28,27 +30,32 @@ use Rattle.dhcp_replay.specs.Replayed4.{history4, life_of}
 use Rattle.dhcp_replay.specs.Settles.{ComesInBy, NamesItsBasis, SettlesAtEach}
 
 -- The lease is read from a packet that comes in by the event with this number, as the answer to a
--- transaction id, in a state that awaits a message of this type.
-pub record IsReadFrom (events : List (LifeEvent Packet)) (xid last : ℕ) (kind : DhcpV4MessageType)
-    (lease : Lease) : Type 0 where
+-- transaction id, in a state that awaits, by these forms of messages, a message of this type.
+pub record IsReadFrom (forms : DhcpV4MessageForms) (events : List (LifeEvent Packet))
+    (xid last : ℕ) (kind : DhcpV4MessageType) (lease : Lease) : Type 0 where
   pub packet : Packet
   pub comes_in : ComesInBy events last packet
   pub state : ClientState
-  pub awaits : option_map (λ found. found.grant) (awaited state) ≡ Some kind
+  pub awaits : option_map (λ found. found.grant) (awaited forms state) ≡ Some kind
   pub drawn : List ℕ
-  pub reads : (reading_of (awaited state) (message_for (awaited state) xid packet) drawn).value
-      ≡ Some (Granted lease)
+  pub reads : (reading_of (awaited forms state)
+      (message_for (awaited forms state) xid packet) drawn).value ≡ Some (Granted lease)
 
 -- Where the offer or the lease of a state that is entered at the event with this number comes from:
 -- it was read from a packet that came by then, the offer from an Offer and the lease from an Ack;
 -- or it is the lease that the client held before.
-abbrev pub HasBasis : Option Lease → List (LifeEvent Packet) → ℕ → ℕ → ClientState → Type 0
-HasBasis before events xid entry InitReboot = Unit {0}
-HasBasis before events xid entry (Selecting offer) = IsReadFrom events xid entry Offer offer
-HasBasis before events xid entry (Rebooting lease) = before ≡ Some lease
-HasBasis before events xid entry (Done bound) = IsReadFrom events xid entry Ack bound.lease
-HasBasis before events xid entry (Renewing bound) = IsReadFrom events xid entry Ack bound.lease
-HasBasis before events xid entry (Rebinding bound) = IsReadFrom events xid entry Ack bound.lease
+abbrev pub HasBasis : DhcpV4MessageForms → Option Lease → List (LifeEvent Packet) → ℕ → ℕ →
+    ClientState → Type 0
+HasBasis forms before events xid entry InitReboot = Unit {0}
+HasBasis forms before events xid entry (Selecting offer) =
+    IsReadFrom forms events xid entry Offer offer
+HasBasis forms before events xid entry (Rebooting lease) = before ≡ Some lease
+HasBasis forms before events xid entry (Done bound) =
+    IsReadFrom forms events xid entry Ack bound.lease
+HasBasis forms before events xid entry (Renewing bound) =
+    IsReadFrom forms events xid entry Ack bound.lease
+HasBasis forms before events xid entry (Rebinding bound) =
+    IsReadFrom forms events xid entry Ack bound.lease
 
 -- the message of a state names its offer or its lease
 abbrev pub IsMessageOf : Config → ℕ → ClientState → Handed → Type 0
@@ -67,6 +74,9 @@ pub record KeepsPromises (config : Config) (lease : Option Lease) (words : List 
   pub messages_far_apart : All (KeepsDistance distance) (history4 config lease words events)
   -- a lease that was held before is requested at most four times in a stay
   pub four_requests : All HasFourRequests (history4 config lease words events)
+  -- so is an offer, by the forms of RFC 2131
+  pub four_offer_requests : config.message_forms ≡ Rfc2131 →
+      All HasFourRequestsOfAnOffer (history4 config lease words events)
   -- an event has at most two messages, and one more where it asks for a release
   pub two_messages : (number : ℕ) → count_of (is_send_at number)
       (outputs (protocol config) (history4 config lease words events))
@@ -74,7 +84,8 @@ pub record KeepsPromises (config : Config) (lease : Option Lease) (words : List 
   -- each attempt's message names the offer or the lease of its state, which was read from an
   -- earlier packet, or is the lease that was held before
   pub names_its_basis :
-      All (NamesItsBasis (HasBasis lease (numbered 1 events) (next_of words))
+      All (NamesItsBasis
+      (HasBasis config.message_forms lease (numbered 1 events) (next_of words))
       (IsMessageOf config (next_of words))) (history4 config lease words events)
   -- point by point: what answers a stay, that no answer is missed, whose each message is, and how
   -- the stays follow one another

@@ -18,7 +18,7 @@ use Rattle.dhcp_replay.specs.Replayed.{outputs_of, outputs_of_v4}
 unfoldable pub printed : Script → List ℕ
 printed script = outputs_text (outputs_of script)
 
--- scripts in version 2 of the texts
+-- scripts in the later versions of the texts: version 2, and version 3 of an IPv4 client
 abbrev pub scripts : Texts Script
 scripts = record {
   text = script_text;

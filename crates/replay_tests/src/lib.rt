@@ -3,6 +3,8 @@
 #![tactic(auto)]
 
 #[cfg(test)]
+mod forms4;
+#[cfg(test)]
 mod lease4;
 #[cfg(test)]
 mod lease6;

@@ -5,18 +5,37 @@ use crate::words::push_line;
 use dhcp_wire::DhcpError;
 use std::alloc::{AllocError, Global};
 
-/// The scripts of a family: their first word, and their usual lines before the events.
+/// The scripts of a family: their first word, their usual version, and their usual lines before the
+/// events.
 #[derive(Clone, Copy)]
 pub struct Family {
     word: &'static str,
+    version: u32,
     front: &'static str,
 }
 
 /// Scripts of an IPv4 client.
 pub const IPV4: Family = Family {
     word: "dhcp4",
+    version: 2,
     front: "
         iface 1 020000000001 0 0
+        host -
+        client -
+        codes 010306
+        lease none
+        words 12345678
+        start 0
+    ",
+};
+
+/// Scripts of an IPv4 client with the message forms of RFC 2131.
+pub const IPV4_RFC2131: Family = Family {
+    word: "dhcp4",
+    version: 3,
+    front: "
+        iface 1 020000000001 0 0
+        forms rfc2131
         host -
         client -
         codes 010306
@@ -29,6 +48,7 @@ pub const IPV4: Family = Family {
 /// Scripts of an IPv6 client.
 pub const IPV6: Family = Family {
     word: "dhcp6",
+    version: 2,
     front: "
         iface 1 fe800000000000000000000000000001 - na 0
         duid 00030001020000000001
@@ -71,7 +91,7 @@ pub fn script(
     line: &str,
     lines: &str,
 ) -> Result<String, AllocError> {
-    script_in(alloc, family, 2, line, lines)
+    script_in(alloc, family, family.version, line, lines)
 }
 
 /// Its text in a version.

@@ -60,6 +60,7 @@ fn script_of(
         mac: [2, 0, 0, 0, 0, 1],
         is_proxy: false,
         timeout_sec: 0,
+        forms: None,
         host,
         client,
         codes: Some(codes),

@@ -20,6 +20,24 @@ fn texts_are_written_back(rt: HostRuntime) {
     assert!(rt; is_kept(rt.alloc(), "none", "end\n").expect(&rt, "memory"));
 }
 
+// Whether the text of version 3 that says these forms of messages is written as the same bytes.
+fn is_kept_with(alloc: Global, forms: &str) -> Result<bool, AllocError> {
+    let front = "dhcp4 3\niface 1 020000000001 0 7";
+    let rest = "host -\nclient 01ff\ncodes default\nlease none\nwords -\nstart 0\nend";
+    let text = format!(in alloc; "{front}\nforms {forms}\n{rest}\n")?;
+    is_written_back(alloc, text.as_str())
+}
+
+#[test]
+fn texts_of_version_3_are_written_back(rt: HostRuntime) {
+    for forms in ["mozim", "rfc2131"] {
+        assert!(rt;
+            is_kept_with(rt.alloc(), forms).expect(&rt, "memory"),
+            "{forms}"
+        );
+    }
+}
+
 #[test]
 fn lines_of_events_are_read_or_refused(rt: HostRuntime) {
     let cases = [
@@ -113,9 +131,53 @@ fn first_lines_are_read_or_refused(rt: HostRuntime) {
             "dhcp4 2\niface 4294967295 ffffffffffff 1 4294967295\nhost 00\nclient 01ff\n",
             true,
         ),
+        (
+            "dhcp4 3\niface 1 020000000001 0 0\nforms mozim\nhost -\nclient -\n",
+            true,
+        ),
+        (
+            "dhcp4 3\niface 1 020000000001 0 0\nforms rfc2131\nhost -\nclient -\n",
+            true,
+        ),
+        (
+            "dhcp6 2\niface 1 00000000000000000000000000000001 - na 0\nduid -\n",
+            true,
+        ),
         ("", false),
         (
             "dhcp4 1\niface 1 020000000001 0 0\nhost -\nclient -\n",
+            false,
+        ),
+        (
+            "dhcp4 3\niface 1 020000000001 0 0\nhost -\nclient -\n",
+            false,
+        ),
+        (
+            "dhcp4 2\niface 1 020000000001 0 0\nforms mozim\nhost -\nclient -\n",
+            false,
+        ),
+        (
+            "dhcp4 3\nforms mozim\niface 1 020000000001 0 0\nhost -\nclient -\n",
+            false,
+        ),
+        (
+            "dhcp4 3\niface 1 020000000001 0 0\nforms RFC2131\nhost -\nclient -\n",
+            false,
+        ),
+        (
+            "dhcp4 3\niface 1 020000000001 0 0\nforms \nhost -\nclient -\n",
+            false,
+        ),
+        (
+            "dhcp4 4\niface 1 020000000001 0 0\nforms mozim\nhost -\nclient -\n",
+            false,
+        ),
+        (
+            "dhcp6 3\niface 1 00000000000000000000000000000001 - na 0\nduid -\n",
+            false,
+        ),
+        (
+            "dhcp6 3\niface 1 00000000000000000000000000000001 - na 0\nforms mozim\nduid -\n",
             false,
         ),
         (

@@ -14,6 +14,7 @@ returns c = λ lease words events. record {
   requests_get_rarer = c.requests_get_rarer.ensures lease (life_of c.args.client.now.config lease words events) refl;
   messages_far_apart = c.messages_are_far_apart.ensures (life_of c.args.client.now.config lease words events);
   four_requests = c.four_requests_of_a_lease.ensures (life_of c.args.client.now.config lease words events);
+  four_offer_requests = λ forms. c.four_requests_of_an_offer.ensures forms (life_of c.args.client.now.config lease words events);
   two_messages = history_sends (protocol c.args.client.now.config) (c.table_is_lawful.ensures c.args.client.now.config) (life_of c.args.client.now.config lease words events);
   names_its_basis = names_its_basis c.args.client.now.config lease words events;
   by_point = c.history_by_point.ensures (life_of c.args.client.now.config lease words events);
