@@ -16,7 +16,10 @@ ghost use Rattle.dhcp4_lease.specs.Lease.{HasFieldsOf, ReadsLease, ReadsLeaseBy,
 
 use self::times::{LeaseTimes, read_times};
 use dhcp_clock::Words;
-use dhcp_wire::{BROADCAST_MAC_ADDRESS, DhcpError, ErrorKind, FixedText, Sequence, Text, beside};
+use dhcp_wire::{
+    BROADCAST_MAC_ADDRESS, DhcpError, ErrorKind, FixedText, Sequence, Text, beside, copied,
+    copied_list,
+};
 use dhcp4_msg::{DhcpV4ClasslessRoute, DhcpV4Message, DhcpV4OptionCode, DhcpV4Options};
 use std::alloc::Global;
 use std::marker::Model;
@@ -265,7 +268,7 @@ impl DhcpV4Lease {
         )?;
         let names = copied_names(alloc, self.host_name.as_ref(), self.domain_name.as_ref());
         let (lists, names) = beside(lists, names)?;
-        let routes = copied(alloc, self.classless_routes.as_ref());
+        let routes = copied_list(alloc, self.classless_routes.as_ref());
         let ((lists, names), routes) = beside((lists, names), routes)?;
         Ok((lists, names, routes))
     }
@@ -362,29 +365,6 @@ fn out_of_order() -> DhcpError
     DhcpError::invalid_message(FixedText::Times)
 }
 
-// A copy of a list, if there is one.
-fn copied<T: Copy>(
-    alloc: Global,
-    kept: Option<&Sequence<T>>,
-) -> Result<Option<Sequence<T>>, DhcpError>
-    ensures { Makes (λ made. made) result (option_copied kept.entry) }
-{
-    match kept {
-        Some(list) => Ok(Some(list.try_clone(alloc)?)),
-        None => Ok(None),
-    }
-}
-
-// A copy of a text, if there is one.
-fn copied_text(alloc: Global, kept: Option<&Text>) -> Result<Option<Text>, DhcpError>
-    ensures { Makes (λ made. made) result (option_copied kept.entry) }
-{
-    match kept {
-        Some(text) => Ok(Some(text.try_clone(alloc)?)),
-        None => Ok(None),
-    }
-}
-
 // The routes of a lease.
 type Routes = Sequence<DhcpV4ClasslessRoute>;
 
@@ -404,9 +384,9 @@ fn copied_lists(
     ensures { Makes (λ made. made) result
         (option_copied dns_srvs.entry, option_copied gateways.entry, option_copied ntp_srvs.entry) }
 {
-    let dns_srvs = copied(alloc, dns_srvs)?;
-    let gateways = copied(alloc, gateways)?;
-    let ntp_srvs = copied(alloc, ntp_srvs)?;
+    let dns_srvs = copied_list(alloc, dns_srvs)?;
+    let gateways = copied_list(alloc, gateways)?;
+    let ntp_srvs = copied_list(alloc, ntp_srvs)?;
     Ok((dns_srvs, gateways, ntp_srvs))
 }
 
@@ -421,7 +401,7 @@ fn copied_names(
     ensures { Makes (λ made. made) result
         (option_copied host_name.entry, option_copied domain_name.entry) }
 {
-    let host_name = copied_text(alloc, host_name)?;
-    let domain_name = copied_text(alloc, domain_name)?;
+    let host_name = copied(alloc, host_name)?;
+    let domain_name = copied(alloc, domain_name)?;
     Ok((host_name, domain_name))
 }

@@ -27,7 +27,7 @@ use crate::{
 };
 use dhcp_wire::{
     BufferMut, Bytes, DhcpError, ErrorKind, FixedText, Sequence, Text, address_in, addresses_in,
-    none_if_refused, text_in, u8_in, u16_in, u32_in,
+    codes_of, none_if_refused, text_in, u8_in, u16_in, u32_in,
 };
 use std::alloc::Global;
 use std::net::Ipv4Addr;
@@ -97,17 +97,6 @@ pub(crate) fn type_of(value: &[u8]) -> Result<DhcpV4MessageType, DhcpError>
         Ok(kind) => Ok(kind),
         Err(_) => Err(DhcpError::invalid_message(FixedText::Unreadable)),
     }
-}
-
-// A code for each byte.
-fn codes_of(alloc: Global, value: &[u8]) -> Result<Sequence<DhcpV4OptionCode>, DhcpError>
-    ensures { Makes (λ codes. codes) result (map code_of value.now) }
-{
-    let mut codes = Vec::with_capacity(alloc, value.len())?;
-    for number in value {
-        codes.push(DhcpV4OptionCode::from(*number))?;
-    }
-    Ok(Sequence::from(codes))
 }
 
 /// The most bytes of a text that an option holds, beside its zero byte.

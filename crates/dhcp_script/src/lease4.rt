@@ -13,7 +13,7 @@ use self::reader::read_lease;
 use crate::held::HeldLease;
 use crate::version::Version;
 use dhcp_stream::{ReadError, TextReader};
-use dhcp_wire::{DhcpError, Sequence, Text};
+use dhcp_wire::{DhcpError, Sequence, Text, copied, copied_list};
 use dhcp4_lease::DhcpV4Lease;
 use dhcp4_msg::DhcpV4ClasslessRoute;
 use std::alloc::{AllocError, Global};
@@ -103,9 +103,9 @@ impl Lease4 {
     fn put_servers(&self, alloc: Global, lease: &mut DhcpV4Lease) -> Result<(), DhcpError>
         ensures { Puts result lease.new (leases.with_servers self.now lease.old) }
     {
-        lease.dns_srvs = copy_of_list(alloc, self.dns_srvs.as_ref())?;
-        lease.gateways = copy_of_list(alloc, self.gateways.as_ref())?;
-        lease.ntp_srvs = copy_of_list(alloc, self.ntp_srvs.as_ref())?;
+        lease.dns_srvs = copied_list(alloc, self.dns_srvs.as_ref())?;
+        lease.gateways = copied_list(alloc, self.gateways.as_ref())?;
+        lease.ntp_srvs = copied_list(alloc, self.ntp_srvs.as_ref())?;
         Ok(())
     }
 
@@ -113,9 +113,9 @@ impl Lease4 {
     fn put_names(&self, alloc: Global, lease: &mut DhcpV4Lease) -> Result<(), DhcpError>
         ensures { Puts result lease.new (leases.with_names self.now lease.old) }
     {
-        lease.host_name = copy_of_text(alloc, self.host_name.as_ref())?;
-        lease.domain_name = copy_of_text(alloc, self.domain_name.as_ref())?;
-        lease.classless_routes = copy_of_list(alloc, self.classless_routes.as_ref())?;
+        lease.host_name = copied(alloc, self.host_name.as_ref())?;
+        lease.domain_name = copied(alloc, self.domain_name.as_ref())?;
+        lease.classless_routes = copied_list(alloc, self.classless_routes.as_ref())?;
         Ok(())
     }
 }
@@ -134,28 +134,5 @@ impl HeldLease for Lease4 {
 
     fn push_to(&self, text: &mut String) -> Result<(), AllocError> {
         push_fields(text, self)
-    }
-}
-
-// A copy of a list, if there is one.
-fn copy_of_list<T: Copy>(
-    alloc: Global,
-    kept: Option<&Sequence<T>>,
-) -> Result<Option<Sequence<T>>, DhcpError>
-    ensures { Makes (λ made. made) result (option_copied kept.entry) }
-{
-    match kept {
-        Some(list) => Ok(Some(list.try_clone(alloc)?)),
-        None => Ok(None),
-    }
-}
-
-// A copy of a text, if there is one.
-fn copy_of_text(alloc: Global, kept: Option<&Text>) -> Result<Option<Text>, DhcpError>
-    ensures { Makes (λ made. made) result (option_copied kept.entry) }
-{
-    match kept {
-        Some(text) => Ok(Some(text.try_clone(alloc)?)),
-        None => Ok(None),
     }
 }

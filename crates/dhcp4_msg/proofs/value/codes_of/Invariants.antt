@@ -1,7 +1,0 @@
--- The codes of the numbers so far.
-use Rattle.std.proofs.Common.{◌≡◌, map, take}
-use Rattle.dhcp4_msg.specs.OptionCode.{code_of}
-use Rattle.dhcp4_msg.proofs.value.codes_of.Given as goal
-
-abbrev pub invariant-loop-number : goal.invariant-loop-number
-invariant-loop-number l = l.codes.items ≡ map code_of (take l.number-index l.value)
