@@ -51,7 +51,7 @@ renewal_server Mozim lease = Some lease.siaddr
 renewal_server Rfc2131 lease =
     if table.is_unspecified lease.srv_id then None else Some lease.srv_id
 
--- a payload from the address of a lease to the server that renews it, or else, to any server, in the
+-- a payload from the address of a lease to the server that renews it, or else to any server, in the
 -- frame of REBINDING
 abbrev pub renewal : Config → Lease → Option Ipv4Addr → List ℕ → Handed
 renewal config lease None payload = broadcast config payload

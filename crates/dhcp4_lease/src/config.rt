@@ -238,8 +238,8 @@ impl DhcpV4Config {
         setter_answer(self.put_host_name(alloc, host_name))
     }
 
-    /// Sets the client identifier, option 61: its type, then its bytes, RFC 2132 section 9.14. Until
-    /// it is set there is none; `Mozim` then sends the option without bytes, `Rfc2131` not at all.
+    /// Sets the client identifier, option 61: its type, then its bytes, RFC 2132 section 9.14.
+    /// Until it is set there is none, and `Mozim` sends the option without bytes, `Rfc2131` none.
     /// After an error nothing has changed.
     pub fn set_client_id(
         &mut self,

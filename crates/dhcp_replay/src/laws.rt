@@ -25,10 +25,10 @@ use dhcp6_client::{DhcpV6Client, laws as laws6};
 /// took, besides a release: k Requests (k at least 2) come in one stay in RENEWING only if T2 - T1,
 /// and in REBINDING only if the lease time - T2, is above 60 * 2^(k-2) seconds; the messages of a
 /// stay are at least three seconds apart, in RENEWING and REBINDING a minute; a lease that was held
-/// before is requested at most four times in a stay, and so is an offer by the forms of RFC 2131. An
-/// event has at most two messages besides a release; each attempt's message names the offer or the
-/// lease of its state; where the events rise, the history holds point by point; and after the polls
-/// of an event a client without a kept error is in no state whose end has come.
+/// before is requested at most four times in a stay, and so is an offer by the forms of RFC 2131.
+/// An event has at most two messages besides a release; each attempt's message names the offer or
+/// the lease of its state; where the events rise, the history holds point by point; and after the
+/// polls of an event a client without a kept error is in no state whose end has come.
 pub fn promises_are_kept(client: &DhcpV4Client)
     ensures { (lease : Option Lease) (words : List ℕ) (events : List Event) →
         KeepsPromises client.now.config lease words events }

@@ -103,8 +103,8 @@ fn read_version(alloc: Global, version: Version, text: &[u8]) -> Result<Option<S
     }
 }
 
-/// The text of a script, in version 2, or in version 3 if it says the forms of its client's messages.
-/// Out of memory is the only error.
+/// The text of a script, in version 2, or in version 3 if it says the forms of its client's
+/// messages. Out of memory is the only error.
 pub fn write_script(alloc: Global, script: &Script) -> Result<Bytes, DhcpError>
     ensures { Makes (λ text. text) result (script_text script.now) }
 {

@@ -18,11 +18,11 @@ impl DhcpV4Client {
     ghost use Rattle.dhcp4_client.specs.Rules.{held_lease, protocol};
 
     /// Releases a lease at a moment, in milliseconds, and cleans up. As a proxy, or if no lease is
-    /// held, the message goes in a frame from `yiaddr` to `srv_mac` of this lease; else as a payload
-    /// from `yiaddr` of the lease that is held. By the forms of `Rfc2131` it goes to the server of
-    /// this lease, `server_of`; by those of `Mozim` to `siaddr`, of this lease in a frame and of the
-    /// one that is held in a payload. Ok if and only if the link took it. `IoError` if and only if
-    /// the link refused it; the client is then unchanged but for its last moment.
+    /// held, the message goes in a frame from `yiaddr` to `srv_mac` of this lease; else as a
+    /// payload from `yiaddr` of the lease that is held. By the forms of `Rfc2131` it goes to the
+    /// server of this lease, `server_of`; by those of `Mozim` to `siaddr`, of this lease in a frame
+    /// and of the one that is held in a payload. Ok if and only if the link took it. `IoError` if
+    /// and only if the link refused it; the client is then unchanged but for its last moment.
     pub fn release<L: DhcpLink>(
         &mut self,
         lease: &DhcpV4Lease,
