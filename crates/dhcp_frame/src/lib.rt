@@ -1,5 +1,5 @@
-//! Frames that carry a UDP datagram: Ethernet II, IPv4 (RFC 791) or, read alone, IPv6 (RFC 8200), and
-//! UDP (RFC 768).
+//! Frames that carry a UDP datagram: Ethernet II, IPv4 (RFC 791) or, read alone, IPv6 (RFC 8200),
+//! and UDP (RFC 768).
 #![tactic(auto)]
 
 mod checksum;
