@@ -39,7 +39,7 @@ def discover():
 
 
 def capture(packet, size):
-    """Returns a file of at most so many bytes whose records all have this packet, and their number."""
+    """Returns a file of at most so many bytes whose records all have this packet, and how many."""
     count = (size - HEADER_LENGTH) // (RECORD_HEADER_LENGTH + len(packet))
     header = struct.pack("<IHHIIII", 0xA1B2C3D4, 2, 4, 0, 0, 262144, 1)
     length = len(packet)
@@ -80,7 +80,10 @@ def main(words):
         ("a Discover", discover()),
         ("a Solicit", SOLICIT),
     ]
-    print("| each record has | MB | records | seconds | records a second | MB a second | MB printed |")
+    print(
+        "| each record has | MB | records | seconds | records a second | MB a second "
+        "| MB printed |"
+    )
     print("|---|---|---|---|---|---|---|")
     for name, packet in kinds:
         for size in sizes:

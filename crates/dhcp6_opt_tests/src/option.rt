@@ -71,8 +71,8 @@ fn copies_are_equal(rt: HostRuntime) {
 
 #[test]
 fn an_empty_option_has_code_0(rt: HostRuntime) {
-    let code = DhcpV6Option::empty(rt.alloc()).code();
-    assert!(rt; code == DhcpV6OptionCode::Other(0));
+    let option = Box::new(rt.alloc(), DhcpV6Option::empty(rt.alloc())).expect(&rt, "memory");
+    assert!(rt; option.code() == DhcpV6OptionCode::Other(0));
 }
 
 // An option as it is written.
@@ -86,7 +86,7 @@ fn option_bytes(alloc: Global, option: &DhcpV6Option) -> Result<Bytes, DhcpError
 
 // The option at the front of some bytes as it is written.
 fn written_again(alloc: Global, bytes: &[u8]) -> Result<Bytes, DhcpError> {
-    let option = DhcpV6Option::parse(alloc, &mut Buffer::new(bytes))?;
+    let option = Box::new(alloc, DhcpV6Option::parse(alloc, &mut Buffer::new(bytes))?)?;
     option_bytes(alloc, &option)
 }
 
@@ -133,8 +133,11 @@ fn has_other_server(option: &DhcpV6Option, number: u16, value: &[u8]) -> bool {
 
 #[test]
 fn a_time_server_of_a_type_without_a_name_is_its_bytes(rt: HostRuntime) {
-    let option = DhcpV6Option::parse(rt.alloc(), &mut Buffer::new(OTHER_TIME_SERVER));
-    assert!(rt; has_other_server(&option.expect(&rt, "answer"), 9, &[0x61]));
+    let options = DhcpV6Options::parse(rt.alloc(), OTHER_TIME_SERVER).expect(&rt, "memory");
+    let option = options
+        .get_first(DhcpV6OptionCode::NtpServer)
+        .expect(&rt, "none");
+    assert!(rt; has_other_server(option, 9, &[0x61]));
 }
 
 // A client's hint of a prefix of 60 bits.

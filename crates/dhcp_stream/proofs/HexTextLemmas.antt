@@ -1,13 +1,18 @@
 -- Hex text in lower case is one to one with bytes.
-use Rattle.std.proofs.Common.{◌≡◌, ℕ, zero, suc, ◌+◌, ◌*◌, ◌/◌, ◌%◌, ◌<◌, ◌==◌, Bool, true, ◌&&◌, cond, List, [], ◌∷◌, length, slice_index, Option, Some, None, unwrap_or, Result, Ok, Err, refl, sym, ap, ◌∙◌, inl, inr, arith}
+use Rattle.std.proofs.Common.{◌≡◌, ℕ, zero, suc, ◌+◌, ◌*◌, ◌/◌, ◌%◌, ◌<◌, ◌==◌, Bool, true, ltb, ◌&&◌, cond, List, [], ◌∷◌, ◌++◌, length, take, slice_index, slice_set, replicate, lit<, Option, Some, None, unwrap_or, Result, Ok, Err, refl, sym, ap, ◌∙◌, inl, inr, arith}
+use Rattle.std.proofs.lemmas.List.{append-nil, append_assoc, nil_from_length, take_more, take_more_set}
 use Rattle.std.specs.List.{AllPass}
-use Rattle.std.specs.Result.{result_ok, result_unwrap_or}
+use Rattle.std.specs.Result.{IsOk, MatchResult, result_ok, result_unwrap_or}
+use Rattle.std.specs.Str.{IsAscii, IsUtf8}
+use borrow.Author.Tests.{ltb-true}
+use Rattle.std.proofs.lemmas.Str.{IsUtf8-from_ascii}
+use Rattle.std.proofs.lemmas.Str.Ascii.{IsAscii-cons, IsAscii-nil}
 use Rattle.std.proofs.lemmas.Bool.{and_parts, cases_lt, eqb-true}
 use Rattle.std.proofs.lemmas.Bool.Decides.{nat_tests}
 use Rattle.std.proofs.lemmas.List.Elements.{All-nil, All-cons, All-head, All-tail}
 use Rattle.hex.specs.Hex.{IsBytes, decode_of, decode_pairs, decode_sized, digit_or_error, hex_digit_value, encode_lower, encode_with, lower_digits, pair_value, value_at, ◌>>=◌}
 use Rattle.hex.specs.declared.error.FromHexError.{FromHexError}
-use Rattle.hex.proofs.HexLemmas.{decode_of-encode_lower, decode_of-even, decode_of-ok, decode_sized-ok, decode_sized-twice, length-encode_with}
+use Rattle.hex.proofs.HexLemmas.{IsAscii-encode_with, decode_of-encode_lower, decode_of-even, decode_of-ok, decode_sized-ok, decode_sized-twice, length-encode_with}
 use Rattle.dhcp_stream.specs.HexText.{AreOctets, hex_text, is_lower_digit}
 use Rattle.dhcp_stream.specs.Reading.{IsReading}
 
@@ -122,11 +127,15 @@ AllPass-encode_lower (b ∷ rest) h =
     All-cons passes (slice_index lower_digits (b / 16)) (slice_index lower_digits (b % 16) ∷ encode_lower rest) (lower_upto-at 16 (b / 16) refl (omega arith))
     (All-cons passes (slice_index lower_digits (b % 16)) (encode_lower rest) (lower_upto-at 16 (b % 16) refl (omega arith)) (AllPass-encode_lower rest (λ k. h (suc k))))
 
--- the text of bytes that lower-case digits decode to is those digits
-pub hex_text-decode_of : (field bytes : List ℕ) → (field ≡ [] → ⊥) → AllPass is_lower_digit field → decode_of field ≡ Ok bytes → hex_text bytes ≡ field
-hex_text-decode_of [] [] some lower e = absurd (some refl)
-hex_text-decode_of (c ∷ cs) [] some lower e = let ok = decode_of-ok (c ∷ cs) [] e in absurd (omega (arith, ok.2))
-hex_text-decode_of field (b ∷ bs) some lower e = encode_lower-decode_of field (b ∷ bs) lower e
+-- no bytes have no digits
+pub encode_lower-nil : encode_lower [] ≡ []
+unfolding encode_with
+encode_lower-nil = refl
+
+-- the text of bytes whose digits are some is those digits
+pub hex_text-some : (field bytes : List ℕ) → (field ≡ [] → ⊥) → encode_lower bytes ≡ field → hex_text bytes ≡ field
+hex_text-some field [] some e = absurd (some (sym e ∙ encode_lower-nil))
+hex_text-some field (b ∷ bs) some e = e
 
 -- the text of bytes, where it isn't `-`, decodes to them, has a digit, and has lower-case digits alone
 pub hex_text-parts : (field bytes : List ℕ) → (field ≡ 45 ∷ [] → ⊥) → IsBytes bytes → hex_text bytes ≡ field
@@ -145,12 +154,9 @@ hex_text-not field other bad bytes fit e =
     let parts = hex_text-parts field bytes other fit e in
     bad parts.1 parts.2
 
--- a field that isn't `-` and does not decode is the text of no bytes
-pub hex_text-refused : (field : List ℕ) (refusal : FromHexError) → (field ≡ 45 ∷ [] → ⊥) → decode_of field ≡ Err refusal
-    → (bytes : List ℕ) → IsBytes bytes → hex_text bytes ≡ field → ⊥
-hex_text-refused field refusal other refused bytes fit e =
-    let parts = hex_text-parts field bytes other fit e in
-    cc (sym refused ∙ parts.0)
+-- the text of bytes, where it isn't `-`, has an even number of digits
+pub hex_text-even : (field bytes : List ℕ) → (field ≡ 45 ∷ [] → ⊥) → IsBytes bytes → hex_text bytes ≡ field → length field % 2 ≡ 0
+hex_text-even field bytes other fit e = (decode_of-ok field bytes (hex_text-parts field bytes other fit e).0).0
 
 -- the text of bytes decodes to them, also into room for them
 decode_sized-encode_lower : (bytes : List ℕ) (n : ℕ) → length bytes ≡ n → IsBytes bytes → decode_sized (encode_lower bytes) n ≡ Ok bytes
@@ -187,3 +193,84 @@ pub encode_lower-unique : (xs ys : List ℕ) → IsBytes xs → IsBytes ys → e
 encode_lower-unique xs ys h k e =
     let decoded = sym (decode_of-encode_lower xs h) ∙ ap decode_of e ∙ decode_of-encode_lower ys k in
     ap (λ (r : Result (List ℕ) FromHexError). result_unwrap_or r []) decoded
+
+-- the digits of two lists of bytes
+pub encode_lower-append : (xs ys : List ℕ) → encode_lower (xs ++ ys) ≡ encode_lower xs ++ encode_lower ys
+unfolding encode_with
+encode_lower-append [] ys = refl
+encode_lower-append (x ∷ xs) ys = ap (λ text. slice_index lower_digits (x / 16) ∷ slice_index lower_digits (x % 16) ∷ text) (encode_lower-append xs ys)
+
+-- the digits of one byte
+encode_lower-one : (byte : ℕ) → encode_lower (byte ∷ []) ≡ slice_index lower_digits (byte / 16) ∷ slice_index lower_digits (byte % 16) ∷ []
+unfolding encode_with
+encode_lower-one byte = refl
+
+-- two items more
+take-two : (xs : List ℕ) (i : ℕ) → 2 * i + 1 < length xs → take (2 * (i + 1)) xs ≡ take (2 * i) xs ++ (slice_index xs (2 * i) ∷ slice_index xs (2 * i + 1) ∷ [])
+take-two xs i fits =
+    let two : 2 * (i + 1) ≡ 2 * i + 1 + 1 = omega arith in
+    let second = take_more xs (2 * i + 1) 0 fits in
+    let first = take_more xs (2 * i) 0 (omega (arith, fits)) in
+    rw (two, second, first) (append_assoc (take (2 * i) xs) (slice_index xs (2 * i) ∷ []) (slice_index xs (2 * i + 1) ∷ []))
+
+-- one more octet is read: its digits are the next two
+pub octet_more : (digits octets : List ℕ) (i high low : ℕ) → 2 * i + 1 < length digits → i < length octets → low < 16
+    → slice_index lower_digits high ≡ slice_index digits (2 * i) → slice_index lower_digits low ≡ slice_index digits (2 * i + 1)
+    → encode_lower (take i octets) ≡ take (2 * i) digits
+    → encode_lower (take (i + 1) (slice_set octets i (high * 16 + low))) ≡ take (2 * (i + 1)) digits
+octet_more digits octets i high low fits room small spelled_high spelled_low before =
+    let byte : ℕ = high * 16 + low in
+    let more = take_more_set octets i byte room in
+    let upper : byte / 16 ≡ high = omega (arith, small) in
+    let lower : byte % 16 ≡ low = omega (arith, small) in
+    let one = encode_lower-one byte in
+    let two = take-two digits i fits in
+    rw (more, encode_lower-append (take i octets) (byte ∷ []), one, upper, lower, spelled_high, spelled_low, two, before) refl
+
+-- bytes, one of them put in another's place, are bytes
+pub IsBytes-set : (bytes : List ℕ) (i byte : ℕ) → byte < 256 → IsBytes bytes → IsBytes (slice_set bytes i byte)
+IsBytes-set [] i byte small fit k = fit k
+IsBytes-set (b ∷ bytes) zero byte small fit zero = small
+IsBytes-set (b ∷ bytes) zero byte small fit (suc k) = fit (suc k)
+IsBytes-set (b ∷ bytes) (suc i) byte small fit zero = fit zero
+IsBytes-set (b ∷ bytes) (suc i) byte small fit (suc k) = IsBytes-set bytes i byte small (λ j. fit (suc j)) k
+
+-- zeros are bytes
+pub IsBytes-zeros : (n : ℕ) → IsBytes (replicate n 0)
+IsBytes-zeros zero k = lit< tt
+IsBytes-zeros (suc n) zero = lit< tt
+IsBytes-zeros (suc n) (suc k) = IsBytes-zeros n k
+
+-- once the digits of the front are put, what is left to put are those of the rest
+pub digits_put : (text new start front after rest octets : List ℕ) → rest ≡ front ++ after → new ≡ text ++ encode_lower front → text ++ encode_lower rest ≡ start ++ encode_lower octets
+    → new ++ encode_lower after ≡ start ++ encode_lower octets
+digits_put text new start front after rest octets parts put before =
+    let digits : encode_lower rest ≡ encode_lower front ++ encode_lower after = ap encode_lower parts ∙ encode_lower-append front after in
+    rw (put, append_assoc text (encode_lower front) (encode_lower after), ← digits) before
+
+-- no digits are left to put
+pub digits_done : (text start rest octets : List ℕ) → length rest ≡ 0 → text ++ encode_lower rest ≡ start ++ encode_lower octets → text ≡ start ++ encode_lower octets
+digits_done text start rest octets none before =
+    let whole : text ++ encode_lower rest ≡ text = ap (λ (left : List ℕ). text ++ encode_lower left) (nil_from_length rest none) ∙ ap (λ (digits : List ℕ). text ++ digits) encode_lower-nil ∙ append-nil text in
+    sym whole ∙ before
+
+-- the test of bytes for ASCII, which computes
+abbrev are_ascii : List ℕ → Bool
+are_ascii [] = true
+are_ascii (byte ∷ bytes) = ltb byte 128 && are_ascii bytes
+
+IsAscii-are_ascii : (bytes : List ℕ) → are_ascii bytes ≡ true → IsAscii bytes
+IsAscii-are_ascii [] is = IsAscii-nil
+IsAscii-are_ascii (byte ∷ bytes) is =
+    let both = and_parts (ltb byte 128) (are_ascii bytes) is in
+    IsAscii-cons byte bytes (ltb-true byte 128 both.0) (IsAscii-are_ascii bytes both.1)
+
+-- digits in hex are a text
+pub IsUtf8-encode_lower : (octets : List ℕ) → IsUtf8 (encode_lower octets)
+IsUtf8-encode_lower octets = IsUtf8-from_ascii (encode_lower octets) (IsAscii-encode_with lower_digits octets (IsAscii-are_ascii lower_digits refl))
+
+-- a read of bytes as a text that fails only where they are none
+pub IsOk-utf8 : {A E : Type 0} (Text : A → Type 0) (Fault : E → Type 0) (read : Result A E) (bytes : List ℕ) →
+    MatchResult read Text (λ e. (IsUtf8 bytes → ⊥) × Fault e) → IsUtf8 bytes → IsOk read
+IsOk-utf8 Text Fault (Ok text) bytes reads utf8 = refl
+IsOk-utf8 Text Fault (Err e) bytes reads utf8 = absurd (reads.0 utf8)

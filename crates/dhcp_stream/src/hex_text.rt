@@ -1,9 +1,9 @@
-//! Fields of texts in hex: bytes, MAC addresses and IPv6 addresses.
+//! Fields of texts in hex: bytes, MAC addresses and IPv6 addresses; and the digits of octets.
 
-ghost use Rattle.std.specs.Prelude.{◌↔◌, IsTrue};
+ghost use Rattle.std.specs.Prelude.{◌≡◌, ◌↔◌, ◌<◌, ◌≤◌, ◌%◌, ◌++◌, IfOk, IsTrue, OnOk, length, slice_index, string_bytes, true};
 ghost use Rattle.std.specs.List.{AllPass};
 ghost use Rattle.std.specs.Net.Addr.{IsIpv6Addr};
-ghost use Rattle.hex.specs.Hex.{IsBytes, encode_lower};
+ghost use Rattle.hex.specs.Hex.{IsBytes, encode_lower, lower_digits};
 ghost use Rattle.dhcp_stream.specs.Reading.{IsReading, GivesReading};
 ghost use Rattle.dhcp_stream.specs.HexText.{
   address6_text,
@@ -14,7 +14,7 @@ ghost use Rattle.dhcp_stream.specs.HexText.{
 };
 
 use dhcp_wire::{Bytes, DhcpError};
-use hex::{FromHex, FromHexError};
+use hex::FromHex;
 use std::alloc::{AllocError, Global};
 use std::net::Ipv6Addr;
 
@@ -26,16 +26,10 @@ pub fn hex_field(alloc: Global, field: &[u8]) -> Result<Option<Bytes>, DhcpError
     if field == b"-".as_slice() {
         return Ok(Some(Bytes::new(alloc)));
     }
-    if field.is_empty() || !is_lower_hex(field) {
+    if field.is_empty() || field.len() % 2 != 0 || !is_lower_hex(field) {
         return Ok(None);
     }
-    match hex::decode(alloc, field) {
-        Ok(bytes) => Ok(Some(Bytes::from(bytes))),
-        Err(error) => match error {
-            FromHexError::OutOfMemory => Err(DhcpError::from(AllocError)),
-            _ => Ok(None),
-        },
-    }
+    Ok(Some(Bytes::from(octets_of(alloc, field)?)))
 }
 
 /// The MAC address of a field of twelve lower-case hex digits. None if and only if the field is not
@@ -68,11 +62,68 @@ fn octets<const N: usize>(field: &[u8]) -> Option<[u8; N]>
     }
 }
 
-// Whether each byte is a lower-case hex digit.
+/// Puts the digits of octets at the end of a text, two lower-case hex digits for each; nothing for
+/// none. Out of memory is the only error; a part of the digits may then be there.
+pub fn push_octets(text: &mut String, octets: &[u8]) -> Result<(), AllocError>
+    ensures { OnOk result (string_bytes text.new
+        ≡ string_bytes text.old ++ encode_lower octets.now) }
+{
+    let mut rest = octets;
+    while !rest.is_empty() {
+        let (piece, after) = rest.split_at(rest.len().min(64));
+        push_piece(text, piece)?;
+        rest = after;
+    }
+    Ok(())
+}
+
+// Puts the digits of at most 64 octets at the end of a text.
+fn push_piece(text: &mut String, octets: &[u8]) -> Result<(), AllocError>
+    requires { length octets.now ≤ 64 }
+    ensures { OnOk result (string_bytes text.new
+        ≡ string_bytes text.old ++ encode_lower octets.now) }
+{
+    let mut room = [0u8; 128];
+    let digits = &mut room[..2 * octets.len()];
+    hex::encode_to_slice(octets, digits).unwrap();
+    text.push_str(std::str::from_utf8(digits).unwrap())
+}
+
+// Whether each byte is a lower-case hex digit. It looks at all of them, so that many are compared
+// at once.
 fn is_lower_hex(field: &[u8]) -> bool
     ensures { IsTrue result ↔ AllPass is_lower_digit field.now }
 {
-    field
-        .iter()
-        .all(|byte| matches!(byte, b'0'..=b'9' | b'a'..=b'f'))
+    let mut is_lower = true;
+    for byte in field {
+        is_lower = is_lower & matches!(*byte, b'0'..=b'9' | b'a'..=b'f');
+    }
+    is_lower
+}
+
+// The octets that lower-case hex digits spell, two digits for each.
+fn octets_of(alloc: Global, digits: &[u8]) -> Result<Vec<u8>, AllocError>
+    requires lower { AllPass is_lower_digit digits.now }
+    requires even { length digits.now % 2 ≡ 0 }
+    ensures spelled { IfOk result (λ octets. encode_lower octets.items ≡ digits.now) }
+    ensures bytes { IfOk result (λ octets. IsBytes octets.items) }
+{
+    let mut octets = vec![in alloc; 0u8; digits.len() / 2]?;
+    'octets: for i in 0..octets.len() {
+        octets[i] = value(digits[2 * i]) * 16 + value(digits[2 * i + 1]);
+    }
+    Ok(octets)
+}
+
+// The value of a lower-case hex digit.
+fn value(digit: u8) -> u8
+    requires { is_lower_digit digit ≡ true }
+    ensures small { result < 16 }
+    ensures spelled { slice_index lower_digits result ≡ digit }
+{
+    if digit <= b'9' {
+        digit - b'0'
+    } else {
+        digit - b'a' + 10
+    }
 }

@@ -13,7 +13,7 @@ mod text_reader;
 mod whole;
 
 pub use hex_numbers::{codes_field, words_field};
-pub use hex_text::{hex_field, ipv6_field, mac_field};
+pub use hex_text::{hex_field, ipv6_field, mac_field, push_octets};
 pub use memory::{MemSink, MemSource};
 pub use number::{ipv4_field, number_field};
 pub use standard::{StdSink, StdSource};

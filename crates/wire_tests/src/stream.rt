@@ -60,13 +60,17 @@ fn all_of<S: Source>(alloc: Global, source: &mut S) -> Result<Bytes, DhcpError> 
 }
 
 #[test]
-fn a_source_is_read_to_its_end_up_to_the_limit(rt: HostRuntime) {
+fn a_source_is_read_to_its_end(rt: HostRuntime) {
     for len in [0, 1, 8192, 20_000, 16_777_216] {
         let mut source = source_of(rt.alloc(), len, &[]).expect(&rt, "memory");
         let bytes = all_of(rt.alloc(), &mut source).expect(&rt, "reads");
         assert!(rt; bytes.len() == len);
         assert!(rt; bytes.as_slice().iter().all(|byte| *byte == 7));
     }
+}
+
+#[test]
+fn a_source_is_read_up_to_the_limit(rt: HostRuntime) {
     let mut source = source_of(rt.alloc(), 16_777_218, &[]).expect(&rt, "memory");
     assert!(rt;
         matches!(

@@ -2,7 +2,7 @@
 
 use dhcp_stream::{
     ReadError, TextReader, codes_field, hex_field, ipv4_field, ipv6_field, mac_field, number_field,
-    words_field,
+    push_octets, words_field,
 };
 use std::net::{Ipv4Addr, Ipv6Addr};
 
@@ -15,6 +15,10 @@ fn hex_is_read_in_lower_case_pairs(rt: HostRuntime) {
             .expect(&rt, "memory");
         assert!(rt; bytes.as_slice() == want);
     }
+}
+
+#[test]
+fn other_texts_are_no_hex(rt: HostRuntime) {
     for field in ["", "0", "000", "FF", "0g", "--", "-0", " 00", "0:"] {
         assert!(rt;
             hex_field(rt.alloc(), field.as_bytes())
@@ -23,6 +27,21 @@ fn hex_is_read_in_lower_case_pairs(rt: HostRuntime) {
             "{field}"
         );
     }
+}
+
+#[test]
+fn octets_are_put_as_two_digits_each(rt: HostRuntime) {
+    for count in [0, 1, 64, 65, 200] {
+        let octets = vec![in rt.alloc(); 0x0au8; count].expect(&rt, "memory");
+        let digits = "0a".repeat(rt.alloc(), count).expect(&rt, "memory");
+        let mut text = String::new(rt.alloc());
+        push_octets(&mut text, &octets).expect(&rt, "memory");
+        assert!(rt; text.as_str() == digits.as_str());
+    }
+}
+
+#[test]
+fn a_mac_address_is_six_bytes_in_hex(rt: HostRuntime) {
     assert!(rt; mac_field(b"02000000000a") == Some([2, 0, 0, 0, 0, 10]));
     for field in [
         "",
@@ -37,21 +56,23 @@ fn hex_is_read_in_lower_case_pairs(rt: HostRuntime) {
 }
 
 #[test]
-fn words_and_codes_are_read_from_their_digits(rt: HostRuntime) {
+fn words_are_read_from_eight_digits_each(rt: HostRuntime) {
     let words = words_field(rt.alloc(), b"12345678ffffffff")
         .expect(&rt, "reads")
         .expect(&rt, "memory");
     assert!(rt; words.as_slice() == [0x12345678u32, 0xffffffff].as_slice());
-    assert!(rt;
-        words_field(rt.alloc(), b"1234567")
-            .expect(&rt, "reads")
-            .is_none()
-    );
-    assert!(rt;
-        words_field(rt.alloc(), b"123456")
-            .expect(&rt, "reads")
-            .is_none()
-    );
+    for field in ["1234567", "123456"] {
+        assert!(rt;
+            words_field(rt.alloc(), field.as_bytes())
+                .expect(&rt, "reads")
+                .is_none(),
+            "{field}"
+        );
+    }
+}
+
+#[test]
+fn codes_are_read_from_four_digits_each(rt: HostRuntime) {
     let codes = codes_field(rt.alloc(), b"0017ffff")
         .expect(&rt, "reads")
         .expect(&rt, "memory");

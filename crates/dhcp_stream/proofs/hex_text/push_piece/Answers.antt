@@ -1,8 +1,8 @@
 -- Digits in hex are a text.
 use Rattle.std.proofs.Common.{sym, subst}
 use Rattle.std.specs.Str.{IsUtf8}
-use Rattle.dhcp_inspect.proofs.TextLemmas.{IsOk-utf8, IsUtf8-encode_lower}
-use Rattle.dhcp_inspect.proofs.report.push_octets.Goals as goal
+use Rattle.dhcp_stream.proofs.HexTextLemmas.{IsOk-utf8, IsUtf8-encode_lower}
+use Rattle.dhcp_stream.proofs.hex_text.push_piece.Goals as goal
 
 pub unwrap-requires-2 : goal.unwrap-requires-2
 unwrap-requires-2 c =
