@@ -12,7 +12,7 @@ use Rattle.dhcp6_msg.specs.Config.{rising_codes}
 use Rattle.dhcp6_msg.specs.Lease as leases
 use Rattle.dhcp6_msg.specs.Lease.{is_no_duid, is_unspecified}
 use Rattle.dhcp_script.specs.Codes.{are_few, request_list}
-use Rattle.dhcp_script.specs.Duid.{duid_of, is_duid, is_duid_or_none, most_duid_bytes}
+use Rattle.dhcp_script.specs.Duid.{duid_of, is_script_duid, is_duid_or_none, most_duid_bytes}
 use Rattle.dhcp_script.specs.Event.{are_valid}
 use Rattle.dhcp_script.specs.Lease6.{are_times_in_order, lease_with}
 use Rattle.dhcp_script.specs.Script6.{config_of, is_lease_valid, is_valid, most_codes}
@@ -31,14 +31,14 @@ request_list_few None mode few = omega arith
 request_list_few (Some listed) mode few = omega (arith, rising_few code_of listed, leb-true (length listed) most_codes few)
 
 -- an identifier of a script has as many bytes as it is read from
-duid_kept : (bytes : List ℕ) → is_duid bytes ≡ true → is_duid (written_duid (duid_of bytes)) ≡ true
+duid_kept : (bytes : List ℕ) → is_script_duid bytes ≡ true → is_script_duid (written_duid (duid_of bytes)) ≡ true
 duid_kept bytes is = subst (λ (n : ℕ). (nat_le 2 n && nat_le n most_duid_bytes) ≡ true) (sym (length-duid bytes)) is
 
 duid_or_none_kept : (bytes : List ℕ) → is_duid_or_none bytes ≡ true → is_duid_or_none (written_duid (duid_of bytes)) ≡ true
 duid_or_none_kept bytes is = subst (λ (n : ℕ). ((n == 0) || (nat_le 2 n && nat_le n most_duid_bytes)) ≡ true) (sym (length-duid bytes)) is
 
 -- an identifier of a script can be sent
-duid_sent : (bytes : List ℕ) → is_duid bytes ≡ true → leases.is_duid (duid_of bytes) ≡ true
+duid_sent : (bytes : List ℕ) → is_script_duid bytes ≡ true → leases.is_duid (duid_of bytes) ≡ true
 duid_sent bytes is =
     let parts = and_parts (nat_le 2 (length bytes)) (nat_le (length bytes) most_duid_bytes) is in
     let written : ℕ = length (written_duid (duid_of bytes)) in
@@ -59,7 +59,7 @@ record Named (bytes : List ℕ) : Type 0 where
 duid_named : (bytes : List ℕ) → is_duid_or_none bytes ≡ true → Named bytes
 duid_named bytes is = go bytes (length bytes == 0) refl is
   where
-    go : (bytes : List ℕ) (none : Bool) → (length bytes == 0) ≡ none → (none || is_duid bytes) ≡ true → Named bytes
+    go : (bytes : List ℕ) (none : Bool) → (length bytes == 0) ≡ none → (none || is_script_duid bytes) ≡ true → Named bytes
     go [] none e is = record {
       named = subst (λ (duid : DhcpV6Duid). (is_no_duid duid || leases.is_duid duid) ≡ true) (sym no_duid) refl;
       short = le-leb (length (written_duid (duid_of []))) 65535 (omega (arith, length-duid []));
@@ -79,14 +79,14 @@ unfolding lease_with leases.is_within_limits
 lease_within None valid = refl
 lease_within (Some lease) valid =
     let first : Bool = are_times_in_order lease && not (is_unspecified lease.address) in
-    let parts = and_parts first (is_duid lease.srv_duid) valid in
+    let parts = and_parts first (is_script_duid lease.srv_duid) valid in
     and_from (first && true) (leases.is_duid (duid_of lease.srv_duid)) (and_from first true parts.0 refl) (duid_sent lease.srv_duid parts.1)
 
 -- and within those of one that a script may hold
-lease_fits : (lease : Option Lease6) → is_lease_valid lease ≡ true → option_map_or (λ (held : leases.Lease). is_duid (written_duid held.srv_duid)) (option_map lease_with lease) true ≡ true
+lease_fits : (lease : Option Lease6) → is_lease_valid lease ≡ true → option_map_or (λ (held : leases.Lease). is_script_duid (written_duid held.srv_duid)) (option_map lease_with lease) true ≡ true
 unfolding lease_with
 lease_fits None valid = refl
-lease_fits (Some lease) valid = duid_kept lease.srv_duid (and_parts (are_times_in_order lease && not (is_unspecified lease.address)) (is_duid lease.srv_duid) valid).1
+lease_fits (Some lease) valid = duid_kept lease.srv_duid (and_parts (are_times_in_order lease && not (is_unspecified lease.address)) (is_script_duid lease.srv_duid) valid).1
 
 -- the parts of the test of a script
 record ValidParts (script : Script6) : Type 0 where
@@ -138,7 +138,7 @@ valid_plays script valid =
     let named : Bool = not (config.iface_index == 0) && not (is_unspecified config.src_ip) && (is_no_duid config.duid || leases.is_duid config.duid) in
     let held : Bool = option_map_or leases.is_within_limits (option_map lease_with script.lease) true in
     let short : Bool = is_duid_or_none (written_duid config.duid) && nat_le (length config.request_opts) most_codes in
-    let named_server : Bool = option_map_or (λ (held : leases.Lease). is_duid (written_duid held.srv_duid)) (option_map lease_with script.lease) true in
+    let named_server : Bool = option_map_or (λ (held : leases.Lease). is_script_duid (written_duid held.srv_duid)) (option_map lease_with script.lease) true in
     and_from (are_valid script.start script.events && fit_a_script config (option_map lease_with script.lease)) (named && configs.is_within_limits config && held)
     (and_from (are_valid script.start script.events) (short && named_server) all.events (and_from short named_server (config_fits script all) (lease_fits script.lease all.lease)))
     (and_from (named && configs.is_within_limits config) held

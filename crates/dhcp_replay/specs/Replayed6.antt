@@ -16,7 +16,7 @@ use Rattle.dhcp6_client.specs.Client.{ClientParts, can_begin, first_draws, first
 use Rattle.dhcp6_client.specs.Rules.{protocol}
 use Rattle.dhcp6_client.specs.declared.client_state.ClientState.{ClientState}
 use Rattle.dhcp6_client.specs.declared.client_state.Exchange.{Exchange}
-use Rattle.dhcp_script.specs.Duid.{is_duid, is_duid_or_none}
+use Rattle.dhcp_script.specs.Duid.{is_script_duid, is_duid_or_none}
 use Rattle.dhcp_script.specs.Event.{are_valid}
 use Rattle.dhcp_output.specs.Output.{PlainOutput, changed_v6}
 use Rattle.dhcp_script.specs.Script6.{most_codes}
@@ -30,7 +30,7 @@ abbrev pub fit_a_script : Config → Option Lease → Bool
 fit_a_script config lease =
     is_duid_or_none (written_duid config.duid)
     && nat_le (length config.request_opts) most_codes
-    && option_map_or (λ held. is_duid (written_duid held.srv_duid)) lease true
+    && option_map_or (λ held. is_script_duid (written_duid held.srv_duid)) lease true
 
 -- whether a client can live so: all that it is given is within the limits of a script, and it can
 -- begin

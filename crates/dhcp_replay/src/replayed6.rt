@@ -14,17 +14,12 @@ use crate::family::{boxed, play};
 use crate::laws;
 use dhcp_clock::Words;
 use dhcp_output::Output;
-use dhcp_script::{Event, are_valid};
+use dhcp_script::{Event, MAX_CODES_V6, MAX_DUID_LEN, are_valid};
 use dhcp_wire::{DhcpError, ErrorKind, FixedText, Sequence};
 use dhcp6_client::DhcpV6Client;
 use dhcp6_msg::{DhcpV6Config, DhcpV6Lease};
 use dhcp6_opt::DhcpV6Duid;
 use std::alloc::Global;
-
-// How many bytes an identifier has at most, and how many option codes are asked for, in a script.
-const MAX_DUID_LEN: usize = 130;
-
-const MAX_CODES: usize = 1000;
 
 /// What happened to an IPv6 client, and the client at the end.
 #[derive(Drop)]
@@ -122,13 +117,13 @@ fn fit_a_script(config: &DhcpV6Config, lease: &Option<DhcpV6Lease>) -> bool
         None => true,
     };
     (config.duid.written_len() == 0 || is_script_duid(&config.duid))
-        && config.request_opts.len() <= MAX_CODES
+        && config.request_opts.len() <= MAX_CODES_V6
         && names_its_server
 }
 
 // Whether an identifier has 2 to 130 bytes.
 fn is_script_duid(duid: &DhcpV6Duid) -> bool
-    ensures { result ≡ duids.is_duid (written_duid duid.now) }
+    ensures { result ≡ duids.is_script_duid (written_duid duid.now) }
 {
     let len = duid.written_len();
     2 <= len && len <= MAX_DUID_LEN

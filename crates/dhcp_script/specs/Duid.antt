@@ -9,12 +9,12 @@ abbrev pub most_duid_bytes : ℕ
 most_duid_bytes = 130
 
 -- whether bytes are an identifier: a type of two bytes, and no more than 128 bytes
-abbrev pub is_duid : List ℕ → Bool
-is_duid bytes = nat_le 2 (length bytes) && nat_le (length bytes) most_duid_bytes
+abbrev pub is_script_duid : List ℕ → Bool
+is_script_duid bytes = nat_le 2 (length bytes) && nat_le (length bytes) most_duid_bytes
 
 -- whether there are no bytes, or those of an identifier
 abbrev pub is_duid_or_none : List ℕ → Bool
-is_duid_or_none bytes = (length bytes == 0) || is_duid bytes
+is_duid_or_none bytes = (length bytes == 0) || is_script_duid bytes
 
 -- the identifier of some bytes; fewer than two stand for themselves
 abbrev pub duid_of : List ℕ → DhcpV6Duid

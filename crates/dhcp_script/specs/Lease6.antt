@@ -11,7 +11,7 @@ use Rattle.dhcp6_msg.specs.Lease.{Lease, empty_lease, is_unspecified}
 use Rattle.dhcp_script.specs.declared.lease6.Lease6.{Lease6}
 use Rattle.dhcp_script.specs.declared.version.Version.{Version}
 use Rattle.dhcp_script.specs.declared.version.Version.TheVariants.{One, Later}
-use Rattle.dhcp_script.specs.Duid.{duid_of, is_duid}
+use Rattle.dhcp_script.specs.Duid.{duid_of, is_script_duid}
 use Rattle.dhcp_script.specs.Field.{spaced}
 
 -- whether a lease is not rebound before it is renewed, does not end before it is rebound, and is
@@ -25,7 +25,7 @@ are_times_in_order lease =
 -- identifier of its server has 2 to 130 bytes
 abbrev pub is_within_limits : Lease6 → Bool
 is_within_limits lease =
-    are_times_in_order lease && not (is_unspecified lease.address) && is_duid lease.srv_duid
+    are_times_in_order lease && not (is_unspecified lease.address) && is_script_duid lease.srv_duid
 
 -- a lease with the association, times and addresses of these fields
 abbrev pub with_numbers : Lease6 → Lease → Lease

@@ -9,15 +9,15 @@ use dhcp_wire::{BufferMut, Bytes, DhcpError, none_if_refused};
 use dhcp6_opt::DhcpV6Duid;
 use std::alloc::Global;
 
-// How many bytes an identifier has at most: the two of its type, and 128 after them (RFC 8415,
-// section 11.1).
-const MAX_DUID_LEN: usize = 130;
+/// How many bytes an identifier has at most in a script: the two of its type, and 128 after them
+/// (RFC 8415, section 11.1).
+pub const MAX_DUID_LEN: usize = 130;
 
 /// Whether bytes are an identifier, as a script has it: there are 2 to 130. RFC 8415, section 11.1,
 /// asks for two bytes of a type and 1 to 128 bytes after them; a script may also have a type alone,
 /// and the client itself accepts 2 to 65,535 bytes.
-pub fn is_duid(bytes: &[u8]) -> bool
-    ensures { result ≡ duids.is_duid bytes.now }
+pub fn is_script_duid(bytes: &[u8]) -> bool
+    ensures { result ≡ duids.is_script_duid bytes.now }
 {
     2 <= bytes.len() && bytes.len() <= MAX_DUID_LEN
 }
@@ -26,7 +26,7 @@ pub fn is_duid(bytes: &[u8]) -> bool
 pub fn is_duid_or_none(bytes: &[u8]) -> bool
     ensures { result ≡ duids.is_duid_or_none bytes.now }
 {
-    bytes.is_empty() || is_duid(bytes)
+    bytes.is_empty() || is_script_duid(bytes)
 }
 
 /// The identifier of some bytes, as many as there are; fewer than two are `Raw`. Out of memory is

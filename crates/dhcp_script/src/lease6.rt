@@ -10,7 +10,7 @@ ghost use Rattle.dhcp_script.specs.Puts.{Puts};
 
 use self::printer::push_fields;
 use self::reader::read_lease;
-use crate::duid::{bytes_of, duid_of, is_duid};
+use crate::duid::{bytes_of, duid_of, is_script_duid};
 use crate::held::HeldLease;
 use crate::version::Version;
 use dhcp_stream::{ReadError, TextReader};
@@ -70,7 +70,7 @@ impl Lease6 {
     {
         self.are_times_in_order()
             && !self.address.is_unspecified()
-            && is_duid(self.srv_duid.as_slice())
+            && is_script_duid(self.srv_duid.as_slice())
     }
 
     /// The lease with these fields; its other fields are those of the empty lease. Out of memory is

@@ -19,6 +19,7 @@ mod version;
 mod widths;
 
 pub use demo::demo_script;
+pub use duid::MAX_DUID_LEN;
 pub use event::{Event, EventWhat, MAX_EVENTS, MAX_PACKET_LEN, MOMENT_LIMIT, are_valid};
 pub use hex_text::push_hex;
 pub use lease4::Lease4;
@@ -27,4 +28,4 @@ pub use lease6::Lease6;
 pub use lease6::printer::push_lease as push_lease6;
 pub use script::{Script, read_script, read_script_v1, upgrade, write_script};
 pub use script4::Script4;
-pub use script6::Script6;
+pub use script6::{MAX_CODES_V6, Script6};

@@ -52,8 +52,8 @@ pub struct Script6 {
     pub events: Sequence<Event>,
 }
 
-// How many option codes, of two bytes each, are listed at most.
-const MAX_CODES: usize = 1000;
+/// How many option codes, of two bytes each, are listed at most.
+pub const MAX_CODES_V6: usize = 1000;
 
 impl Script6 {
     /// Whether it is within its limits: its interface index is not 0 and its address not ::; its
@@ -66,7 +66,7 @@ impl Script6 {
         self.iface_index != 0
             && !self.src_ip.is_unspecified()
             && is_duid_or_none(self.duid.as_slice())
-            && are_few(&self.codes, MAX_CODES)
+            && are_few(&self.codes, MAX_CODES_V6)
             && is_lease_valid(&self.lease)
             && are_valid(self.start, self.events.as_slice())
     }
