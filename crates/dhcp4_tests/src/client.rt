@@ -169,11 +169,20 @@ fn released_held(alloc: Global, client: &mut DhcpV4Client) -> Result<Option<Hand
 
 // Whether the release of the lease that is held is that of the same lease by hand.
 fn releases_the_held_lease(alloc: Global, client: &mut DhcpV4Client) -> Result<bool, DhcpError> {
-    let is_taken = client.done(lease(alloc, 11, [10, 20, 30]), 7).is_ok();
+    client.done(lease(alloc, 11, [10, 20, 30]), 7)?;
     let by_hand = released(alloc, client)?;
-    let is_taken_again = client.done(lease(alloc, 11, [10, 20, 30]), 7).is_ok();
+    hands_when_held(alloc, client, &by_hand)
+}
+
+// Whether the lease of 192.0.2.11, held anew and then released, hands this message to the link.
+fn hands_when_held(
+    alloc: Global,
+    client: &mut DhcpV4Client,
+    message: &Option<Handed>,
+) -> Result<bool, DhcpError> {
+    client.done(lease(alloc, 11, [10, 20, 30]), 7)?;
     let held = released_held(alloc, client)?;
-    Ok(is_taken && is_taken_again && held.is_some() && held == by_hand && client.lease().is_none())
+    Ok(held.is_some() && held == *message && client.lease().is_none())
 }
 
 // Whether the release of a lease that isn't held returns false and hands nothing to the link.

@@ -182,17 +182,23 @@ fn each_kind_says_its_value(rt: HostRuntime) {
     );
 }
 
+// A host name as it is written, if it fits.
+fn written_host_name(alloc: Global, name: &str) -> Result<Option<Bytes>, DhcpError> {
+    let name = Text::from_str(alloc, name)?;
+    let option = Box::new(alloc, DhcpV4Option::HostName(name))?;
+    if option.fits() {
+        Ok(Some(written(alloc, &option)?))
+    } else {
+        Ok(None)
+    }
+}
+
 #[test]
 fn a_long_host_name_is_cut_to_254_bytes(rt: HostRuntime) {
-    let letters = vec![in rt.alloc(); 0x61; 300].expect(&rt, "memory");
-    let text = Text::from(
-        String::from_utf8(letters)
-            .map_err(|_| "not UTF-8")
-            .expect(&rt, "memory"),
-    );
-    let option = DhcpV4Option::HostName(text);
-    assert!(rt; option.fits());
-    let written = written(rt.alloc(), &option).expect(&rt, "memory");
+    let name = "a".repeat(rt.alloc(), 300).expect(&rt, "memory");
+    let written = written_host_name(rt.alloc(), &name)
+        .expect(&rt, "memory")
+        .expect(&rt, "it does not fit");
     let bytes = written.as_slice();
     assert!(rt; bytes.len() == 257);
     assert!(rt; bytes.get(..3) == Some([0x0c, 0xff, 0x61].as_slice()));

@@ -1,14 +1,7 @@
--- What is printed: numbers filled with zeros, digits in hex, and the lines of records.
-use Rattle.std.proofs.Common.{◌≡◌, ℕ, ◌+◌, ◌^◌, ◌-◌, Bool, true, false, ltb, ◌&&◌, List, [], ◌∷◌, ◌++◌, length, append-nil, append_assoc, Result, Ok, Err, refl, ap, ◌∙◌, arith}
-use borrow.Author.Tests.{ltb-true}
-use Rattle.std.proofs.lemmas.Bool.{and_parts}
-use Rattle.std.proofs.lemmas.Str.{IsUtf8-from_ascii}
-use Rattle.std.proofs.lemmas.Str.Ascii.{IsAscii-cons, IsAscii-nil}
+-- What is printed: numbers filled with zeros, and the lines of records.
+use Rattle.std.proofs.Common.{◌≡◌, ℕ, ◌+◌, ◌^◌, ◌-◌, false, List, [], ◌∷◌, ◌++◌, length, append-nil, append_assoc, Result, Ok, Err, refl, ap, ◌∙◌, arith}
 use Rattle.std.specs.Fmt.{char_count, decimal, format_spec, padded_integral}
-use Rattle.std.specs.Result.{IsOk, MatchResult, OnOk}
-use Rattle.std.specs.Str.{IsAscii, IsUtf8}
-use Rattle.hex.specs.Hex.{encode_lower, lower_digits}
-use Rattle.hex.proofs.HexLemmas.{IsAscii-encode_with}
+use Rattle.std.specs.Result.{OnOk}
 use Rattle.dhcp_inspect.specs.Record.{RecordParts}
 use Rattle.dhcp_inspect.specs.Report.{record_text, records_text, zero_filled}
 use Rattle.dhcp_inspect.specs.declared.header.TimeUnit.{TimeUnit}
@@ -21,27 +14,6 @@ padded-zero_filled width number =
     rw (short, append-nil (decimal number)) refl
 
 pub ruleset filled = (padded-zero_filled)
-
--- the test of bytes for ASCII, which computes
-abbrev are_ascii : List ℕ → Bool
-are_ascii [] = true
-are_ascii (byte ∷ bytes) = ltb byte 128 && are_ascii bytes
-
-IsAscii-are_ascii : (bytes : List ℕ) → are_ascii bytes ≡ true → IsAscii bytes
-IsAscii-are_ascii [] is = IsAscii-nil
-IsAscii-are_ascii (byte ∷ bytes) is =
-    let both = and_parts (ltb byte 128) (are_ascii bytes) is in
-    IsAscii-cons byte bytes (ltb-true byte 128 both.0) (IsAscii-are_ascii bytes both.1)
-
--- digits in hex are a text
-pub IsUtf8-encode_lower : (octets : List ℕ) → IsUtf8 (encode_lower octets)
-IsUtf8-encode_lower octets = IsUtf8-from_ascii (encode_lower octets) (IsAscii-encode_with lower_digits octets (IsAscii-are_ascii lower_digits refl))
-
--- a read of bytes as a text that fails only where they are none
-pub IsOk-utf8 : {A E : Type 0} (Text : A → Type 0) (Fault : E → Type 0) (read : Result A E) (bytes : List ℕ) →
-    MatchResult read Text (λ e. (IsUtf8 bytes → ⊥) × Fault e) → IsUtf8 bytes → IsOk read
-IsOk-utf8 Text Fault (Ok text) bytes reads utf8 = refl
-IsOk-utf8 Text Fault (Err e) bytes reads utf8 = absurd (reads.0 utf8)
 
 -- the lines of a record and of others after it
 pub records_text-cons : (unit : TimeUnit) (number : ℕ) (packet : RecordParts) (packets : List RecordParts) →

@@ -3,10 +3,9 @@
 use Rattle.std.specs.Prelude.{ℕ, ◌+◌, ◌-◌, ◌==◌, Bool, ◌||◌, List, [], ◌∷◌, ◌++◌, length, replicate, codes, Option, Some, None, option_map, if◌then◌else◌}
 use Rattle.std.specs.Fmt.{decimal}
 use Rattle.std.specs.Int.{w32, to_be_bytes}
-use Rattle.std.specs.List.{join_with_byte}
 use Rattle.hex.specs.Hex.{encode_lower}
 use Rattle.dhcp_stream.specs.HexText.{address6_text}
-use Rattle.dhcp_stream.specs.Line.{line}
+use Rattle.dhcp_stream.specs.Line.{line, spaced}
 use Rattle.dhcp_stream.specs.Number.{address_text}
 use Rattle.dhcp4_msg.specs.MessageType as v4
 use Rattle.dhcp4_msg.specs.declared.message_type.DhcpV4MessageType.{DhcpV4MessageType}
@@ -21,10 +20,6 @@ use Rattle.dhcp_inspect.specs.declared.message.Message.{Message}
 use Rattle.dhcp_inspect.specs.declared.message.Message.TheVariants.{V4, V6}
 use Rattle.dhcp_inspect.specs.declared.message.Message4.{Message4}
 use Rattle.dhcp_inspect.specs.declared.message.Message6.{Message6}
-
--- fields with a space between two
-abbrev pub spaced : List (List ℕ) → List ℕ
-spaced fields = join_with_byte 32 fields
 
 -- a decimal number with at least so many digits, filled with zeros
 abbrev pub zero_filled : ℕ → ℕ → List ℕ

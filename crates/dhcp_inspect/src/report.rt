@@ -24,6 +24,7 @@ use crate::capture::Capture;
 use crate::header::TimeUnit;
 use crate::message::{Message, Message4, Message6};
 use crate::record::Record;
+use dhcp_stream::push_octets;
 use dhcp_wire::{Bytes, DhcpError};
 use dhcp4_msg::DhcpV4MessageType;
 use std::alloc::{AllocError, Global};
@@ -197,18 +198,6 @@ fn push_id6(text: &mut String, number: u8, xid: u32) -> Result<(), AllocError>
         RELAY_FORWARD | RELAY_REPLY => text.push('-'),
         _ => push_octets(text, &xid.to_be_bytes()[1..]),
     }
-}
-
-// Puts the hex digits of at most sixteen octets at the end of a text.
-fn push_octets(text: &mut String, octets: &[u8]) -> Result<(), AllocError>
-    requires { length octets.now ≤ 16 }
-    ensures { OnOk result (string_bytes text.new
-        ≡ string_bytes text.old ++ encode_lower octets.now) }
-{
-    let mut room = [0u8; 32];
-    let digits = &mut room[..2 * octets.len()];
-    hex::encode_to_slice(octets, digits).unwrap();
-    text.push_str(std::str::from_utf8(digits).unwrap())
 }
 
 // Puts the last line of a report at the end of a text.
