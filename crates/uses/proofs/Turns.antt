@@ -14,13 +14,14 @@ use Rattle.dhcp_history.specs.Run.{UnlessNoMemory}
 use Rattle.dhcp_history.specs.Traced.{Traces}
 use Rattle.uses.specs.Manager.{Follows, Linked, Polled, calls_at}
 
--- a poll by an equal table
+-- a poll by an equal table, that needs memory as this one
 pub polled_by : {PublicState State Exchange Answer Lease Source Link : Type 0} (one p : Protocol PublicState Packet Handed State Exchange Answer Lease)
-    (gives : ℕ → Source → Source → Type 0) (moves : Turn → Link → Link → Type 0) {Reported : Type 0} (view : Reported → PublicState) (needs_memory : State → Exchange → Packet → Bool)
+    (gives : ℕ → Source → Source → Type 0) (moves : Turn → Link → Link → Type 0) {Reported : Type 0} (view : Reported → PublicState) (own needs_memory : State → Exchange → Packet → Bool)
     (left : Source → Option (List ℕ)) (shown : Link → Option Shown) (faults : Link → ℕ) (now : ℕ) (result : Result (Option Reported) ErrorParts) (old new : Linked State Exchange Source Link) →
-    one ≡ p → Polled one gives moves view needs_memory left shown faults now result old new → Polled p gives moves view needs_memory left shown faults now result old new
-polled_by one p gives moves view needs_memory left shown faults now result old new same polled =
-    subst (λ (p : Protocol _ Packet Handed _ _ _ _). Polled p gives moves view needs_memory left shown faults now result old new) same polled
+    one ≡ p → own ≡ needs_memory → Polled one gives moves view own left shown faults now result old new → Polled p gives moves view needs_memory left shown faults now result old new
+polled_by {State = State} {Exchange = Exchange} one p gives moves view own needs_memory left shown faults now result old new same needs polled =
+    subst (λ (p : Protocol _ Packet Handed _ _ _ _). Polled p gives moves view needs_memory left shown faults now result old new) same
+    (subst (λ (needs : State → Exchange → Packet → Bool). Polled one gives moves view needs left shown faults now result old new) needs polled)
 
 module _ {PublicState State Exchange Answer Lease Source Link : Type 0} (p : Protocol PublicState Packet Handed State Exchange Answer Lease)
     (gives : ℕ → Source → Source → Type 0) (moves : Turn → Link → Link → Type 0) {Reported : Type 0} (view : Reported → PublicState) where

@@ -2,6 +2,7 @@
 use Rattle.std.specs.Prelude.{ℕ, List, [], ◌∷◌, Some, codes}
 use Rattle.std.specs.declared.net.Ipv6Addr.{Ipv6Addr}
 use Rattle.dhcp4_lease.specs.Config as v4
+use Rattle.dhcp4_lease.specs.declared.message_forms.DhcpV4MessageForms.TheVariants.{Rfc2131}
 use Rattle.dhcp6_msg.specs.Config as v6
 use Rattle.dhcp6_msg.specs.declared.mode.DhcpV6Mode.TheVariants.{NonTemporaryAddresses}
 
@@ -9,12 +10,14 @@ use Rattle.dhcp6_msg.specs.declared.mode.DhcpV6Mode.TheVariants.{NonTemporaryAdd
 abbrev pub mac : List ℕ
 mac = 2 ∷ 0 ∷ 0 ∷ 0 ∷ 0 ∷ 1 ∷ []
 
--- of a client of IPv4 that is known by its MAC address, of type 1
+-- of a client of IPv4 that is known by its MAC address, of type 1, and sends the messages of RFC
+-- 2131
 abbrev pub config4 : v4.Config
 config4 = record (v4.config_of (codes "eth0")) {
   iface_index = 3;
   src_mac = mac;
   client_id = 1 ∷ mac;
+  message_forms = Rfc2131;
 }
 
 -- of one that names its host foo and asks for static routes, option 33, too

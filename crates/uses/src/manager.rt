@@ -53,7 +53,7 @@ pub trait ManagedClient {
     ghost client: { Self → Client ClientState Exchange };
 
     /// Whether the reading of a packet may need memory.
-    ghost needs_memory: { ClientState → Exchange → Packet → Bool };
+    ghost needs_memory: { Self → ClientState → Exchange → Packet → Bool };
 
     /// One poll at a moment, in milliseconds: the new state, or none if it has not changed.
     fn run<W: Words, L: DhcpLink>(
@@ -64,10 +64,11 @@ pub trait ManagedClient {
     ) -> Result<Option<Self::State>, DhcpError>
         requires { now < 2 ^ 60 }
         ensures polled { Polled (protocol self.old) W.gives L.moves public_state
-            needs_memory W.left L.shown L.faults now result
+            (needs_memory self.old) W.left L.shown L.faults now result
             (linked (client self.old) words.old link.old)
             (linked (client self.new) words.new link.new) }
         ensures same { protocol self.new ≡ protocol self.old }
+        ensures needs { needs_memory self.new ≡ needs_memory self.old }
         ensures errors { IfErr result (λ error. (error ≡ timed_out) ⊎ (error ≡ no_memory)) };
 
     /// The moment, in milliseconds, before which it has nothing to do without a packet; none if and
@@ -102,7 +103,7 @@ pub fn turn<C: ManagedClient, I: Follow<C::State>, W: Words, L: DhcpLink>(
     requires { now < 2 ^ 60 }
     ensures turned { HasTurned (C.protocol client.old) W.gives L.moves C.public_state
         I.follows now (Polled (C.protocol client.old) W.gives L.moves C.public_state
-        C.needs_memory W.left L.shown L.faults now) result
+        (C.needs_memory client.old) W.left L.shown L.faults now) result
         (linked (C.client client.old) words.old link.old) interface.old
         (linked (C.client client.new) words.new link.new) interface.new }
     ensures same { C.protocol client.new ≡ C.protocol client.old }

@@ -11,19 +11,21 @@ ghost use Rattle.dhcp4_lease.specs.MessageTable.{discover, table_message};
 ghost use Rattle.uses.specs.Configs.{named_config4};
 
 use dhcp_wire::{BufferMut, Bytes, DhcpError};
-use dhcp4_lease::{DhcpV4Config, new_discovery};
+use dhcp4_lease::{DhcpV4Config, DhcpV4MessageForms, new_discovery};
 use dhcp4_msg::DhcpV4Message;
 use dhcp4_msg::laws::message_reads_back;
 use std::alloc::Global;
 
-/// The configuration of a client on `eth0` that names its host, is known by its MAC address, and
-/// asks for static routes too. Out of memory is the only error.
+/// The configuration of a client on `eth0` that names its host, is known by its MAC address, sends
+/// the messages of RFC 2131, and asks for static routes too. Out of memory is the only error.
 #[tactic(auto, using(crate::proofs::Facts::facts))]
 pub fn configuration(alloc: Global) -> Result<DhcpV4Config, DhcpError>
     ensures { Makes (λ config. config) result named_config4 }
 {
     let mut config = DhcpV4Config::new(alloc, "eth0")?;
-    config.set_iface_index(3);
+    config
+        .set_iface_index(3)
+        .set_message_forms(DhcpV4MessageForms::Rfc2131);
     config
         .set_iface_mac(alloc, "02:00:00:00:00:01")?
         .use_mac_as_client_id(alloc)?;

@@ -25,7 +25,7 @@ use super::ManagedClient;
 use dhcp_clock::{DhcpLink, Words};
 use dhcp_wire::{DhcpError, ErrorKind};
 use dhcp4_client::{DhcpV4Client, DhcpV4State};
-use dhcp4_lease::DhcpV4Config;
+use dhcp4_lease::{DhcpV4Config, DhcpV4MessageForms};
 use dhcp6_client::{DhcpV6Client, DhcpV6State};
 use dhcp6_msg::{DhcpV6Config, DhcpV6Mode};
 use std::alloc::Global;
@@ -50,7 +50,7 @@ impl ManagedClient for DhcpV4Client {
 
     ghost client = { λ parts. parts.client };
 
-    ghost needs_memory = { rules4.needs_memory };
+    ghost needs_memory = { λ parts. rules4.needs_memory parts.config.message_forms };
 
     fn run<W: Words, L: DhcpLink>(
         &mut self,
@@ -85,7 +85,7 @@ impl ManagedClient for DhcpV6Client {
 
     ghost client = { λ parts. parts.client };
 
-    ghost needs_memory = { rules6.needs_memory };
+    ghost needs_memory = { λ parts. rules6.needs_memory };
 
     fn run<W: Words, L: DhcpLink>(
         &mut self,
@@ -101,15 +101,17 @@ impl ManagedClient for DhcpV6Client {
     }
 }
 
-/// A client of IPv4 on `eth0`, the interface with index 3, that is known by its MAC address. Out of
-/// memory is the only error.
+/// A client of IPv4 on `eth0`, the interface with index 3, that is known by its MAC address and
+/// sends the messages of RFC 2131. Out of memory is the only error.
 #[tactic(auto, using(crate::proofs::Facts::facts))]
 pub fn new_client<W: Words>(alloc: Global, words: &mut W) -> Result<DhcpV4Client, DhcpError>
     ensures begun { IfOk result (client4.Begins config4 None) }
     ensures error { IfErr result (λ e. e ≡ no_memory) }
 {
     let mut config = DhcpV4Config::new(alloc, "eth0")?;
-    config.set_iface_index(3);
+    config
+        .set_iface_index(3)
+        .set_message_forms(DhcpV4MessageForms::Rfc2131);
     config
         .set_iface_mac(alloc, "02:00:00:00:00:01")?
         .use_mac_as_client_id(alloc)?;
