@@ -1,0 +1,5 @@
+mod Beginnings
+mod Lawful
+mod NextPoll
+mod TakenWords
+mod Traffic

@@ -1,0 +1,7 @@
+pub mod Answer
+pub mod Bounds
+pub mod Client
+pub mod Info
+pub mod Message
+pub mod Rules
+pub mod State
