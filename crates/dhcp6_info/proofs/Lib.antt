@@ -1,4 +1,5 @@
 mod Beginnings
+mod Given
 mod Lawful
 mod NextPoll
 mod TakenWords
