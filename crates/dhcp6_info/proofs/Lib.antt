@@ -1,0 +1,6 @@
+mod Beginnings
+mod Given
+mod Lawful
+mod NextPoll
+mod TakenWords
+mod Traffic

@@ -1,0 +1,93 @@
+//! A packet as the awaited answer, RFC 8415 sections 16.10 and 18.2.10.4. It is tested in the bytes
+//! that it was received in: its carrier, its type, its transaction id; only a packet that may
+//! answer is copied.
+
+ghost use Rattle.std.specs.Prelude.{◌≡◌, IfErr, IfOk, None, Ok, false, is_some};
+ghost use Rattle.dhcp_wire.specs.Error.{no_memory};
+ghost use Rattle.dhcp_wire.specs.Outcome.{Finds};
+ghost use Rattle.dhcp6_msg.specs.Lease.{said_by, status_said};
+ghost use Rattle.dhcp6_opt.specs.Status as statuses;
+ghost use Rattle.dhcp6_info.specs.Answer as answers;
+ghost use Rattle.dhcp6_info.specs.Info as infos;
+
+use crate::given_info::{GivenInfo, server_of};
+use crate::refresh_time::refresh_time;
+use dhcp_clock::{Packet, PacketKind};
+use dhcp_wire::DhcpError;
+use dhcp6_msg::{DhcpV6MessageType, DhcpV6View};
+use dhcp6_opt::{DhcpV6Option, DhcpV6OptionCode, DhcpV6OptionStatusCode, DhcpV6Options};
+use std::alloc::Global;
+
+/// The configuration that a packet gives to an attempt with this transaction id, if it gives one.
+/// Out of memory is the only error, and comes only of a packet that may answer.
+pub fn read_answer(alloc: Global, xid: u32, packet: &Packet) -> Result<Option<GivenInfo>, DhcpError>
+    ensures answer { IfOk result (λ answer. answer ≡ answers.info_in xid packet.now) }
+    ensures error { IfErr result (λ error. error ≡ no_memory) }
+    ensures free { is_some (answers.reply_for xid packet.now) ≡ false → result ≡ Ok None }
+{
+    let Some(payload) = payload_in(packet) else {
+        return Ok(None);
+    };
+    let Some(view) = DhcpV6View::new(payload) else {
+        return Ok(None);
+    };
+    if !concerns(xid, &view) {
+        return Ok(None);
+    }
+    given_by(alloc, payload, &view)
+}
+
+// The payload of a packet; a frame has none here.
+fn payload_in(packet: &Packet) -> Option<&[u8]>
+    ensures { Finds (λ bytes. bytes.now) result (answers.payload_in packet.now) }
+{
+    match packet.kind {
+        PacketKind::Frame => None,
+        PacketKind::Payload => Some(packet.bytes.as_slice()),
+    }
+}
+
+// Whether a message is a Reply with this transaction id. Its client identifier, which RFC 8415
+// section 16.10 compares too, is not compared.
+#[tactic(auto, unfolding(dhcp6_msg::specs::MessageType::type_number))]
+fn concerns(xid: u32, message: &DhcpV6View) -> bool
+    ensures { result ≡ answers.concerns xid message.now }
+{
+    message.msg_type() == DhcpV6MessageType::Reply && message.xid() == xid
+}
+
+// The configuration that this message of a payload gives, if it gives one.
+fn given_by(
+    alloc: Global,
+    payload: &[u8],
+    message: &DhcpV6View,
+) -> Result<Option<GivenInfo>, DhcpError>
+    ensures given { IfOk result (λ given. given ≡ answers.given_by payload.now message.now) }
+    ensures error { IfErr result (λ error. error ≡ no_memory) }
+{
+    let options = message.to_message(alloc)?.options;
+    if !is_given(&options) {
+        return Ok(None);
+    }
+    Ok(Some(GivenInfo::new(options, refresh_time(payload))))
+}
+
+// Whether these options of a Reply give a configuration.
+fn is_given(options: &DhcpV6Options) -> bool
+    ensures { result ≡ infos.is_given options.now }
+{
+    is_no_failure(options) && server_of(options).is_some()
+}
+
+// Whether the first readable status is absent or says success.
+#[tactic(auto, unfolding(dhcp6_opt::specs::OptionCode::number_of))]
+fn is_no_failure(options: &DhcpV6Options) -> bool
+    ensures { result ≡ statuses.is_no_failure (said_by status_said options.now 13) }
+{
+    match options.get_first(DhcpV6OptionCode::StatusCode) {
+        Some(DhcpV6Option::StatusCode(status)) => {
+            matches!(status.status, DhcpV6OptionStatusCode::Success)
+        }
+        _ => true,
+    }
+}

@@ -1,0 +1,32 @@
+//! The events of a script, played over a link in memory.
+
+ghost use Rattle.std.specs.Prelude.{◌<◌, ◌^◌, All};
+
+use super::DhcpV6InfoClient;
+use crate::DhcpV6InfoState;
+use dhcp_clock::{Handed, Packet, Words};
+use dhcp_history::{Event, Output, Reported, replay};
+use dhcp_wire::DhcpError;
+
+impl DhcpV6InfoClient {
+    ghost use Rattle.dhcp_history.specs.Calls.{IsReplay};
+    ghost use Rattle.dhcp6_info.specs.Rules.{protocol};
+
+    /// Plays the events of a script over a link in memory: at each event a clean-up, if it asks for
+    /// one, and then polls until nothing changes any more. Returns what the events report, in
+    /// order. If the words are known and the client begins as a script says that has these events,
+    /// it is what the history of that script reports. Out of memory is the only error.
+    pub fn replay<W: Words>(
+        &mut self,
+        words: &mut W,
+        events: Vec<Event<Packet>>,
+    ) -> Result<Vec<Output<Reported<DhcpV6InfoState>, Handed>>, DhcpError>
+        requires { All (λ event. event.moment < 2 ^ 60) events.items }
+        ensures { IsReplay protocol result (λ reported. reported.items) events.items
+            self.old self.new (W.left words.old) (W.left words.new) }
+    {
+        crate::laws::table_is_lawful();
+        let alloc = self.rules.alloc;
+        replay(alloc, &self.rules, &mut self.client, words, events)
+    }
+}
