@@ -28,8 +28,9 @@ use Rattle.dhcp4_msg.specs.Message.{no_address, read_message, written_addresses,
 use Rattle.dhcp4_msg.specs.Options.{OptionMap, added_end, written_options}
 use Rattle.dhcp4_msg.specs.Value.{fits, option_code, option_number, written_option, written_value}
 use Rattle.dhcp4_msg.proofs.MessageLaw.{message_back}
+use Rattle.dhcp_frame.proofs.Back.{read_frame-frame_bytes}
 use Rattle.dhcp4_server.specs.Request.{CanBeAnswered}
-use Rattle.dhcp4_server.specs.Reply.{address_of_bits, granting, granting_options, refusing, refusing_options, reply_message, with_options}
+use Rattle.dhcp4_server.specs.Reply.{IsFramed, address_of_bits, granting, granting_options, refusing, refusing_options, reply_frame, reply_message, with_options}
 use Rattle.dhcp4_server.specs.Config.{IsTyped}
 use Rattle.dhcp4_server.specs.declared.config.ServerConfig.{ServerConfig}
 
@@ -319,6 +320,15 @@ address_is bits = (four bits, small)
     small (suc (suc zero)) = omega arith
     small (suc (suc (suc zero))) = omega arith
     small (suc (suc (suc (suc k)))) = lit< tt
+
+-- a reply reads back from its frame
+pub frame_back : (config : ServerConfig) → IsTyped config → (payload : List ℕ) → length payload ≤ 300 → IsFramed (reply_frame config payload)
+frame_back config typed payload short =
+    read_frame-frame_bytes (reply_frame config payload)
+    (record { destination = refl; source = typed.mac })
+    (record { source = typed.ip; destination = address_is 4294967295 })
+    (record { source = omega arith; destination = omega arith })
+    (omega (arith, short))
 
 -- a reply can be answered as its message can
 pub reply_answered : (message : DhcpV4Message) (yiaddr siaddr : Ipv4Addr) (options : List DhcpV4Option) → CanBeAnswered message → CanBeAnswered (read_back (reply_message message yiaddr siaddr options))

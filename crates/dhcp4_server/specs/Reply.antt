@@ -8,6 +8,7 @@ use Rattle.dhcp_wire.specs.Field.{address_of}
 use Rattle.dhcp_clock.specs.declared.link.Packet.{Packet}
 use Rattle.dhcp_clock.specs.declared.link.PacketKind.{PacketKind}
 use Rattle.dhcp_clock.specs.declared.link.PacketKind.TheVariants as kinds
+use Rattle.dhcp_frame.specs.View.{read_frame}
 use Rattle.dhcp_frame.specs.Write.{frame_bytes}
 use Rattle.dhcp_frame.specs.declared.frame.Frame.{Frame}
 use Rattle.dhcp4_msg.specs.declared.message.DhcpV4Message.{DhcpV4Message}
@@ -99,6 +100,10 @@ reply_frame config payload = record {
   dst_port = 68;
   payload = payload;
 }
+
+-- a frame reads back from its bytes
+abbrev pub IsFramed : Frame → Type 0
+IsFramed frame = read_frame (frame_bytes frame) ≡ Some frame
 
 -- the packet of a payload
 abbrev pub carried : ServerConfig → PacketKind → List ℕ → Packet

@@ -7,7 +7,7 @@ ghost use Rattle.dhcp4_server.specs.Ack.{Ack, AreLawful, IsAmong};
 ghost use Rattle.dhcp4_server.specs.Binding.{Stands};
 ghost use Rattle.dhcp4_server.specs.Config.{IsTyped};
 ghost use Rattle.dhcp4_server.specs.Decision.{BindsBy, Pool, acks_after, decide, decide_by};
-ghost use Rattle.dhcp4_server.specs.Reply.{reply_by};
+ghost use Rattle.dhcp4_server.specs.Reply.{IsFramed, reply_by, reply_frame};
 ghost use Rattle.dhcp4_server.specs.Request.{CanBeAnswered};
 ghost use Rattle.dhcp4_server.specs.declared.binding.Binding.{Binding};
 ghost use Rattle.dhcp4_server.specs.declared.decision.Query.{Query};
@@ -42,12 +42,14 @@ pub fn acks_are_apart()
 {}
 
 /// What a server replies to a message, by what it decided, reads back as it is written, and has at
-/// most 300 bytes.
+/// most 300 bytes. The frame that carries it reads back too.
 pub fn replies_read_back(config: &ServerConfig, message: &DhcpV4Message, decision: Decision)
     ensures read_back { IfSome (reply_by config.now message.now decision)
         (λ reply. read_message (written_message reply) ≡ Some (read_back reply)) }
     ensures short { IfSome (reply_by config.now message.now decision)
         (λ reply. length (written_message reply) ≤ 300) }
+    ensures framed { IfSome (reply_by config.now message.now decision)
+        (λ reply. IsFramed (reply_frame config.now (written_message reply))) }
 {
     is_typed(config);
     can_be_answered(message);
