@@ -5,7 +5,7 @@ use crate::messages::{
 };
 use dhcp_clock::{Packet, PacketKind};
 use dhcp_wire::{Bytes, DhcpError};
-use dhcp4_server::{DhcpV4Server, ServerAnswer};
+use dhcp4_server::{DhcpV4Server, ServerAnswer, ServerConfig};
 use std::alloc::Global;
 use std::net::Ipv4Addr;
 
@@ -136,5 +136,72 @@ fn bytes_that_are_no_message_are_not_answered(rt: HostRuntime) {
         let bytes = Bytes::from(vec![in rt.alloc(); 7u8; length].expect(&rt, "memory"));
         let is = answers(rt.alloc(), PacketKind::Payload, bytes).expect(&rt, "memory");
         assert!(rt; !is, "{length}");
+    }
+}
+
+// The addresses of a large pool, by their numbers from 0 on.
+fn large_ip(number: u16) -> Ipv4Addr {
+    let [high, low] = number.to_be_bytes();
+    Ipv4Addr::new(10, 0, high, low)
+}
+
+// A server with a pool of 600 addresses, the first 512 of which are bound to clients of their own.
+fn server_with_512_bindings(alloc: Global) -> Result<Box<DhcpV4Server>, DhcpError> {
+    let first = large_ip(0);
+    let config = ServerConfig {
+        first,
+        ..config(600)
+    };
+    let mut server = Box::new(alloc, DhcpV4Server::new(alloc, config)?)?;
+    bind_512_addresses(alloc, &mut server)?;
+    Ok(server)
+}
+
+fn bind_512_addresses(alloc: Global, server: &mut DhcpV4Server) -> Result<(), DhcpError> {
+    for number in 0u16..512 {
+        let payload = request(alloc, u32::from(number), server_ip(), large_ip(number))?;
+        answer(alloc, server, 0, u32::from(number), payload)?;
+    }
+    Ok(())
+}
+
+#[test]
+fn the_lowest_free_address_of_a_large_pool_is_offered(rt: HostRuntime) {
+    let mut server = server_with_512_bindings(rt.alloc()).expect(&rt, "memory");
+    let steps = [
+        (0, 511, Sends::Discover, Answered::Offer(large_ip(511))),
+        (
+            100_999,
+            ONE,
+            Sends::Discover,
+            Answered::Offer(large_ip(512)),
+        ),
+        (
+            100_999,
+            300,
+            Sends::Request(large_ip(300)),
+            Answered::Ack(large_ip(300)),
+        ),
+        (101_000, ONE, Sends::Discover, Answered::Offer(large_ip(0))),
+        (101_000, ONE, Sends::Request(large_ip(300)), Answered::Nack),
+        (
+            101_000,
+            ONE,
+            Sends::Request(large_ip(301)),
+            Answered::Ack(large_ip(301)),
+        ),
+        (
+            101_000,
+            ONE,
+            Sends::Discover,
+            Answered::Offer(large_ip(301)),
+        ),
+    ];
+    for (place, step) in steps.iter().enumerate() {
+        let (moment, xid, sends, answered) = *step;
+        let is = is_answered(rt.alloc(), &mut server, moment, xid, sends, answered).expect(
+            &rt, "memory",
+        );
+        assert!(rt; is, "{place}");
     }
 }
