@@ -3,9 +3,9 @@
 ghost use Rattle.std.specs.Prelude.{◌<◌, ◌^◌};
 
 use dhcp_clock::{Packet, PacketKind};
-use dhcp_frame::{Frame, write_frame};
-use dhcp_wire::{BROADCAST_MAC_ADDRESS, BufferMut, Bytes, DhcpError};
-use dhcp4_msg::{DhcpV4Message, DhcpV4MessageType, DhcpV4Option, DhcpV4OptionCode};
+use dhcp_frame::{Frame, MOST_PAYLOAD, write_frame};
+use dhcp_wire::{BROADCAST_MAC_ADDRESS, BufferMut, Bytes, DhcpError, ErrorKind, FixedText};
+use dhcp4_msg::{DhcpV4Message, DhcpV4MessageType, DhcpV4Option, DhcpV4OptionCode, DhcpV4Options};
 use dhcp4_server::{DhcpV4Server, ServerAnswer, ServerConfig};
 use std::alloc::Global;
 use std::net::Ipv4Addr;
@@ -33,13 +33,16 @@ pub fn config(count: u32) -> ServerConfig {
     }
 }
 
-/// A message of the client with this transaction id, with these options.
-pub fn message(alloc: Global, xid: u32, options: Vec<DhcpV4Option>) -> Result<Bytes, DhcpError> {
+// A message of this type by the client with this transaction id.
+fn message(alloc: Global, xid: u32, kind: DhcpV4MessageType) -> Result<DhcpV4Message, DhcpError> {
     let mut message = DhcpV4Message::empty(alloc);
     message.xid = xid;
-    for option in options {
-        message.options.insert(option)?;
-    }
+    message.options.insert(DhcpV4Option::MessageType(kind))?;
+    Ok(message)
+}
+
+// The bytes of a message.
+fn written(alloc: Global, message: &DhcpV4Message) -> Result<Bytes, DhcpError> {
     let mut buffer = BufferMut::new(alloc);
     message.emit(&mut buffer)?;
     Ok(buffer.into_bytes())
@@ -47,8 +50,7 @@ pub fn message(alloc: Global, xid: u32, options: Vec<DhcpV4Option>) -> Result<By
 
 /// A Discover.
 pub fn discover(alloc: Global, xid: u32) -> Result<Bytes, DhcpError> {
-    let kind = DhcpV4Option::MessageType(DhcpV4MessageType::Discovery);
-    message(alloc, xid, vec![in alloc; kind]?)
+    written(alloc, &message(alloc, xid, DhcpV4MessageType::Discovery)?)
 }
 
 /// A Request for an address to the server of this address.
@@ -58,20 +60,27 @@ pub fn request(
     server: Ipv4Addr,
     address: Ipv4Addr,
 ) -> Result<Bytes, DhcpError> {
-    let kind = DhcpV4Option::MessageType(DhcpV4MessageType::Request);
-    let wanted = DhcpV4Option::RequestedIpAddress(address);
-    let named = DhcpV4Option::ServerIdentifier(server);
-    message(alloc, xid, vec![in alloc; kind, wanted, named]?)
+    let mut message = message(alloc, xid, DhcpV4MessageType::Request)?;
+    ask(&mut message.options, server, address)?;
+    written(alloc, &message)
+}
+
+// Adds the address that a Request asks for, and the server that it is for.
+fn ask(options: &mut DhcpV4Options, server: Ipv4Addr, address: Ipv4Addr) -> Result<(), DhcpError> {
+    options.insert(DhcpV4Option::RequestedIpAddress(address))?;
+    options.insert(DhcpV4Option::ServerIdentifier(server))
 }
 
 /// A Release.
 pub fn release(alloc: Global, xid: u32) -> Result<Bytes, DhcpError> {
-    let kind = DhcpV4Option::MessageType(DhcpV4MessageType::Release);
-    message(alloc, xid, vec![in alloc; kind]?)
+    written(alloc, &message(alloc, xid, DhcpV4MessageType::Release)?)
 }
 
-/// A payload in a frame to this port.
+/// A payload in a frame to this port. `Bug` if it is too long for one.
 pub fn framed(alloc: Global, port: u16, payload: Bytes) -> Result<Bytes, DhcpError> {
+    if payload.len() > MOST_PAYLOAD {
+        return Err(DhcpError::new_fixed(ErrorKind::Bug, FixedText::Unreadable));
+    }
     let frame = Frame {
         src_mac: [2, 0, 0, 0, 0, 1],
         dst_mac: BROADCAST_MAC_ADDRESS,
