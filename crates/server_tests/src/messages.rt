@@ -66,7 +66,10 @@ pub fn request(
 }
 
 // Adds the address that a Request asks for, and the server that it is for.
+#[tactic(auto, unfolding(dhcp4_msg::specs::Value::fits, dhcp4_msg::specs::Value::written_value))]
 fn ask(options: &mut DhcpV4Options, server: Ipv4Addr, address: Ipv4Addr) -> Result<(), DhcpError> {
+    let _server = server.octets();
+    let _address = address.octets();
     options.insert(DhcpV4Option::RequestedIpAddress(address))?;
     options.insert(DhcpV4Option::ServerIdentifier(server))
 }
