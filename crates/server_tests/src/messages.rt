@@ -34,6 +34,7 @@ pub fn config(count: u32) -> ServerConfig {
 }
 
 // A message of this type by the client with this transaction id.
+#[tactic(auto, unfolding(dhcp4_msg::specs::Value::fits, dhcp4_msg::specs::Value::written_value))]
 fn message(alloc: Global, xid: u32, kind: DhcpV4MessageType) -> Result<DhcpV4Message, DhcpError> {
     let mut message = DhcpV4Message::empty(alloc);
     message.xid = xid;
