@@ -7,7 +7,9 @@
 //! and writes it. Of a DHCPv6 message, `reply6` reads one, `message6` reads and writes it, `lease6`
 //! reads it and its lease, `moved6` does so and moves its options into the lease, and `solicit6`
 //! builds and writes a Solicit; `wrap6` relays a message to a server, and `along6` an answer back
-//! along a Relay-forward. Of an IPv4 client, `idle` polls one that has a lease, `foreign` one
+//! along a Relay-forward. `serve256` and `serve65536` have a DHCPv4 server answer a message, with a
+//! pool of so many addresses of which all but the last, 10.255.255.255, are bound to other clients;
+//! to fill the pool takes its time once. Of an IPv4 client, `idle` polls one that has a lease, `foreign` one
 //! whose Discover is open, each time with the frame of the line, and `life` has it live from its
 //! Discover to its release, with the frames of an Offer and of an Ack as two lines; `idle6`,
 //! `foreign6` and `life6` do so with an IPv6 client, and payloads. These print how many polls or
@@ -22,6 +24,7 @@ mod exchange;
 mod messages6;
 mod options6;
 mod relay6;
+mod server4;
 
 use crate::exchange::{foreign, idle, lives};
 use dhcp_clock::WordList;
@@ -119,6 +122,8 @@ fn count_with(
         "idle6" => Ok(idle::<DhcpV6Client>(alloc, times)?),
         "foreign" => Ok(foreign::<DhcpV4Client>(alloc, times, client4::frame(first))?),
         "foreign6" => Ok(foreign::<DhcpV6Client>(alloc, times, client6::payload(first))?),
+        "serve256" => Ok(server4::handle(alloc, 256, times, first)?),
+        "serve65536" => Ok(server4::handle(alloc, 65_536, times, first)?),
         "life" | "life6" => count_of_lives(alloc, what, times, first, rest),
         what => total_of(alloc, what, times, first),
     }

@@ -1,0 +1,10 @@
+pub mod Ack
+pub mod Answer
+pub mod Binding
+pub mod Blocks
+pub mod Config
+pub mod Decision
+pub mod Reply
+pub mod Request
+pub mod Server
+pub mod Table
