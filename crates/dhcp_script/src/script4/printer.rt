@@ -8,8 +8,9 @@ ghost use Rattle.dhcp_script.specs.Script4.{first_lines, iface_text, script4_tex
 use crate::Script4;
 use crate::codes::push_codes;
 use crate::held::push_held_lease;
-use crate::hex_text::{push_hex_line, push_octets};
+use crate::hex_text::push_hex_line;
 use crate::life::printer::{push_flag, push_life};
+use dhcp_stream::push_octets;
 use std::alloc::AllocError;
 
 /// Puts the text of a script, in version 2, at the end of a text. After an error, which is out of
