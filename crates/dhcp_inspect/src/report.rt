@@ -1,7 +1,6 @@
 //! The report on a capture file: a line for each DHCP message, and a last line.
 
-ghost use Rattle.std.specs.Prelude.{◌≡◌, ◌≤◌, ◌<◌, ◌^◌, ◌++◌, ◌↔◌, IfOk, IsSome, OnOk, Some, length, string_bytes};
-ghost use Rattle.hex.specs.Hex.{encode_lower};
+ghost use Rattle.std.specs.Prelude.{◌≡◌, ◌<◌, ◌^◌, ◌++◌, ◌↔◌, IfOk, IsSome, OnOk, Some, length, string_bytes};
 ghost use Rattle.dhcp_wire.specs.Outcome.{Makes};
 ghost use Rattle.dhcp_inspect.specs.Header.{IsCapture};
 ghost use Rattle.dhcp_inspect.specs.Report.{

@@ -3,7 +3,7 @@ use Rattle.std.specs.Prelude.{◌≡◌, ◌⊎◌, ℕ, Bool, true, false, IsTr
 use Rattle.std.specs.List.{count_by, flat_map}
 use Rattle.std.specs.Fmt.{decimal}
 use Rattle.dhcp_stream.specs.HexText.{hex_text}
-use Rattle.dhcp_stream.specs.Line.{line}
+use Rattle.dhcp_stream.specs.Line.{line, spaced}
 use Rattle.dhcp_stream.specs.Number.{address_text}
 use Rattle.dhcp_wire.specs.declared.error.ErrorKind.{ErrorKind}
 use Rattle.dhcp_wire.specs.declared.error.ErrorKind.TheVariants as kinds
@@ -23,7 +23,6 @@ use Rattle.dhcp_output.specs.declared.output.OutputWhat.TheVariants as what
 use Rattle.dhcp_output.specs.declared.output.Output.{Output}
 use Rattle.dhcp_output.specs.declared.summary.OutputKind.{OutputKind}
 use Rattle.dhcp_output.specs.declared.summary.OutputKind.TheVariants as sorts
-use Rattle.dhcp_script.specs.Field.{spaced}
 use Rattle.dhcp_script.specs.Lease4.{fields_of, lease_text}
 use Rattle.dhcp_script.specs.Lease6 as lease6
 

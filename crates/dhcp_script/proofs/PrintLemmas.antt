@@ -3,18 +3,18 @@ use Rattle.std.proofs.Common.{◌≡◌, ℕ, ◌<◌, List, [], ◌∷◌, ◌+
 use Rattle.std.specs.Prelude.{OnOk}
 use Rattle.std.specs.Fmt.{decimal}
 use Rattle.std.specs.List.{flat_map}
-use Rattle.hex.specs.Hex.{encode_lower, encode_with}
+use Rattle.hex.specs.Hex.{encode_lower}
 use Rattle.dhcp_stream.specs.HexText.{address6_text, hex_text, numbers_text}
 use Rattle.std.specs.Int.{w16}
-use Rattle.std.proofs.lemmas.List.Concat.{flat_map-append}
 use Rattle.dhcp_stream.specs.Line.{line}
 use Rattle.dhcp_stream.specs.Number.{address_text}
+use Rattle.dhcp_stream.proofs.HexTextLemmas.{encode_lower-append, encode_lower-nil}
 use Rattle.dhcp_script.specs.declared.lease4.Lease4.{Lease4}
 use Rattle.dhcp_script.specs.declared.lease6.Lease6.{Lease6}
 use Rattle.dhcp_script.specs.declared.script4.Script4.{Script4}
 use Rattle.dhcp_script.specs.declared.script6.Script6.{Script6}
 use Rattle.dhcp_script.specs.Codes.{listed_text}
-use Rattle.dhcp_script.specs.Field.{byte_digits, list_text, unless_none}
+use Rattle.dhcp_script.specs.Field.{list_text, unless_none}
 use Rattle.dhcp_script.specs.Lease4.{addresses_text, lease_text, route_text}
 use Rattle.dhcp_script.specs.Life.{life_text}
 use Rattle.dhcp_script.specs.declared.version.Version.TheVariants.{Later}
@@ -22,16 +22,10 @@ use Rattle.dhcp_script.specs.Script4.{first_lines, script4_text}
 use Rattle.dhcp_script.specs.Lease6 as lease6
 use Rattle.dhcp_script.specs.Script6 as script6
 
--- the digits of bytes, byte by byte
-pub encode_lower-digits : (bytes : List ℕ) → encode_lower bytes ≡ flat_map byte_digits bytes
-unfolding encode_with
-encode_lower-digits [] = refl
-encode_lower-digits (byte ∷ bytes) = ap (λ text. byte_digits byte ++ text) (encode_lower-digits bytes)
-
--- the same of a field that is not `-`
-pub hex_text-digits : (bytes : List ℕ) → (bytes ≡ [] → ⊥) → hex_text bytes ≡ flat_map byte_digits bytes
+-- the text of bytes, where there are some, is their digits
+pub hex_text-digits : (bytes : List ℕ) → (bytes ≡ [] → ⊥) → hex_text bytes ≡ encode_lower bytes
 hex_text-digits [] some = absurd (some refl)
-hex_text-digits (byte ∷ bytes) some = encode_lower-digits (byte ∷ bytes)
+hex_text-digits (byte ∷ bytes) some = refl
 
 -- a list, item by item
 pub list_text-items : {A : Type 0} (print : A → List ℕ) (first : A) (rest : List A) → list_text print (first ∷ rest) ≡ print first ++ flat_map (λ item. 44 ∷ print item) rest
@@ -40,9 +34,9 @@ list_text-items print first (second ∷ rest) = ap (λ text. print first ++ 44 �
 
 -- numbers, number by number
 module _ {A : Type 0} (bytes : A → List ℕ) where
-  digits_each : (numbers : List A) → flat_map byte_digits (flat_map bytes numbers) ≡ flat_map (λ number. flat_map byte_digits (bytes number)) numbers
-  digits_each [] = refl
-  digits_each (number ∷ numbers) = flat_map-append byte_digits (bytes number) (flat_map bytes numbers) ∙ ap (λ text. flat_map byte_digits (bytes number) ++ text) (digits_each numbers)
+  digits_each : (numbers : List A) → encode_lower (flat_map bytes numbers) ≡ flat_map (λ number. encode_lower (bytes number)) numbers
+  digits_each [] = encode_lower-nil
+  digits_each (number ∷ numbers) = encode_lower-append (bytes number) (flat_map bytes numbers) ∙ ap (λ text. encode_lower (bytes number) ++ text) (digits_each numbers)
 
   -- where each has some bytes
   some_bytes : ((number : A) → 0 < length (bytes number)) → (numbers : List A) → (numbers ≡ [] → ⊥) → flat_map bytes numbers ≡ [] → ⊥
@@ -54,7 +48,7 @@ module _ {A : Type 0} (bytes : A → List ℕ) where
       omega arith
 
   pub numbers-digits : ((number : A) → 0 < length (bytes number)) → (numbers : List A) → (numbers ≡ [] → ⊥)
-      → hex_text (flat_map bytes numbers) ≡ flat_map (λ number. flat_map byte_digits (bytes number)) numbers
+      → hex_text (flat_map bytes numbers) ≡ flat_map (λ number. encode_lower (bytes number)) numbers
   numbers-digits has numbers some = hex_text-digits (flat_map bytes numbers) (some_bytes has numbers some) ∙ digits_each numbers
 
 -- ---- pieces that are put at the end of a text

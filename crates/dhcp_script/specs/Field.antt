@@ -1,11 +1,6 @@
 -- The fields of a line: single spaces part them.
-use Rattle.std.specs.Prelude.{ℕ, Bool, if◌then◌else◌, List, [], ◌∷◌, map, slice_index, ◌/◌, ◌%◌, codes, Option, Some, None}
+use Rattle.std.specs.Prelude.{ℕ, Bool, if◌then◌else◌, List, [], ◌∷◌, map, codes, Option, Some, None}
 use Rattle.std.specs.List.{join_with_byte}
-use Rattle.hex.specs.Hex.{lower_digits}
-
--- fields with a space between two
-abbrev pub spaced : List (List ℕ) → List ℕ
-spaced fields = join_with_byte 32 fields
 
 -- a list with a comma between two items, or `-` where it has none
 abbrev pub list_text : {A : Type 0} → (A → List ℕ) → List A → List ℕ
@@ -24,8 +19,3 @@ unless_none field value = or_word (codes "none") field value
 -- one word or another
 abbrev pub flag_text : List ℕ → List ℕ → Bool → List ℕ
 flag_text set unset flag = if flag then set else unset
-
--- the two hex digits of a byte
-abbrev pub byte_digits : ℕ → List ℕ
-byte_digits byte =
-    slice_index lower_digits (byte / 16) ∷ slice_index lower_digits (byte % 16) ∷ []

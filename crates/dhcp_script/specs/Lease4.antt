@@ -4,13 +4,14 @@ use Rattle.std.specs.Fmt.{decimal}
 use Rattle.std.specs.Net.Addr.{IsIpv4Addr}
 use Rattle.std.specs.declared.net.Ipv4Addr.{Ipv4Addr}
 use Rattle.dhcp_stream.specs.HexText.{IsText, hex_text}
+use Rattle.dhcp_stream.specs.Line.{spaced}
 use Rattle.dhcp_stream.specs.Number.{address_text}
 use Rattle.dhcp4_msg.specs.declared.route.DhcpV4ClasslessRoute.{DhcpV4ClasslessRoute}
 use Rattle.dhcp4_lease.specs.Lease.{Lease, empty_lease}
 use Rattle.dhcp_script.specs.declared.lease4.Lease4.{Lease4}
 use Rattle.dhcp_script.specs.declared.version.Version.{Version}
 use Rattle.dhcp_script.specs.declared.version.Version.TheVariants.{One, Later}
-use Rattle.dhcp_script.specs.Field.{list_text, spaced, unless_none}
+use Rattle.dhcp_script.specs.Field.{list_text, unless_none}
 
 -- whether a lease is not rebound before it is renewed, and does not end before it is rebound
 abbrev pub are_times_in_order : Lease4 → Bool

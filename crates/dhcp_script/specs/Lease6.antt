@@ -4,6 +4,7 @@ use Rattle.std.specs.Fmt.{decimal}
 use Rattle.std.specs.Net.Addr.{IsIpv6Addr}
 use Rattle.hex.specs.Hex.{IsBytes}
 use Rattle.dhcp_stream.specs.HexText.{address6_text, hex_text}
+use Rattle.dhcp_stream.specs.Line.{spaced}
 use Rattle.dhcp6_opt.specs.Duid.{written_duid}
 use Rattle.dhcp6_msg.specs.declared.mode.DhcpV6IaType.{DhcpV6IaType}
 use Rattle.dhcp6_msg.specs.declared.mode.DhcpV6IaType.TheVariants.{NonTemporaryAddresses, TemporaryAddresses, PrefixDelegation}
@@ -12,7 +13,6 @@ use Rattle.dhcp_script.specs.declared.lease6.Lease6.{Lease6}
 use Rattle.dhcp_script.specs.declared.version.Version.{Version}
 use Rattle.dhcp_script.specs.declared.version.Version.TheVariants.{One, Later}
 use Rattle.dhcp_script.specs.Duid.{duid_of, is_script_duid}
-use Rattle.dhcp_script.specs.Field.{spaced}
 
 -- whether a lease is not rebound before it is renewed, does not end before it is rebound, and is
 -- not preferred after its end

@@ -5,12 +5,12 @@ use Rattle.std.specs.List.{flat_map}
 use Rattle.std.specs.Fmt.{decimal}
 use Rattle.hex.specs.Hex.{IsBytes}
 use Rattle.dhcp_stream.specs.HexText.{AreWords, hex_text, words_text}
-use Rattle.dhcp_stream.specs.Line.{line}
+use Rattle.dhcp_stream.specs.Line.{line, spaced}
 use Rattle.dhcp_script.specs.declared.event.Event.{Event}
 use Rattle.dhcp_script.specs.declared.event.EventWhat.{EventWhat}
 use Rattle.dhcp_script.specs.declared.event.EventWhat.TheVariants.{Nothing, Frame, Payload, Release, CleanUp}
 use Rattle.dhcp_script.specs.Event.{packet_of}
-use Rattle.dhcp_script.specs.Field.{flag_text, spaced}
+use Rattle.dhcp_script.specs.Field.{flag_text}
 
 -- what happens
 abbrev pub what_text : EventWhat → List ℕ

@@ -5,7 +5,7 @@ use Rattle.std.specs.Str.{is_utf8}
 use Rattle.std.specs.Fmt.{decimal}
 use Rattle.hex.specs.Hex.{IsBytes, encode_lower}
 use Rattle.dhcp_stream.specs.HexText.{IsMac, hex_text}
-use Rattle.dhcp_stream.specs.Line.{line}
+use Rattle.dhcp_stream.specs.Line.{line, spaced}
 use Rattle.dhcp4_msg.specs.declared.option_code.DhcpV4OptionCode.{DhcpV4OptionCode}
 use Rattle.dhcp4_lease.specs.declared.message_forms.DhcpV4MessageForms.{DhcpV4MessageForms}
 use Rattle.dhcp4_lease.specs.declared.message_forms.DhcpV4MessageForms.TheVariants.{Mozim, Rfc2131}
@@ -16,7 +16,7 @@ use Rattle.dhcp_script.specs.declared.script4.Script4.{Script4}
 use Rattle.dhcp_script.specs.Codes as lists
 use Rattle.dhcp_script.specs.Codes.{listed_text}
 use Rattle.dhcp_script.specs.Event.{are_valid}
-use Rattle.dhcp_script.specs.Field.{flag_text, spaced, unless_none}
+use Rattle.dhcp_script.specs.Field.{flag_text, unless_none}
 use Rattle.dhcp_script.specs.declared.version.Version.{Version}
 use Rattle.dhcp_script.specs.declared.version.Version.TheVariants.{Later, One}
 use Rattle.dhcp_script.specs.Lease4.{are_times_in_order, versioned_lease_text, HasLeaseText}

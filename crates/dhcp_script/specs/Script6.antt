@@ -5,7 +5,7 @@ use Rattle.std.specs.Int.{w16}
 use Rattle.std.specs.Net.Addr.{IsIpv6Addr}
 use Rattle.hex.specs.Hex.{IsBytes, encode_lower}
 use Rattle.dhcp_stream.specs.HexText.{AreOfWidth, IsMac, address6_text, hex_text, numbers_text}
-use Rattle.dhcp_stream.specs.Line.{line}
+use Rattle.dhcp_stream.specs.Line.{line, spaced}
 use Rattle.dhcp6_msg.specs.declared.mode.DhcpV6Mode.{DhcpV6Mode}
 use Rattle.dhcp6_msg.specs.declared.mode.DhcpV6Mode.TheVariants.{NonTemporaryAddresses, TemporaryAddresses, PrefixDelegation}
 use Rattle.dhcp6_msg.specs.Config as configs
@@ -17,7 +17,7 @@ use Rattle.dhcp_script.specs.declared.version.Version.{Version}
 use Rattle.dhcp_script.specs.Codes.{are_few, listed_text, request_list}
 use Rattle.dhcp_script.specs.Duid.{duid_of, is_duid_or_none}
 use Rattle.dhcp_script.specs.Event.{are_valid}
-use Rattle.dhcp_script.specs.Field.{or_word, spaced, unless_none}
+use Rattle.dhcp_script.specs.Field.{or_word, unless_none}
 use Rattle.dhcp_script.specs.Lease6.{is_within_limits, versioned_lease_text, HasLeaseText}
 use Rattle.dhcp_script.specs.Life.{IsLife, life_text}
 use Rattle.dhcp_script.specs.Version.{first_line6}

@@ -14,10 +14,10 @@ ghost use Rattle.dhcp_stream.specs.TextReader.{
 ghost use Rattle.dhcp_script.specs.FieldReader.{flag_in, items_in};
 ghost use Rattle.dhcp_script.specs.Lease6Reader.{ia_type_in};
 
-use crate::hex_text::{push_hex, push_octets};
+use crate::hex_text::push_hex;
 use dhcp_stream::{
     ReadError, TextReader, codes_field, cut_field, found, hex_field, ipv4_field, ipv6_field,
-    number_field,
+    number_field, push_octets,
 };
 use dhcp_wire::{Bytes, Sequence, Text};
 use dhcp4_msg::DhcpV4ClasslessRoute;

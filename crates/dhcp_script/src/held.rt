@@ -50,8 +50,8 @@ fn read_held_lease<L: HeldLease>(
     Ok(Some(L::read(alloc, version, text)?))
 }
 
-/// Reads the line of a lease, and then the lines from `words` to `end`. `Malformed` only if the text
-/// does not go on with them; out of memory is the only other error.
+/// Reads the line of a lease, and then the lines from `words` to `end`. `Malformed` only if the
+/// text does not go on with them; out of memory is the only other error.
 pub fn read_lease_and_life<L: HeldLease>(
     alloc: Global,
     version: Version,

@@ -1,17 +1,14 @@
-//! Hex in lower case, two digits for each byte, put at the end of a text. Out of memory is the only
-//! error; a part of the digits may then be there.
+//! Bytes and numbers in lower-case hex, put at the end of a text. Out of memory is the only error;
+//! a part of the digits may then be there.
 
-ghost use Rattle.std.specs.Prelude.{◌≡◌, ◌<◌, ◌++◌, ◌∷◌, [], OnOk, slice_index, string_bytes};
-ghost use Rattle.hex.specs.Hex.{encode_lower, lower_digits};
+ghost use Rattle.std.specs.Prelude.{◌≡◌, ◌++◌, OnOk, string_bytes};
+ghost use Rattle.hex.specs.Hex.{encode_lower};
 ghost use Rattle.std.specs.List.{flat_map};
-ghost use Rattle.dhcp_script.specs.Field.{byte_digits};
 ghost use Rattle.dhcp_stream.specs.HexText.{hex_text};
 ghost use Rattle.dhcp_stream.specs.Line.{line};
 
+use dhcp_stream::push_octets;
 use std::alloc::AllocError;
-
-// The digits of the numbers from 0 to 15.
-const DIGITS: &[u8; 16] = b"0123456789abcdef";
 
 /// Puts bytes in hex at the end of a text, or `-` for none.
 pub fn push_hex(text: &mut String, bytes: &[u8]) -> Result<(), AllocError>
@@ -20,7 +17,7 @@ pub fn push_hex(text: &mut String, bytes: &[u8]) -> Result<(), AllocError>
     if bytes.is_empty() {
         text.push('-')
     } else {
-        push_digits(text, bytes)
+        push_octets(text, bytes)
     }
 }
 
@@ -34,19 +31,10 @@ pub fn push_hex_line(text: &mut String, tag: &str, bytes: &[u8]) -> Result<(), A
     text.push('\n')
 }
 
-/// Puts octets in hex, such as those of an address, at the end of a text; nothing for none.
-pub fn push_octets(text: &mut String, octets: &[u8]) -> Result<(), AllocError>
-    ensures { OnOk result (string_bytes text.new
-        ≡ string_bytes text.old ++ encode_lower octets.now) }
-{
-    push_digits(text, octets)
-}
-
 /// A number that is printed as its bytes in hex.
 pub trait HexNumber: Copy + Drop {
     ghost use Rattle.std.specs.Prelude.{◌≡◌, ◌<◌, ◌++◌, ℕ, List, OnOk, length, string_bytes};
-    ghost use Rattle.std.specs.List.{flat_map};
-    ghost use Rattle.dhcp_script.specs.Field.{byte_digits};
+    ghost use Rattle.hex.specs.Hex.{encode_lower};
 
     /// Its bytes, the most significant one first.
     ghost bytes: { Self → List ℕ };
@@ -54,7 +42,7 @@ pub trait HexNumber: Copy + Drop {
     /// Puts the digits of its bytes at the end of a text.
     fn push_to(self, text: &mut String) -> Result<(), AllocError>
         ensures { OnOk result (string_bytes text.new
-            ≡ string_bytes text.old ++ flat_map byte_digits (bytes self)) };
+            ≡ string_bytes text.old ++ encode_lower (bytes self)) };
 
     /// It has at least one byte.
     ghost is_some: { (number : Self) → 0 < length (bytes number) };
@@ -68,7 +56,7 @@ impl HexNumber for u32 {
     ghost bytes = { to_be_bytes w32 };
 
     fn push_to(self, text: &mut String) -> Result<(), AllocError> {
-        push_digits(text, &self.to_be_bytes())
+        push_octets(text, &self.to_be_bytes())
     }
 
     ghost is_some = { λ number. lit< tt };
@@ -82,7 +70,7 @@ impl HexNumber for u16 {
     ghost bytes = { to_be_bytes w16 };
 
     fn push_to(self, text: &mut String) -> Result<(), AllocError> {
-        push_digits(text, &self.to_be_bytes())
+        push_octets(text, &self.to_be_bytes())
     }
 
     ghost is_some = { λ number. lit< tt };
@@ -103,40 +91,10 @@ pub fn push_numbers<N: HexNumber>(text: &mut String, numbers: &[N]) -> Result<()
 // Puts the digits of numbers at the end of a text, number by number.
 fn push_each<N: HexNumber>(text: &mut String, numbers: &[N]) -> Result<(), AllocError>
     ensures { OnOk result (string_bytes text.new ≡ string_bytes text.old
-        ++ flat_map (λ number. flat_map byte_digits (N.bytes number)) numbers.now) }
+        ++ flat_map (λ number. encode_lower (N.bytes number)) numbers.now) }
 {
     for number in numbers {
         (*number).push_to(text)?;
     }
     Ok(())
-}
-
-/// Puts two hex digits for each byte at the end of a text; nothing for none.
-pub fn push_digits(text: &mut String, bytes: &[u8]) -> Result<(), AllocError>
-    ensures { OnOk result
-        (string_bytes text.new ≡ string_bytes text.old ++ flat_map byte_digits bytes.now) }
-{
-    for byte in bytes {
-        push_byte(text, *byte)?;
-    }
-    Ok(())
-}
-
-// Puts the two hex digits of a byte at the end of a text.
-fn push_byte(text: &mut String, byte: u8) -> Result<(), AllocError>
-    ensures { OnOk result
-        (string_bytes text.new ≡ string_bytes text.old ++ byte_digits byte) }
-{
-    push_digit(text, byte / 16)?;
-    push_digit(text, byte % 16)
-}
-
-// Puts the hex digit of a number below 16 at the end of a text.
-fn push_digit(text: &mut String, number: u8) -> Result<(), AllocError>
-    requires { number < 16 }
-    ensures { OnOk result
-        (string_bytes text.new
-        ≡ string_bytes text.old ++ slice_index lower_digits number ∷ []) }
-{
-    text.push(char::from(DIGITS[usize::from(number)]))
 }

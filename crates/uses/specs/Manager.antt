@@ -99,8 +99,8 @@ module _ {PublicState State Exchange Answer Lease Source Link : Type 0}
 
   module _ {Interface : Type 0} (follows : Reported → Interface → Interface → Type 0) (now : ℕ)
     where
-      -- So many polls at a moment report a state each, which the interface follows, and further ones
-      -- return these changes: all of them, in this order, are polls that follow one another.
+      -- So many polls at a moment report a state each, which the interface follows, and further
+      -- ones return these changes: all of them, in this order, are polls that follow one another.
       pub record Follows (further : List (Option PublicState)) (count : ℕ)
           (old : Linked State Exchange Source Link) (before : Interface)
           (new : Linked State Exchange Source Link) (after : Interface) : Type 0 where

@@ -26,11 +26,13 @@ pub fn ask_for_prefix(
     ensures error { IfErr result (λ e. (e ≡ no_memory) × (options.new ≡ options.old)) }
 {
     let option = DhcpV6Option::IAPD(DhcpV6OptionIaPd::new_with_hint(prefix_len, iaid));
-    if !option.fits() {
-        return Ok(false);
+    match Some(option).filter(DhcpV6Option::fits) {
+        Some(option) => {
+            options.insert(option)?;
+            Ok(true)
+        }
+        None => Ok(false),
     }
-    options.insert(option)?;
-    Ok(true)
 }
 
 /// What a server says of the whole message: the code of its first status option.

@@ -50,8 +50,8 @@ pub fn keep_turn<W: Words, L: DhcpLink>(
     next
 }
 
-/// The address that may be used at a moment, in milliseconds: that of the lease that is held, before
-/// the end of that. A client that keeps an error may hold a lease that has ended.
+/// The address that may be used at a moment, in milliseconds: that of the lease that is held,
+/// before the end of that. A client that keeps an error may hold a lease that has ended.
 pub fn address_in_use(client: &DhcpV4Client, now: u64) -> Option<Ipv4Addr>
     ensures { IfSome result (λ address. IsInUse now address client.now) }
 {

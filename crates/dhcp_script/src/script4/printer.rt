@@ -9,8 +9,9 @@ ghost use Rattle.dhcp_script.specs.Version.{family4, number4};
 use crate::Script4;
 use crate::codes::push_codes;
 use crate::held::push_held_lease;
-use crate::hex_text::{push_hex_line, push_octets};
+use crate::hex_text::push_hex_line;
 use crate::life::printer::{push_flag, push_life};
+use dhcp_stream::push_octets;
 use dhcp4_lease::DhcpV4MessageForms;
 use std::alloc::AllocError;
 

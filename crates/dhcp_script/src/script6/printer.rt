@@ -15,8 +15,9 @@ ghost use Rattle.dhcp_script.specs.Script6.{
 use crate::Script6;
 use crate::codes::push_codes;
 use crate::held::push_held_lease;
-use crate::hex_text::{push_hex_line, push_octets};
+use crate::hex_text::push_hex_line;
 use crate::life::printer::push_life;
+use dhcp_stream::push_octets;
 use dhcp6_msg::DhcpV6Mode;
 use std::alloc::AllocError;
 

@@ -6,4 +6,4 @@ use Rattle.dhcp_script.proofs.hex_text.push_hex.Goals as goal
 pub returns-else-is_empty : goal.returns-else-is_empty
 returns-else-is_empty c =
     let some : c.args.bytes.now ≡ [] → ⊥ = λ e. grind (arith, common_steps) in
-    rw (hex_text-digits c.args.bytes.now some) c.push_digits.ensures
+    rw (hex_text-digits c.args.bytes.now some) c.push_octets.ensures
