@@ -11,6 +11,5 @@ pub mod RequestLemmas
 pub mod RisingLemmas
 pub mod SettlesLemmas
 pub mod TextLemmas
-pub mod ToolLemmas
 pub mod Valid4Lemmas
 pub mod Valid6Lemmas
