@@ -1,1 +1,2 @@
+pub mod Info
 pub mod Output

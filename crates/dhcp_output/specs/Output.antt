@@ -15,9 +15,12 @@ use Rattle.dhcp4_client.specs.declared.state.PlainState.TheVariants as v4
 use Rattle.dhcp6_client.specs.State as states6
 use Rattle.dhcp6_client.specs.declared.state.PlainState as plain6
 use Rattle.dhcp6_client.specs.declared.state.PlainState.TheVariants as v6
+use Rattle.dhcp6_info.specs.State as info
+use Rattle.dhcp6_info.specs.declared.state.PlainInfoState.{PlainInfoState}
 use Rattle.dhcp6_msg.specs.declared.mode.DhcpV6IaType.TheVariants.{NonTemporaryAddresses}
 use Rattle.dhcp6_msg.specs.Lease.{is_typed}
-use Rattle.dhcp_output.specs.declared.output.Reported.TheVariants.{V4, V6}
+use Rattle.dhcp_output.specs.Info as infos
+use Rattle.dhcp_output.specs.declared.output.Reported.TheVariants.{V4, V6, Info}
 use Rattle.dhcp_output.specs.declared.output.OutputWhat.{OutputWhat}
 use Rattle.dhcp_output.specs.declared.output.OutputWhat.TheVariants as what
 use Rattle.dhcp_output.specs.declared.output.Output.{Output}
@@ -31,6 +34,7 @@ pub data PlainReport : Type 0 where
   handed refused : Handed → PlainReport
   changed_v4 : PlainState → PlainReport
   changed_v6 : plain6.PlainState → PlainReport
+  changed_info : PlainInfoState → PlainReport
   failed : ErrorKind → PlainReport
 
 -- the plain contents of an output
@@ -44,6 +48,7 @@ plain_report (what.Handed message) = handed message
 plain_report (what.Refused message) = refused message
 plain_report (what.Changed (V4 state)) = changed_v4 (plain_state state)
 plain_report (what.Changed (V6 state)) = changed_v6 (states6.plain_state state)
+plain_report (what.Changed (Info state)) = changed_info (info.plain_state state)
 plain_report (what.Failed kind) = failed kind
 
 -- what an output holds
@@ -66,6 +71,7 @@ HasReportText (what.Handed message) = Unit {0}
 HasReportText (what.Refused message) = Unit {0}
 HasReportText (what.Changed (V4 state)) = Unit {0}
 HasReportText (what.Changed (V6 state)) = HasStateText6 (states6.plain_state state)
+HasReportText (what.Changed (Info state)) = Unit {0}
 
 -- an output that has a text
 abbrev pub HasFailureText : Output → Type 0
@@ -107,6 +113,7 @@ report_text (handed message) = codes "handed " ++ message_text message
 report_text (refused message) = codes "refused " ++ message_text message
 report_text (changed_v4 state) = codes "state " ++ state4_text state
 report_text (changed_v6 state) = codes "state " ++ state6_text state
+report_text (changed_info state) = codes "state " ++ infos.state_text state
 report_text (failed kind) = codes "failed " ++ failure_text kind
 
 -- the line of an output
@@ -123,6 +130,7 @@ is_of sorts.Handed (handed message) = true
 is_of sorts.Refused (refused message) = true
 is_of sorts.Changed (changed_v4 state) = true
 is_of sorts.Changed (changed_v6 state) = true
+is_of sorts.Changed (changed_info state) = true
 is_of sorts.Failed (failed why) = true
 is_of _ _ = false
 

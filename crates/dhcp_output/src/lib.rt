@@ -1,6 +1,7 @@
 //! What is reported of a client over the events of a script: its type, its text, and its summary.
 #![tactic(auto)]
 
+mod info;
 mod output;
 mod printer;
 mod summary;

@@ -4,14 +4,17 @@ use dhcp_clock::Handed;
 use dhcp_wire::ErrorKind;
 use dhcp4_client::DhcpV4State;
 use dhcp6_client::DhcpV6State;
+use dhcp6_info::DhcpV6InfoState;
 
-/// The state of a client of either family.
+/// The state of a client: of one of either family, or of one for configuration alone.
 #[derive(Debug, PartialEq, Drop)]
 pub enum Reported {
     /// The state of an IPv4 client.
     V4(DhcpV4State),
     /// The state of an IPv6 client.
     V6(DhcpV6State),
+    /// The state of an IPv6 client for configuration alone.
+    Info(DhcpV6InfoState),
 }
 
 /// What is reported at an event: a message, a state or a failure.

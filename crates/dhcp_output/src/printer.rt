@@ -18,6 +18,7 @@ ghost use Rattle.dhcp_output.specs.Output.{
   state6_text,
 };
 
+use crate::info::push_info_state;
 use crate::{Output, OutputWhat, Reported};
 use dhcp_clock::Handed;
 use dhcp_script::{push_hex, push_lease4, push_lease6};
@@ -93,6 +94,10 @@ fn push_report(alloc: Global, text: &mut String, what: &OutputWhat) -> Result<()
         OutputWhat::Changed(Reported::V6(state)) => {
             text.push_str("state ")?;
             push_state6(alloc, text, state)
+        }
+        OutputWhat::Changed(Reported::Info(state)) => {
+            text.push_str("state ")?;
+            push_info_state(alloc, text, state)
         }
         OutputWhat::Failed(kind) => {
             text.push_str("failed ")?;

@@ -11,7 +11,6 @@ pub mod RequestLemmas
 pub mod RisingLemmas
 pub mod SettlesLemmas
 pub mod TextLemmas
-pub mod ToolLemmas
 pub mod Valid4Lemmas
 pub mod Valid6Lemmas
 pub mod OrderLemmas

@@ -31,11 +31,12 @@ use Rattle.dhcp6_client.specs.declared.state.PlainState as states6
 use Rattle.dhcp6_client.specs.declared.client_state.ClientState.{ClientState}
 use Rattle.dhcp6_client.specs.declared.client_state.ClientState.TheVariants.{Solicit, Request, Done, Temporary, Renew, Rebind}
 use Rattle.dhcp6_client.specs.declared.client_state.Exchange.{Exchange}
-use Rattle.dhcp_output.specs.Output.{HasFailureText, HasReportText, HasStateText6, PlainOutput, PlainReport, changed_v4, changed_v6, failed, handed, refused, plain_output, plain_report}
+use Rattle.dhcp6_info.specs.declared.state.PlainInfoState.{PlainInfoState}
+use Rattle.dhcp_output.specs.Output.{HasFailureText, HasReportText, HasStateText6, PlainOutput, PlainReport, changed_info, changed_v4, changed_v6, failed, handed, refused, plain_output, plain_report}
 use Rattle.dhcp_output.specs.declared.output.Output.{Output}
 use Rattle.dhcp_output.specs.declared.output.OutputWhat.{OutputWhat}
 use Rattle.dhcp_output.specs.declared.output.OutputWhat.TheVariants as what
-use Rattle.dhcp_output.specs.declared.output.Reported.TheVariants.{V4, V6}
+use Rattle.dhcp_output.specs.declared.output.Reported.TheVariants.{V4, V6, Info}
 use Rattle.dhcp_replay.specs.Life.{output_of, report_of}
 use Rattle.dhcp_replay.proofs.ChangeLemmas.{AllSaid, SaysReport, events_said, said_of_each}
 
@@ -45,6 +46,7 @@ HasPlainText (handed message) = Unit {0}
 HasPlainText (refused message) = Unit {0}
 HasPlainText (changed_v4 state) = Unit {0}
 HasPlainText (changed_v6 state) = HasStateText6 state
+HasPlainText (changed_info state) = Unit {0}
 HasPlainText (failed kind) = (kind ≡ Timeout) ⊎ (kind ≡ IoError)
 
 abbrev AllPlain : List PlainOutput → Type 0
@@ -55,6 +57,7 @@ has_text (what.Handed message) h = tt
 has_text (what.Refused message) h = tt
 has_text (what.Changed (V4 state)) h = tt
 has_text (what.Changed (V6 state)) h = h
+has_text (what.Changed (Info state)) h = tt
 has_text (what.Failed kind) h = h
 
 have_texts : (outputs : List Output) → AllPlain (map plain_output outputs) → All HasFailureText outputs
@@ -82,6 +85,12 @@ pub texts4 : (outputs : List Output) (items : List (LifeOutput states4.PlainStat
 texts4 outputs items is =
     let Says : states4.PlainState → Type 0 = λ state. Unit {0} in
     reported_texts changed_v4 Says (λ state said. tt) outputs items is (said_of_each Says (λ state. tt) items)
+
+-- of a client for configuration alone
+pub texts_info : (outputs : List Output) (items : List (LifeOutput PlainInfoState Handed)) → map plain_output outputs ≡ map (output_of changed_info) items → All HasFailureText outputs
+texts_info outputs items is =
+    let Says : PlainInfoState → Type 0 = λ state. Unit {0} in
+    reported_texts changed_info Says (λ state said. tt) outputs items is (said_of_each Says (λ state. tt) items)
 
 -- a message that concerns an attempt is read from the payload of its packet
 message_read : (kind : Option DhcpV6MessageType) (xid : ℕ) (packet : Packet) (message : DhcpV6Message) → message_for kind xid packet ≡ Some message → (payload : List ℕ) × (read_message payload ≡ Some message)

@@ -25,7 +25,7 @@ use Rattle.dhcp_replay.proofs.DuidLemmas.{length-duid, no_duid}
 use Rattle.dhcp_replay.proofs.RisingLemmas.{rising_few}
 
 -- so many options are asked for at most
-request_list_few : (codes : Option (List ℕ)) (mode : _) → are_few most_codes codes ≡ true → length (request_list rising_codes codes (configs.config_of [] mode).request_opts) ≤ most_codes
+pub request_list_few : (codes : Option (List ℕ)) (mode : _) → are_few most_codes codes ≡ true → length (request_list rising_codes codes (configs.config_of [] mode).request_opts) ≤ most_codes
 unfolding configs.config_of
 request_list_few None mode few = omega arith
 request_list_few (Some listed) mode few = omega (arith, rising_few code_of listed, leb-true (length listed) most_codes few)
@@ -89,15 +89,15 @@ lease_fits None valid = refl
 lease_fits (Some lease) valid = duid_kept lease.srv_duid (and_parts (are_times_in_order lease && not (is_unspecified lease.address)) (is_script_duid lease.srv_duid) valid).1
 
 -- the parts of the test of a script
-record ValidParts (script : Script6) : Type 0 where
-  index : not (script.iface_index == 0) ≡ true
-  address : not (is_unspecified script.src_ip) ≡ true
-  duid : is_duid_or_none script.duid ≡ true
-  codes : are_few most_codes script.codes ≡ true
-  lease : is_lease_valid script.lease ≡ true
-  events : are_valid script.start script.events ≡ true
+pub record ValidParts (script : Script6) : Type 0 where
+  pub index : not (script.iface_index == 0) ≡ true
+  pub address : not (is_unspecified script.src_ip) ≡ true
+  pub duid : is_duid_or_none script.duid ≡ true
+  pub codes : are_few most_codes script.codes ≡ true
+  pub lease : is_lease_valid script.lease ≡ true
+  pub events : are_valid script.start script.events ≡ true
 
-parts : (script : Script6) → is_valid script ≡ true → ValidParts script
+pub parts : (script : Script6) → is_valid script ≡ true → ValidParts script
 unfolding is_valid
 parts script valid =
     let lease = and_parts (not (script.iface_index == 0) && not (is_unspecified script.src_ip) && is_duid_or_none script.duid && are_few most_codes script.codes && is_lease_valid script.lease) (are_valid script.start script.events) valid in
@@ -122,7 +122,7 @@ config_fits script valid =
     (duid_or_none_kept script.duid valid.duid) (le-leb (length (request_list rising_codes script.codes (configs.config_of [] script.mode).request_opts)) most_codes (request_list_few script.codes script.mode valid.codes))
 
 -- it has an interface, an address and an identifier
-config_named : (script : Script6) → ValidParts script →
+pub config_named : (script : Script6) → ValidParts script →
     (not ((config_of script).iface_index == 0) && not (is_unspecified (config_of script).src_ip) && (is_no_duid (config_of script).duid || leases.is_duid (config_of script).duid)) ≡ true
 unfolding config_of
 config_named script valid =

@@ -1,4 +1,4 @@
--- What the lives of the clients of both families share: the events that come to a client, and what
+-- What the lives of all clients share: the events that come to a client, and what
 -- is reported of it.
 use Rattle.std.specs.Prelude.{◌≡◌, ℕ, suc, ◌≤◌, ◌<◌, ◌^◌, Bool, true, false, List, [], ◌∷◌, length, map, All, Option, Some, IfSome, Result, Ok, Err}
 use Rattle.dhcp_wire.specs.Error.{ErrorParts, no_memory}

@@ -1,10 +1,8 @@
 -- What the program of scripts answers: for `run`, for `upgrade` and for `demo`.
-use Rattle.std.specs.Prelude.{◌≡◌, ℕ, true, false, List, length, Result, Ok, Err}
+use Rattle.std.specs.Prelude.{ℕ, true, List, length}
 use Rattle.dhcp_tool.specs.Ends.{EndsJob, Moved}
 use Rattle.dhcp_tool.specs.Job.{Job, Reads, Prints}
 use Rattle.dhcp_tool.specs.Texts.{Texts}
-use Rattle.dhcp_tool.specs.declared.status.Status.{Status}
-use Rattle.dhcp_tool.specs.declared.status.Status.TheVariants.{Done, WrongWords, NoScript, ReadFault, WriteFault, NoMemory, TooLong, Invalid}
 use Rattle.dhcp_output.specs.Output.{outputs_text, summary_text}
 use Rattle.dhcp_script.specs.Demo.{demo_script}
 use Rattle.dhcp_script.specs.Script.{IsScript, IsScriptV1, is_valid, script_text, script_text_v1}
@@ -54,16 +52,3 @@ job_of (Demo rounds) = Prints (demo_summary rounds)
 -- what each status says of a request
 abbrev pub Ends : Request → ℕ → Moved → Type 0
 Ends request status moved = EndsJob (job_of request) status moved
-
--- what the program makes of a script: the text to print, or the status
-abbrev pub AnswersScript : Result (List ℕ) Status → Script → Type 0
-AnswersScript (Ok text) script =
-    (is_valid script ≡ true) × (text ≡ printed script) × KeepsPromisesOf script
-AnswersScript (Err Invalid) script = is_valid script ≡ false
-AnswersScript (Err NoMemory) script = Unit {0}
-AnswersScript (Err Done) script = ⊥
-AnswersScript (Err WrongWords) script = ⊥
-AnswersScript (Err NoScript) script = ⊥
-AnswersScript (Err ReadFault) script = ⊥
-AnswersScript (Err WriteFault) script = ⊥
-AnswersScript (Err TooLong) script = ⊥

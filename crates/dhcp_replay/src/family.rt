@@ -1,4 +1,4 @@
-//! A client of either family, as a replay sees it: it plays events, whatever its protocol is.
+//! A client of any protocol, as a replay sees it: it plays events, whatever its protocol is.
 
 ghost use Rattle.std.specs.Prelude.{◌≡◌, IfErr, IfOk, Ok, map};
 ghost use Rattle.dhcp_wire.specs.Error.{no_memory};
@@ -12,6 +12,7 @@ use dhcp_script::Event;
 use dhcp_wire::{DhcpError, Sequence};
 use dhcp4_client::{DhcpV4Client, DhcpV4State};
 use dhcp6_client::{DhcpV6Client, DhcpV6State};
+use dhcp6_info::{DhcpV6InfoClient, DhcpV6InfoState};
 use std::alloc::Global;
 
 /// A client that plays events.
@@ -104,6 +105,39 @@ impl FamilyClient for DhcpV6Client {
     ghost Answer = { leases.Lease };
 
     ghost Lease = { leases.Lease };
+
+    ghost parts = { λ client. client };
+
+    ghost protocol = { rules.protocol };
+
+    fn play<W: Words>(
+        &mut self,
+        words: &mut W,
+        events: Vec<dhcp_history::Event<Packet>>,
+    ) -> Result<Vec<dhcp_history::Output<Self::Reported, Handed>>, DhcpError> {
+        self.replay(words, events)
+    }
+}
+
+impl FamilyClient for DhcpV6InfoClient {
+    ghost use Rattle.dhcp6_msg.specs.Config as configs;
+    ghost use Rattle.dhcp6_info.specs.Rules as rules;
+    ghost use Rattle.dhcp6_info.specs.declared.client_state.ClientState as states;
+    ghost use Rattle.dhcp6_info.specs.declared.client_state.Exchange as exchanges;
+    ghost use Rattle.dhcp6_info.specs.declared.client_state.NoLease as leases;
+    ghost use Rattle.dhcp6_info.specs.declared.info.DhcpV6Info as infos;
+
+    type Reported = dhcp_history::Reported<DhcpV6InfoState>;
+
+    ghost Config = { configs.Config };
+
+    ghost State = { states.ClientState };
+
+    ghost Exchange = { exchanges.Exchange };
+
+    ghost Answer = { infos.DhcpV6Info };
+
+    ghost Lease = { leases.NoLease };
 
     ghost parts = { λ client. client };
 

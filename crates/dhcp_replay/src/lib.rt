@@ -23,6 +23,8 @@ pub use dhcp_stream::{
     write_whole,
 };
 pub use dhcp_tool::{Status, status_without_words};
+pub use family::{FamilyClient, boxed, play};
+pub use life::FamilyState;
 pub use replayed::{Replayed, replay};
 pub use replayed4::{Replayed4, replay4};
 pub use replayed6::{Replayed6, replay6};

@@ -1,4 +1,4 @@
-//! What the lives of the clients of both families share: the events that come to a client, and the
+//! What the lives of all clients share: the events that come to a client, and the
 //! outputs of what it reports.
 
 ghost use Rattle.std.specs.Prelude.{◌≡◌, ◌≤◌, IfOk, length, map};
@@ -12,9 +12,10 @@ use dhcp_script::{Event, EventWhat};
 use dhcp_wire::{Bytes, ErrorKind, Sequence};
 use dhcp4_client::DhcpV4State;
 use dhcp6_client::DhcpV6State;
+use dhcp6_info::DhcpV6InfoState;
 use std::alloc::{AllocError, Global};
 
-/// A state as the client of one family reports it.
+/// A state as a client of one protocol reports it.
 pub trait FamilyState: Drop {
     ghost use Rattle.std.specs.Prelude.{◌≡◌};
     ghost use Rattle.dhcp_output.specs.Output.{PlainReport, plain_report};
@@ -23,7 +24,7 @@ pub trait FamilyState: Drop {
     /// What is reported of a client that comes to it.
     ghost changed: { Self → PlainReport };
 
-    /// The state, by its family.
+    /// The state, by its protocol.
     fn into_reported(self) -> Reported
         ensures { plain_report (Changed result) ≡ changed self };
 }
@@ -45,6 +46,16 @@ impl FamilyState for dhcp_history::Reported<DhcpV6State> {
 
     fn into_reported(self) -> Reported {
         Reported::V6(self.into_state())
+    }
+}
+
+impl FamilyState for dhcp_history::Reported<DhcpV6InfoState> {
+    ghost use Rattle.dhcp_output.specs.Output.{changed_info};
+
+    ghost changed = { changed_info };
+
+    fn into_reported(self) -> Reported {
+        Reported::Info(self.into_state())
     }
 }
 

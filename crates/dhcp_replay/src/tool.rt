@@ -7,7 +7,7 @@ ghost use Rattle.dhcp_wire.specs.Fault.{Rose};
 ghost use Rattle.dhcp_stream.specs.Stream.{behind};
 ghost use Rattle.dhcp_stream.specs.Whole.{most_bytes};
 ghost use Rattle.dhcp_tool.specs.Job.{AnswersPrinting};
-ghost use Rattle.dhcp_tool.specs.Texts.{AnswersText};
+ghost use Rattle.dhcp_tool.specs.Texts.{AnswersScript, AnswersText};
 ghost use Rattle.dhcp_tool.specs.Words.{AsksForRun};
 ghost use Rattle.dhcp_output.specs.Output.{summary_text};
 ghost use Rattle.dhcp_script.specs.Demo.{most_rounds};
@@ -19,7 +19,6 @@ ghost use Rattle.dhcp_replay.specs.Request.{AsksFor, AsksForNothing, IsRequest};
 ghost use Rattle.dhcp_replay.specs.Tool.{
   demo_summary,
   job_of,
-  AnswersScript,
   Ends,
   printed,
   scripts,
@@ -187,7 +186,7 @@ fn run_answer(alloc: Global, bytes: &[u8]) -> Result<Bytes, Status>
 
 // The text to print for a script, or the status.
 fn script_answer(alloc: Global, script: &Script) -> Result<Bytes, Status>
-    ensures { AnswersScript result script.now }
+    ensures { AnswersScript scripts result script.now }
 {
     if !script.is_valid() {
         return Err(Status::Invalid);

@@ -59,6 +59,13 @@ pub pushed2 : {X E : Type 0} (done : Result X E) (new mid old a b whole : List �
 pushed2 (Err e) new mid old a b whole last first is = tt
 pushed2 (Ok x) new mid old a b whole last first is = last ∙ ap (λ text. text ++ b) first ∙ append_assoc old a b ∙ ap (λ text. old ++ text) (sym is)
 
+-- three pieces
+pub pushed3 : {X E : Type 0} (done : Result X E) (new m2 m1 old a b c whole : List ℕ) → OnOk done (new ≡ m2 ++ c) → m2 ≡ m1 ++ b → m1 ≡ old ++ a
+    → whole ≡ a ++ b ++ c → OnOk done (new ≡ old ++ whole)
+pushed3 done new m2 m1 old a b c whole last second first is =
+    let two : m2 ≡ old ++ (a ++ b) = second ∙ ap (λ text. text ++ b) first ∙ append_assoc old a b in
+    pushed2 done new m2 old (a ++ b) c whole last two is
+
 -- four pieces
 pub pushed4 : {X E : Type 0} (done : Result X E) (new m3 m2 m1 old a b c d whole : List ℕ) → OnOk done (new ≡ m3 ++ d) → m3 ≡ m2 ++ c → m2 ≡ m1 ++ b → m1 ≡ old ++ a
     → whole ≡ a ++ b ++ c ++ d → OnOk done (new ≡ old ++ whole)

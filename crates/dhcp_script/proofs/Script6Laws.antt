@@ -84,7 +84,7 @@ IsCodec-mode = record { sound = mode_sound; complete = mode_complete }
 -- ---- the interface
 
 -- a MAC address, or `-`
-mac_field : IsCodec (λ mac. mac_text mac ++ 32 ∷ []) (λ mac. IfSome mac IsMac) (in_field mac_or_none_in 32)
+pub mac_field : IsCodec (λ mac. mac_text mac ++ 32 ∷ []) (λ mac. IfSome mac IsMac) (in_field mac_or_none_in 32)
 mac_field =
     IsCodec-in_field (IsValue-word_or (codes "-") IsValue-mac (λ mac fits. other_word 45 [] (encode_lower mac) (HasNo-encode_lower 45 mac fits.1 (omega arith)))) 32
     (λ mac fits. HasNo-or_word encode_lower IsMac 32 (codes "-") (HasNo-test 32 (codes "-") refl) (λ mac fits. HasNo-encode_lower 32 mac fits.1 (omega arith)) mac fits)
@@ -107,16 +107,16 @@ codec_iface =
 
 -- ---- what a client says of itself
 
-identity_parts : Identity6 → List ℕ × Option (List ℕ)
+unfoldable pub identity_parts : Identity6 → List ℕ × Option (List ℕ)
 identity_parts x = (x.duid, x.codes)
 
-identity_print : Identity6 → List ℕ
+unfoldable pub identity_print : Identity6 → List ℕ
 identity_print x = (codes "duid " ++ (hex_text x.duid ++ 10 ∷ [])) ++ (codes "codes " ++ (listed_text (numbers_text w16) x.codes ++ 10 ∷ []))
 
-IdentityFits : Identity6 → Type 0
+unfoldable pub IdentityFits : Identity6 → Type 0
 IdentityFits x = IsBytes x.duid × IfSome x.codes (AreOfWidth w16)
 
-codec_identity : IsCodec identity_print IdentityFits identity6_at
+pub codec_identity : IsCodec identity_print IdentityFits identity6_at
 unfolding identity6_at identity_parts identity_print IdentityFits
 codec_identity =
     let listed =

@@ -2,7 +2,8 @@
 use Rattle.std.proofs.Common.{◌≡◌, ◌⊎◌, inl, inr, ℕ, ◌≤◌, eqb, Bool, true, false, cond, List, [], ◌∷◌, ◌++◌, length, get_or, Option, Some, None, refl, sym, ap, ◌∙◌, append-nil, arith}
 use Rattle.std.proofs.lemmas.Bool.{eqb-true}
 use Rattle.dhcp_stream.specs.TextReader.{after_tag, tag_at}
-use Rattle.dhcp_stream.proofs.CodecLaws.{IsCodec, IsValue, bind_some, tag_at-none}
+use Rattle.dhcp_stream.proofs.CodecLaws.{IsCodec, IsValue, tag_at-none}
+use Rattle.dhcp_stream.proofs.PartialCodecs.{IsValue-whole, none-found, one-found}
 use Rattle.dhcp4_lease.specs.declared.message_forms.DhcpV4MessageForms.{DhcpV4MessageForms}
 use Rattle.dhcp_script.specs.declared.script4.Script4.{Script4}
 use Rattle.dhcp_script.specs.declared.script6.Script6.{Script6}
@@ -63,41 +64,18 @@ IsCodec-script version =
 -- the whole text
 pub IsValue-script : (version : Version) → IsValue (text_in version) (HasTextIn version) (script_in version)
 unfolding script_in
-IsValue-script version = record {
-  sound = λ text script h.
-      let read = bind_some (script_at version text) (λ read. cond (eqb (length read.1) 0) (Some read.0) None) script h in
-      let whole = if_some (eqb (length read.0.1) 0) read.0.0 script read.2 in
-      let is = (IsCodec-script version).sound text read.0.0 read.0.1 read.1 in
-      let none : read.0.1 ≡ [] = empty read.0.1 (eqb-true (length read.0.1) 0 whole.0) in
-      rw (← whole.1) (sym (is.0 ∙ ap (λ rest. text_in version read.0.0 ++ rest) none ∙ append-nil (text_in version read.0.0)), is.1);
-  complete = λ script fits.
-      ap (script_in version) (sym (append-nil (text_in version script)))
-      ∙ at_end (text_in version script ++ []) script ((IsCodec-script version).complete script [] fits);
-}
-  where
-    at_end : (text : List ℕ) (script : Script) → script_at version text ≡ Some (script, []) → script_in version text ≡ Some script
-    at_end text script h = rw h refl
-
-    if_some : (b : Bool) (x y : Script) → cond b (Some x) None ≡ Some y → (b ≡ true) × (x ≡ y)
-    if_some true x y e = (refl, cc)
-    if_some false x y e = cc e
-
-    empty : (rest : List ℕ) → length rest ≡ 0 → rest ≡ []
-    empty [] e = refl
-    empty (byte ∷ rest) e = absurd (omega arith)
+IsValue-script version = IsValue-whole (IsCodec-script version)
 
 -- what the reader returns is a reading, and the one script that has the text
 pub reading-found : (version : Version) (text : List ℕ) (script : Script) → script_in version text ≡ Some script → (text_in version script ≡ text) × HasTextIn version script
 reading-found version text script h = (IsValue-script version).sound text script h
 
 pub reading-none : (version : Version) (text : List ℕ) → script_in version text ≡ None → (script : Script) → HasTextIn version script → text_in version script ≡ text → ⊥
-reading-none version text h script fits e =
-    let found : None ≡ Some script = sym h ∙ ap (script_in version) (sym e) ∙ (IsValue-script version).complete script fits in
-    cc found
+reading-none version = none-found (IsValue-script version)
 
 pub reading-one : (version : Version) (text : List ℕ) (found script : Script) → script_in version text ≡ Some found → HasTextIn version script → text_in version script ≡ text
     → Some found ≡ Some script
-reading-one version text found script h fits e = sym h ∙ ap (script_in version) (sym e) ∙ (IsValue-script version).complete script fits
+reading-one version = one-found (IsValue-script version)
 
 -- ---- the versions
 

@@ -1,27 +1,27 @@
 //! Scripts of a client's life: their types, their limits and their texts.
 #![tactic(auto)]
 
-mod codes;
+pub mod codes;
 mod demo;
-mod duid;
+pub mod duid;
 mod event;
-mod field;
+pub mod field;
 mod held;
 mod hex_text;
 pub mod laws;
 mod lease4;
 mod lease6;
-mod life;
-mod script;
+pub mod life;
+pub mod script;
 mod script4;
-mod script6;
+pub mod script6;
 mod version;
 mod widths;
 
 pub use demo::demo_script;
 pub use duid::MAX_DUID_LEN;
 pub use event::{Event, EventWhat, MAX_EVENTS, MAX_PACKET_LEN, MOMENT_LIMIT, are_valid};
-pub use hex_text::push_hex;
+pub use hex_text::{push_hex, push_hex_line};
 pub use lease4::Lease4;
 pub use lease4::printer::push_lease as push_lease4;
 pub use lease6::Lease6;

@@ -4,6 +4,7 @@ pub mod HexTextLemmas
 pub mod Ipv6Lemmas
 pub mod NumberBytes
 pub mod NumberLemmas
+pub mod PartialCodecs
 pub mod SearchLemmas
 pub mod StreamLemmas
 pub mod ValueLemmas

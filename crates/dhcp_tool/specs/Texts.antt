@@ -59,3 +59,16 @@ AnswersText texts (Err WrongWords) bytes = ⊥
 AnswersText texts (Err ReadFault) bytes = ⊥
 AnswersText texts (Err WriteFault) bytes = ⊥
 AnswersText texts (Err TooLong) bytes = ⊥
+
+-- what it makes of the script whose text they are: the same
+abbrev pub AnswersScript : {S : Type 0} → Texts S → Result (List ℕ) Status → S → Type 0
+AnswersScript texts (Ok text) script =
+    (texts.is_valid script ≡ true) × (text ≡ texts.printed script) × texts.IsKept script
+AnswersScript texts (Err Invalid) script = texts.is_valid script ≡ false
+AnswersScript texts (Err NoMemory) script = Unit {0}
+AnswersScript texts (Err Done) script = ⊥
+AnswersScript texts (Err WrongWords) script = ⊥
+AnswersScript texts (Err NoScript) script = ⊥
+AnswersScript texts (Err ReadFault) script = ⊥
+AnswersScript texts (Err WriteFault) script = ⊥
+AnswersScript texts (Err TooLong) script = ⊥

@@ -7,3 +7,5 @@ mod client;
 mod parts;
 #[cfg(test)]
 mod reply;
+#[cfg(test)]
+mod tool;

@@ -10,6 +10,7 @@ use Rattle.dhcp6_opt.specs.Duid.{written_duid}
 use Rattle.dhcp6_msg.specs.Config as v6
 use Rattle.dhcp6_msg.specs.Lease.{is_unspecified}
 use Rattle.dhcp6_client.specs.Client as client6
+use Rattle.dhcp6_info.specs.Client as client_info
 use Rattle.uses.specs.Configs.{config4, config6, mac}
 
 pub mac_of_text-mac : mac_of_text (codes "02:00:00:00:00:01") ≡ Ok mac
@@ -35,4 +36,13 @@ pub can_begin-config6 : (link_local : Ipv6Addr) →
 unfolding v6.is_within_limits v6.config_of written_duid
 can_begin-config6 link_local = and_true (not (is_unspecified link_local))
 
-pub ruleset facts = (mac_of_text-mac, with_mac-Ok, can_begin-config4, can_begin-config6)
+named_and_few : (b : Bool) → b && true && true ≡ b
+named_and_few true = refl
+named_and_few false = refl
+
+pub can_inform-config6 : (link_local : Ipv6Addr) →
+    client_info.can_begin (config6 link_local) ≡ not (is_unspecified link_local)
+unfolding v6.config_of
+can_inform-config6 link_local = named_and_few (not (is_unspecified link_local))
+
+pub ruleset facts = (mac_of_text-mac, with_mac-Ok, can_begin-config4, can_begin-config6, can_inform-config6)

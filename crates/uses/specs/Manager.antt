@@ -21,6 +21,8 @@ use Rattle.dhcp4_client.specs.declared.state.PlainState as plain4
 use Rattle.dhcp4_client.specs.declared.state.PlainState.TheVariants as states4
 use Rattle.dhcp6_client.specs.declared.state.PlainState as plain6
 use Rattle.dhcp6_client.specs.declared.state.PlainState.TheVariants as states6
+use Rattle.dhcp6_info.specs.declared.state.PlainInfoState.{PlainInfoState}
+use Rattle.dhcp6_info.specs.declared.state.PlainInfoState.TheVariants as infos
 use Rattle.uses.specs.declared.manager.interface.Interface.{Interface}
 
 -- the IPv4 address of an interface once its client is in this state: a lease that is being renewed
@@ -59,6 +61,18 @@ interface_after state interface = record interface {
 abbrev pub interface_after6 : plain6.PlainState → Interface → Interface
 interface_after6 state interface =
     record interface { address6 = address_after6 state interface.address6 }
+
+-- the first of these addresses, if there is one
+abbrev pub first_of : Option (List Ipv6Addr) → Option Ipv6Addr
+first_of None = None
+first_of (Some []) = None
+first_of (Some (address ∷ addresses)) = Some address
+
+-- and once its client for configuration alone is: while that asks anew, what it was told stays
+abbrev pub interface_told : PlainInfoState → Interface → Interface
+interface_told (infos.Done info) interface =
+    record interface { name_server = first_of info.dns_srvs }
+interface_told infos.Inform interface = interface
 
 -- a client of some rules, with its source of words and its link
 pub record Linked (State Exchange Source Link : Type 0) : Type 0 where

@@ -17,7 +17,9 @@ mod upkeep6;
 pub use captures::ack_count;
 pub use lease::{Counter, address_of_lease, lease_of_ack};
 pub use link::{QueueLink, SystemWords};
-pub use manager::{Follow, Interface, ManagedClient, new_client, new_client6, turn};
+pub use manager::{
+    Follow, Interface, ManagedClient, new_client, new_client6, new_info_client, turn,
+};
 pub use message::{configuration, discover_payload, has_no_type, read_again};
 pub use messages6::{lease_of_reply, request_of_offer, solicit_payload};
 pub use options::{copy_option, insert_parsed, subnet_mask};

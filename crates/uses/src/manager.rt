@@ -1,23 +1,23 @@
-//! The loop of a network manager, for clients of both families.
+//! The loop of a network manager, for clients of both families, with leases or without.
 
 mod clients;
 mod interface;
 #[cfg(test)]
 mod tests;
 
-ghost use Rattle.std.specs.Prelude.{◌≡◌, ◌<◌, ◌^◌, ◌⊎◌, Bool, IfErr, IfOk, is_some, not};
+ghost use Rattle.std.specs.Prelude.{◌≡◌, ◌<◌, ◌^◌, ◌⊎◌, ◌||◌, Bool, IfErr, IfOk, false, is_some, true};
 ghost use Rattle.dhcp_wire.specs.Error.{no_memory};
 ghost use Rattle.dhcp_history.specs.Calls.{HasNextPoll};
 ghost use Rattle.dhcp_history.specs.Errors.{timed_out};
 ghost use Rattle.dhcp_history.specs.Machine.{is_stopped};
 ghost use Rattle.uses.specs.Manager.{HasTurned, Polled, linked};
 
-pub use clients::{new_client, new_client6};
+pub use clients::{new_client, new_client6, new_info_client};
 use dhcp_clock::{DhcpLink, Words};
 use dhcp_wire::DhcpError;
 pub use interface::Interface;
 
-/// A client of either family, as its manager runs it.
+/// A client, as its manager runs it.
 pub trait ManagedClient {
     ghost use Rattle.dhcp_clock.specs.declared.link.Handed.{Handed};
     ghost use Rattle.dhcp_clock.specs.declared.link.Packet.{Packet};
@@ -55,6 +55,9 @@ pub trait ManagedClient {
     /// Whether the reading of a packet may need memory.
     ghost needs_memory: { Self → ClientState → Exchange → Packet → Bool };
 
+    /// Whether a state lasts for ever, if no packet comes.
+    ghost lasts_for_ever: { ClientState → Bool };
+
     /// One poll at a moment, in milliseconds: the new state, or none if it has not changed.
     fn run<W: Words, L: DhcpLink>(
         &mut self,
@@ -71,12 +74,12 @@ pub trait ManagedClient {
         ensures needs { needs_memory self.new ≡ needs_memory self.old }
         ensures errors { IfErr result (λ error. (error ≡ timed_out) ⊎ (error ≡ no_memory)) };
 
-    /// The moment, in milliseconds, before which it has nothing to do without a packet; none if and
-    /// only if it keeps an error.
+    /// The moment, in milliseconds, before which it has nothing to do without a packet; none only if
+    /// it keeps an error, or its state lasts for ever.
     fn next_poll(&self) -> Option<u64>
         ensures next { HasNextPoll (protocol self.now) result (client self.now) }
-        ensures stopped { is_some result ≡
-            not (is_stopped (client self.now).standing.phase) };
+        ensures none { is_some result ≡ false → (is_stopped (client self.now).standing.phase
+            || lasts_for_ever (client self.now).state) ≡ true };
 }
 
 /// What is set up as the states of a client ask.
@@ -91,8 +94,8 @@ pub trait Follow<S> {
 
 /// One turn of the loop, now and whenever a packet comes: polls until nothing changes any more, at
 /// most seven times, since one packet changes the state at most six times. The interface follows
-/// each new state. Returns the moment, in milliseconds, until which the manager may sleep; none if
-/// the client keeps an error.
+/// each new state. Returns the moment, in milliseconds, until which the manager may sleep; none only
+/// if the client keeps an error, or its state lasts for ever.
 pub fn turn<C: ManagedClient, I: Follow<C::State>, W: Words, L: DhcpLink>(
     client: &mut C,
     interface: &mut I,
@@ -109,8 +112,9 @@ pub fn turn<C: ManagedClient, I: Follow<C::State>, W: Words, L: DhcpLink>(
     ensures same { C.protocol client.new ≡ C.protocol client.old }
     ensures next { IfOk result (λ moment.
         HasNextPoll (C.protocol client.new) moment (C.client client.new)) }
-    ensures stopped { IfOk result (λ moment. is_some moment ≡
-        not (is_stopped (C.client client.new).standing.phase)) }
+    ensures none { IfOk result (λ moment. is_some moment ≡ false →
+        (is_stopped (C.client client.new).standing.phase
+        || C.lasts_for_ever (C.client client.new).state) ≡ true) }
     ensures errors { IfErr result (λ error. (error ≡ timed_out) ⊎ (error ≡ no_memory)) }
 {
     for _ in 0..7u32 {

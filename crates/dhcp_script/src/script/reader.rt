@@ -22,8 +22,8 @@ pub fn read_whole_script(alloc: Global, version: Version, text: &[u8]) -> Result
     at_end(&text, script)
 }
 
-// What was read, if it was the whole text.
-fn at_end<T: Drop>(text: &TextReader, read: T) -> Result<T, ReadError>
+/// What was read, if it was the whole text; else `Malformed`. Does not allocate.
+pub fn at_end<T: Drop>(text: &TextReader, read: T) -> Result<T, ReadError>
     ensures { Finds result (if length text.now == 0 then Some read else None) }
 {
     if text.is_at_end() {

@@ -58,9 +58,9 @@ fn push_iface(text: &mut String, script: &Script6) -> Result<(), AllocError>
     write!(text, " {timeout_sec}\n")
 }
 
-// Puts the IPv6 address and the MAC address of a client at the end of a text, each with a space
-// after it.
-fn push_addresses(text: &mut String, script: &Script6) -> Result<(), AllocError>
+/// Puts the IPv6 address and the MAC address of a client at the end of a text, each with a space
+/// after it. After an error, which is out of memory, a part of them may be there.
+pub fn push_addresses(text: &mut String, script: &Script6) -> Result<(), AllocError>
     ensures { OnOk result (string_bytes text.new ≡ string_bytes text.old
         ++ (address6_text script.now.src_ip ++ 32 ∷ (mac_text script.now.mac ++ 32 ∷ []))) }
 {

@@ -30,11 +30,13 @@ struct Iface6 {
     timeout_sec: u32,
 }
 
-// What the lines `duid` and `codes` say.
+/// What the lines `duid` and `codes` say.
 #[derive(Drop)]
-struct Identity6 {
-    duid: Bytes,
-    codes: Option<Sequence<u16>>,
+pub struct Identity6 {
+    /// The bytes of the identifier; empty is none.
+    pub duid: Bytes,
+    /// The codes that are listed; none is the default list.
+    pub codes: Option<Sequence<u16>>,
 }
 
 /// Reads a script in a version, after its first line. `Malformed` only if the text does not go on
@@ -81,8 +83,9 @@ fn read_iface(alloc: Global, text: &mut TextReader) -> Result<Iface6, ReadError>
     })
 }
 
-// Reads a MAC address, or `-` for none, and the space after it.
-fn read_mac(text: &mut TextReader) -> Result<Option<[u8; 6]>, ReadError>
+/// Reads a MAC address, or `-` for none, and the space after it. `Malformed` if and only if the
+/// text does not go on with them.
+pub fn read_mac(text: &mut TextReader) -> Result<Option<[u8; 6]>, ReadError>
     ensures { Takes result text.new (in_field mac_or_none_in 32 text.old) }
 {
     let field = text.field(b' ')?;
@@ -108,9 +111,10 @@ fn read_mode(alloc: Global, text: &mut TextReader) -> Result<DhcpV6Mode, ReadErr
     Ok(DhcpV6Mode::PrefixDelegation(read_field(alloc, text, b' ')?))
 }
 
-// Reads the lines `duid` and `codes`.
+/// Reads the lines `duid` and `codes`. `Malformed` only if the text does not go on with them; out of
+/// memory is the only other error.
 #[tactic(auto, unfolding(crate::specs::ScriptReader::identity6_at))]
-fn read_identity(alloc: Global, text: &mut TextReader) -> Result<Identity6, ReadError>
+pub fn read_identity(alloc: Global, text: &mut TextReader) -> Result<Identity6, ReadError>
     ensures { Takes result text.new (identity6_at text.old) }
 {
     text.tag(b"duid ")?;

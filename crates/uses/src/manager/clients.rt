@@ -19,6 +19,14 @@ ghost use Rattle.dhcp6_client.specs.declared.client_state.ClientState as held6;
 ghost use Rattle.dhcp6_client.specs.declared.client_state.Exchange as exchange6;
 ghost use Rattle.dhcp6_client.specs.declared.state.PlainState as plain6;
 ghost use Rattle.dhcp6_msg.specs.Lease as lease6;
+ghost use Rattle.dhcp6_info.specs.Client as client_info;
+ghost use Rattle.dhcp6_info.specs.Rules as rules_info;
+ghost use Rattle.dhcp6_info.specs.State as states_info;
+ghost use Rattle.dhcp6_info.specs.declared.client_state.ClientState as held_info;
+ghost use Rattle.dhcp6_info.specs.declared.client_state.Exchange as exchange_info;
+ghost use Rattle.dhcp6_info.specs.declared.client_state.NoLease as no_lease;
+ghost use Rattle.dhcp6_info.specs.declared.info.DhcpV6Info as info;
+ghost use Rattle.dhcp6_info.specs.declared.state.PlainInfoState as plain_info;
 ghost use Rattle.uses.specs.Configs.{config4, config6, mac};
 
 use super::ManagedClient;
@@ -27,6 +35,7 @@ use dhcp_wire::{DhcpError, ErrorKind};
 use dhcp4_client::{DhcpV4Client, DhcpV4State};
 use dhcp4_lease::{DhcpV4Config, DhcpV4MessageForms};
 use dhcp6_client::{DhcpV6Client, DhcpV6State};
+use dhcp6_info::{DhcpV6InfoClient, DhcpV6InfoState};
 use dhcp6_msg::{DhcpV6Config, DhcpV6Mode};
 use std::alloc::Global;
 use std::net::Ipv6Addr;
@@ -51,6 +60,8 @@ impl ManagedClient for DhcpV4Client {
     ghost client = { λ parts. parts.client };
 
     ghost needs_memory = { λ parts. rules4.needs_memory parts.config.message_forms };
+
+    ghost lasts_for_ever = { λ state. false };
 
     fn run<W: Words, L: DhcpLink>(
         &mut self,
@@ -87,6 +98,8 @@ impl ManagedClient for DhcpV6Client {
 
     ghost needs_memory = { λ parts. rules6.needs_memory };
 
+    ghost lasts_for_ever = { λ state. false };
+
     fn run<W: Words, L: DhcpLink>(
         &mut self,
         now: u64,
@@ -98,6 +111,43 @@ impl ManagedClient for DhcpV6Client {
 
     fn next_poll(&self) -> Option<u64> {
         DhcpV6Client::next_poll(self)
+    }
+}
+
+impl ManagedClient for DhcpV6InfoClient {
+    type State = DhcpV6InfoState;
+
+    ghost PublicState = { plain_info.PlainInfoState };
+
+    ghost ClientState = { held_info.ClientState };
+
+    ghost Exchange = { exchange_info.Exchange };
+
+    ghost Answer = { info.DhcpV6Info };
+
+    ghost Lease = { no_lease.NoLease };
+
+    ghost public_state = { states_info.plain_state };
+
+    ghost protocol = { λ parts. rules_info.protocol parts.config };
+
+    ghost client = { λ parts. parts.client };
+
+    ghost needs_memory = { rules_info.needs_memory };
+
+    ghost lasts_for_ever = { client_info.lasts_for_ever };
+
+    fn run<W: Words, L: DhcpLink>(
+        &mut self,
+        now: u64,
+        words: &mut W,
+        link: &mut L,
+    ) -> Result<Option<DhcpV6InfoState>, DhcpError> {
+        DhcpV6InfoClient::run(self, now, words, link)
+    }
+
+    fn next_poll(&self) -> Option<u64> {
+        DhcpV6InfoClient::next_poll(self)
     }
 }
 
@@ -139,4 +189,25 @@ pub fn new_client6<W: Words>(
         .set_link_local_ip(link_local)
         .set_src_mac([2, 0, 0, 0, 0, 1]);
     DhcpV6Client::init(alloc, config, None, 0, words)
+}
+
+/// A client for configuration alone, with the configuration of `new_client6`. `InvalidArgument` if
+/// and only if the address is ::, and else out of memory is the only error.
+#[tactic(auto, using(crate::proofs::Facts::facts), unfolding(dhcp6_msg::specs::Config::config_of))]
+pub fn new_info_client<W: Words>(
+    alloc: Global,
+    link_local: Ipv6Addr,
+    words: &mut W,
+) -> Result<DhcpV6InfoClient, DhcpError>
+    ensures begun { IfOk result (client_info.Begins (config6 link_local)) }
+    ensures begins { OnOk result (is_unspecified link_local ≡ false) }
+    ensures error { IfErr result (λ e. (e ≡ no_memory)
+        ⊎ ((e.kind ≡ ErrorKind.InvalidArgument) × (is_unspecified link_local ≡ true))) }
+{
+    let mut config = DhcpV6Config::new(alloc, "eth0", DhcpV6Mode::NonTemporaryAddresses)?;
+    config
+        .set_iface_index(3)
+        .set_link_local_ip(link_local)
+        .set_src_mac([2, 0, 0, 0, 0, 1]);
+    DhcpV6InfoClient::init(alloc, config, words)
 }

@@ -1,4 +1,4 @@
-use super::{Interface, new_client, new_client6, turn};
+use super::{Interface, new_client, new_client6, new_info_client, turn};
 use crate::{
     QueueLink, SystemWords, configuration, discover_payload, follow_poll6, give_up6, keep_turn,
 };
@@ -37,6 +37,23 @@ fn a_client_of_ipv6_sleeps_until_its_first_solicit(rt: HostRuntime) -> Result<()
         &mut MemLink::new(alloc),
     )?;
     assert_eq!(rt; wake, Some(600));
+    Ok(())
+}
+
+#[test]
+fn a_client_for_configuration_alone_runs_in_the_same_loop(rt: HostRuntime) -> Result<(), Fail> {
+    let alloc = rt.alloc();
+    let mut words = WordList::new(vec![in alloc; 700]?);
+    let mut client = new_info_client(alloc, Ipv6Addr::LOCALHOST, &mut words)?;
+    let mut interface = Interface::default();
+    let wake = turn(
+        &mut client,
+        &mut interface,
+        0,
+        &mut words,
+        &mut MemLink::new(alloc),
+    )?;
+    assert_eq!(rt; wake, Some(700));
     Ok(())
 }
 

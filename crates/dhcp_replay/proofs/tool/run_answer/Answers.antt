@@ -1,6 +1,7 @@
 -- The script that was read is the only one with this text.
-use Rattle.dhcp_replay.proofs.ToolLemmas.{answers_text}
+use Rattle.dhcp_tool.proofs.TextsLemmas.{answers_text}
+use Rattle.dhcp_replay.specs.Tool.{scripts}
 use Rattle.dhcp_replay.proofs.tool.run_answer.Goals as goal
 
 pub returns-in-Ok-Some : goal.returns-in-Ok-Some
-returns-in-Ok-Some c = answers_text c.in-Ok-Some.field-0 c.in-Ok-Some.script c.args.bytes.now c.script_answer.result c.in-Ok-Some.field-0-is c.in-Ok-Some.ensures.reading c.in-Ok-Some.ensures.one c.script_answer.ensures
+returns-in-Ok-Some c = answers_text scripts c.in-Ok-Some.field-0 c.in-Ok-Some.script c.args.bytes.now c.script_answer.result c.in-Ok-Some.field-0-is c.in-Ok-Some.ensures.reading c.in-Ok-Some.ensures.one c.script_answer.ensures

@@ -1,0 +1,4 @@
+mod InfoLife
+mod InfoScriptLaws
+mod PrintLemmas
+mod ValidLemmas
