@@ -19,8 +19,8 @@ is_refresh_code code = number_of code == 32
 abbrev pub asks_for_refresh : List DhcpV6OptionCode → Bool
 asks_for_refresh codes = list_any is_refresh_code codes
 
--- The codes that are asked for: these, and that of the refresh time. Section 18.2.6 asks for that of
--- INF_MAX_RT too, which this client does not act on.
+-- The codes that are asked for: these, and that of the refresh time. Section 18.2.6 asks for that
+-- of INF_MAX_RT too, which this client does not act on.
 abbrev pub requested_codes : List DhcpV6OptionCode → List DhcpV6OptionCode
 requested_codes codes = if asks_for_refresh codes then codes else codes ++ code_of 32 ∷ []
 

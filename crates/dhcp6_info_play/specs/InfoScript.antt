@@ -1,5 +1,5 @@
--- Scripts of a client for configuration alone, and their text: those of an IPv6 client, whose mode is
--- not written, without a lease and without an event `release`.
+-- Scripts of a client for configuration alone, and their text: those of an IPv6 client, whose mode
+-- is not written, without a lease and without an event `release`.
 use Rattle.std.specs.Prelude.{◌≡◌, ℕ, Bool, true, false, List, [], ◌∷◌, ◌++◌, codes, None}
 use Rattle.std.specs.List.{list_any}
 use Rattle.std.specs.Fmt.{decimal}

@@ -18,14 +18,15 @@ use Rattle.dhcp6_info.specs.declared.client_state.Exchange.{Exchange}
 use Rattle.dhcp6_info_play.specs.Replayed.{config_in, life_of}
 
 -- what is promised of a client with this configuration over this life
-pub record KeepsPromisesOver (config : Config) (life : Script Packet ClientState Exchange) : Type 0 where
+pub record KeepsPromisesOver (config : Config) (life : Script Packet ClientState Exchange) :
+    Type 0 where
   -- the messages of a stay that the link took are at least 0.9 seconds apart
   pub messages_far_apart : All (KeepsDistance distance) (history (protocol config) life)
   -- an event has at most two messages, refused ones among them
   pub two_messages : (number : ℕ) → count_of (is_send_at number)
       (outputs (protocol config) (history (protocol config) life)) ≤ allowed number life.events
-  -- each event has at most seven polls, and after them a client without a kept error does not have a
-  -- configuration at or past its refresh time
+  -- each event has at most seven polls, and after them a client without a kept error does not have
+  -- a configuration at or past its refresh time
   pub settles : SettlesAtEach (protocol config) (first_view life) life.events
 
 -- the same of a client that begins with this configuration, over these words and events

@@ -1,5 +1,5 @@
--- The life of a client for configuration alone over the events of a script: its history, and what is
--- reported of it.
+-- The life of a client for configuration alone over the events of a script: its history, and what
+-- is reported of it.
 use Rattle.std.specs.Prelude.{ℕ, List, map}
 use Rattle.dhcp_clock.specs.declared.link.Handed.{Handed}
 use Rattle.dhcp_clock.specs.declared.link.Packet.{Packet}

@@ -24,8 +24,8 @@ struct Iface {
     timeout_sec: u32,
 }
 
-/// Reads a script, which is the whole text. `Malformed` only if the text is not one of a script; out
-/// of memory is the only other error.
+/// Reads a script, which is the whole text. `Malformed` only if the text is not one of a script;
+/// out of memory is the only other error.
 #[tactic(auto, unfolding(crate::specs::Reader::script_in))]
 pub fn read_whole_script(alloc: Global, text: &[u8]) -> Result<Script6, ReadError>
     ensures { Finds result (script_in text.now) }

@@ -22,8 +22,8 @@ use dhcp6_msg::DhcpV6Config;
 use std::alloc::Global;
 
 /// Plays a script with a client for configuration alone, which uses neither its mode nor its lease,
-/// and returns what is reported of its events, in order. `InvalidArgument` if and only if the script
-/// is not valid; else out of memory is the only error.
+/// and returns what is reported of its events, in order. `InvalidArgument` if and only if the
+/// script is not valid; else out of memory is the only error.
 pub fn replay_info(alloc: Global, script: &Script6) -> Result<Sequence<Output>, DhcpError>
     ensures valid { OnOk result (is_valid script.now ≡ true) }
     ensures refused { IfErr result (IsRefusal (is_valid script.now)) }

@@ -9,13 +9,13 @@
 //! builds and writes a Solicit; `wrap6` relays a message to a server, and `along6` an answer back
 //! along a Relay-forward. `serve256` and `serve65536` have a DHCPv4 server answer a message, with a
 //! pool of so many addresses of which all but the last, 10.255.255.255, are bound to other clients;
-//! to fill the pool takes its time once. Of an IPv4 client, `idle` polls one that has a lease, `foreign` one
-//! whose Discover is open, each time with the frame of the line, and `life` has it live from its
-//! Discover to its release, with the frames of an Offer and of an Ack as two lines; `idle6`,
-//! `foreign6` and `life6` do so with an IPv6 client, and payloads. These print how many polls or
-//! lives there were. A task that is done at least once prints nothing, and fails, if a line that it
-//! reads is missing, is not hex or does not read; but a client drops what does not read. A first
-//! line has to be there for all.
+//! to fill the pool takes its time once. Of an IPv4 client, `idle` polls one that has a lease,
+//! `foreign` one whose Discover is open, each time with the frame of the line, and `life` has it
+//! live from its Discover to its release, with the frames of an Offer and of an Ack as two lines;
+//! `idle6`, `foreign6` and `life6` do so with an IPv6 client, and payloads. These print how many
+//! polls or lives there were. A task that is done at least once prints nothing, and fails, if a
+//! line that it reads is missing, is not hex or does not read; but a client drops what does not
+//! read. A first line has to be there for all.
 #![tactic(auto)]
 
 mod client4;

@@ -53,8 +53,8 @@ fn push_info(alloc: Global, text: &mut String, info: &DhcpV6Info) -> Result<(), 
     info.refresh_sec.push_to(text)
 }
 
-// Puts the identifier of a server and the name servers at the end of a text, each with a space after
-// it.
+// Puts the identifier of a server and the name servers at the end of a text, each with a space
+// after it.
 fn push_servers_more(alloc: Global, text: &mut String, info: &DhcpV6Info) -> Result<(), AllocError>
     ensures { OnOk result (string_bytes text.new ≡ string_bytes text.old
         ++ (hex_text (written_duid info.now.srv_duid)

@@ -60,8 +60,8 @@ pub fn promises6_are_kept(client: &DhcpV6Client)
     laws6::polls_keep_laws(client);
 }
 
-/// The events of a valid script rise: what `history_by_point` of the clients says of a history holds
-/// of that of each valid script.
+/// The events of a valid script rise: what `history_by_point` of the clients says of a history
+/// holds of that of each valid script.
 pub fn valid_events_rise()
     ensures { (start : ℕ) (events : List Event) → are_valid start events ≡ true →
         Rises 0 0 (numbered 1 events) }

@@ -74,8 +74,8 @@ pub trait ManagedClient {
         ensures needs { needs_memory self.new ≡ needs_memory self.old }
         ensures errors { IfErr result (λ error. (error ≡ timed_out) ⊎ (error ≡ no_memory)) };
 
-    /// The moment, in milliseconds, before which it has nothing to do without a packet; none only if
-    /// it keeps an error, or its state lasts for ever.
+    /// The moment, in milliseconds, before which it has nothing to do without a packet; none only
+    /// if it keeps an error, or its state lasts for ever.
     fn next_poll(&self) -> Option<u64>
         ensures next { HasNextPoll (protocol self.now) result (client self.now) }
         ensures none { is_some result ≡ false → (is_stopped (client self.now).standing.phase
@@ -94,8 +94,8 @@ pub trait Follow<S> {
 
 /// One turn of the loop, now and whenever a packet comes: polls until nothing changes any more, at
 /// most seven times, since one packet changes the state at most six times. The interface follows
-/// each new state. Returns the moment, in milliseconds, until which the manager may sleep; none only
-/// if the client keeps an error, or its state lasts for ever.
+/// each new state. Returns the moment, in milliseconds, until which the manager may sleep; none
+/// only if the client keeps an error, or its state lasts for ever.
 pub fn turn<C: ManagedClient, I: Follow<C::State>, W: Words, L: DhcpLink>(
     client: &mut C,
     interface: &mut I,

@@ -111,8 +111,8 @@ fn read_mode(alloc: Global, text: &mut TextReader) -> Result<DhcpV6Mode, ReadErr
     Ok(DhcpV6Mode::PrefixDelegation(read_field(alloc, text, b' ')?))
 }
 
-/// Reads the lines `duid` and `codes`. `Malformed` only if the text does not go on with them; out of
-/// memory is the only other error.
+/// Reads the lines `duid` and `codes`. `Malformed` only if the text does not go on with them; out
+/// of memory is the only other error.
 #[tactic(auto, unfolding(crate::specs::ScriptReader::identity6_at))]
 pub fn read_identity(alloc: Global, text: &mut TextReader) -> Result<Identity6, ReadError>
     ensures { Takes result text.new (identity6_at text.old) }
