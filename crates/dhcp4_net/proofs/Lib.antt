@@ -1,0 +1,9 @@
+pub mod AnswerLemmas
+pub mod ClientLemmas
+pub mod KeptLemmas
+pub mod NetLemmas
+pub mod NetworkLemmas
+pub mod OptionLemmas
+pub mod RunLemmas
+pub mod SentLemmas
+pub mod ServeLemmas

@@ -1,0 +1,7 @@
+pub mod Clients
+pub mod Grants
+pub mod Kept
+pub mod Net
+pub mod Network
+pub mod OneAddress
+pub mod Safe
