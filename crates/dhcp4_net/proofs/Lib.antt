@@ -4,6 +4,7 @@ pub mod KeptLemmas
 pub mod NetLemmas
 pub mod NetworkLemmas
 pub mod OptionLemmas
+pub mod PeerLemmas
 pub mod RunLemmas
 pub mod SentLemmas
 pub mod ServeLemmas

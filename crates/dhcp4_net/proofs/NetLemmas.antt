@@ -3,6 +3,7 @@ use Rattle.std.proofs.Common.{◌≡◌, ℕ, ◌<◌, List, length, refl, true,
 use Rattle.std.specs.Prelude.{All}
 use Rattle.std.proofs.lemmas.List.Elements.{All-get_or}
 use Rattle.std.proofs.lemmas.Str.{IsUtf8-nil}
+use Rattle.dhcp_wire.specs.OptionCodes.{rising_codes}
 use Rattle.dhcp4_lease.specs.Config as configs
 use Rattle.dhcp4_lease.specs.Config.{Config, is_within_limits}
 use Rattle.dhcp4_lease.specs.Laws as leases
@@ -10,15 +11,17 @@ use Rattle.dhcp4_server.specs.Answer.{answer_to as serve}
 use Rattle.dhcp4_server.specs.Config.{is_lawful}
 use Rattle.dhcp4_server.specs.declared.config.ServerConfig.{ServerConfig}
 use Rattle.dhcp4_server.specs.Config.{IsTyped}
-use Rattle.dhcp4_net.specs.Clients.{HaveDistinctIds, IsTypedClient, NetClient, client_at, config_of, net_at, net_of, no_client, xid_of}
-use Rattle.dhcp4_net.specs.Net.{Net, NetEvent}
+use Rattle.dhcp4_net.specs.Clients.{HaveDistinctIds, IsTypedClient, client_at, config_of, net_at, net_of, no_client, xid_of}
+use Rattle.dhcp4_net.specs.declared.script.NetClient.{NetClient}
+use Rattle.dhcp4_net.specs.Net.{Net}
+use Rattle.dhcp4_net.specs.declared.script.NetEvent.{NetEvent}
 use Rattle.dhcp4_net.specs.OneAddress.{OneAddress, OneHolder}
 use Rattle.dhcp4_net.proofs.RunLemmas as runs
 use Rattle.dhcp4_net.proofs.RunLemmas.{IsClient}
 use Rattle.dhcp4_net.proofs.ServeLemmas.{serves_soundly}
 
 within : (client : NetClient) → IsTrue (is_within_limits (config_of client))
-unfolding is_within_limits config_of configs.config_of
+unfolding is_within_limits config_of configs.config_of rising_codes
 within client = refl
 
 typed : (client : NetClient) → IsTypedClient client → leases.IsTyped (config_of client)

@@ -36,7 +36,16 @@ use Rattle.dhcp4_client.specs.declared.state.PlainState.TheVariants as plain
 use Rattle.dhcp_history.specs.BoundLease.{Bound as BoundLease}
 use Rattle.dhcp4_client.specs.declared.client_state.ClientState.TheVariants as states
 use Rattle.dhcp4_net.specs.Grants.{GrantedIn, GrantsNothing, HoldsBacked, HoldsWhole, IsSound, ShowsGrant, grant_of, packet_of}
-use Rattle.dhcp4_net.specs.Net.{CleanUp, Client, Deliver, Failed, Hold, Log, Net, NetAct, NetEvent, NetOutput, NetWhat, NetWho, Nothing, Release, Sent, SentPacket, Server, after_client, after_event, after_server, after_who, arrival_of, delivered, in_time, input_of, log_packet, log_reply, log_report, log_reports, net_after}
+use Rattle.dhcp4_net.specs.Net.{Log, Net, after_client, after_event, after_server, after_who, arrival_of, delivered, in_time, input_of, log_packet, log_reply, log_report, log_reports, net_after}
+use Rattle.dhcp4_net.specs.declared.script.NetAct.{NetAct}
+use Rattle.dhcp4_net.specs.declared.script.NetEvent.{NetEvent}
+use Rattle.dhcp4_net.specs.declared.output.NetOutput.{NetOutput}
+use Rattle.dhcp4_net.specs.declared.output.NetWhat.{NetWhat}
+use Rattle.dhcp4_net.specs.declared.script.NetWho.{NetWho}
+use Rattle.dhcp4_net.specs.declared.log.SentPacket.{SentPacket}
+use Rattle.dhcp4_net.specs.declared.script.NetAct.TheVariants.{CleanUp, Deliver, Nothing, Release}
+use Rattle.dhcp4_net.specs.declared.script.NetWho.TheVariants.{Client, Server}
+use Rattle.dhcp4_net.specs.declared.output.NetWhat.TheVariants.{Failed, Hold, Sent}
 use Rattle.dhcp4_server.specs.Answer.{Answer as Served}
 use Rattle.dhcp4_net.specs.OneAddress.{Holds, OneAddress, OneHolder, OwnsAt, held_from, ServesBy, ServesSoundly}
 use Rattle.dhcp4_net.proofs.AnswerLemmas.{Bound, bind_some, if_some}

@@ -1,3 +1,4 @@
+pub mod Becomes
 pub mod Clients
 pub mod Grants
 pub mod Kept

@@ -1,6 +1,5 @@
 -- A network of clients and one server, event by event: what is sent, and what is reported.
 use Rattle.std.specs.Prelude.{ℕ, suc, ◌+◌, ◌*◌, ◌==◌, nat_le, nat_lt, Bool, List, [], ◌∷◌, ◌++◌, length, slice_get, Option, Some, None, if◌then◌else◌}
-use Rattle.std.specs.declared.net.Ipv4Addr.{Ipv4Addr}
 use Rattle.dhcp_wire.specs.Field.{◌>>=◌}
 use Rattle.dhcp_clock.specs.declared.link.Handed.{Handed}
 use Rattle.dhcp_clock.specs.declared.link.Packet.{Packet}
@@ -22,38 +21,15 @@ use Rattle.dhcp4_client.specs.declared.state.PlainState.{PlainState}
 use Rattle.dhcp4_client.specs.declared.state.PlainState.TheVariants as plain
 use Rattle.dhcp4_server.specs.Answer.{Answer as Served}
 use Rattle.dhcp4_net.specs.Grants.{packet_of}
-
--- a packet that was sent, and when
-pub record SentPacket : Type 0 where
-  pub packet : Packet
-  pub moment : ℕ
-
--- What is reported: the packet of this number was sent; a client holds an address from one moment
--- on up to another; a release of a client failed.
-pub data NetWhat : Type 0 where
-  Sent : ℕ → NetWhat
-  Hold : ℕ → Ipv4Addr → ℕ → ℕ → NetWhat
-  Failed : ℕ → NetWhat
-
-pub record NetOutput : Type 0 where
-  pub event : ℕ
-  pub what : NetWhat
-
--- an event: of a client, whose link refuses or does not, or of the server, to which a packet is
--- delivered
-pub data NetAct : Type 0 where
-  Nothing : NetAct
-  Deliver : ℕ → NetAct
-  Release : NetAct
-  CleanUp : NetAct
-
-pub data NetWho : Type 0 where
-  Client : ℕ → Bool → NetAct → NetWho
-  Server : ℕ → NetWho
-
-pub record NetEvent : Type 0 where
-  pub moment : ℕ
-  pub who : NetWho
+use Rattle.dhcp4_net.specs.declared.log.SentPacket.{SentPacket}
+use Rattle.dhcp4_net.specs.declared.output.NetOutput.{NetOutput}
+use Rattle.dhcp4_net.specs.declared.output.NetWhat.{NetWhat}
+use Rattle.dhcp4_net.specs.declared.output.NetWhat.TheVariants.{Sent, Hold, Failed}
+use Rattle.dhcp4_net.specs.declared.script.NetAct.{NetAct}
+use Rattle.dhcp4_net.specs.declared.script.NetAct.TheVariants.{Nothing, Deliver, Release, CleanUp}
+use Rattle.dhcp4_net.specs.declared.script.NetEvent.{NetEvent}
+use Rattle.dhcp4_net.specs.declared.script.NetWho.{NetWho}
+use Rattle.dhcp4_net.specs.declared.script.NetWho.TheVariants.{Client, Server}
 
 -- The network: the moment of its last event, the server's Acks, the newest first, the packets sent
 -- so far, its clients by their numbers, and what was reported.

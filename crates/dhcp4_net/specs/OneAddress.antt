@@ -10,7 +10,9 @@ use Rattle.dhcp_history.specs.BoundLease.{Bound}
 use Rattle.dhcp4_lease.specs.Lease.{Lease}
 use Rattle.dhcp4_client.specs.declared.client_state.ClientState.{ClientState}
 use Rattle.dhcp4_client.specs.declared.client_state.ClientState.TheVariants as states
-use Rattle.dhcp4_net.specs.Net.{Hold, Net, NetOutput}
+use Rattle.dhcp4_net.specs.Net.{Net}
+use Rattle.dhcp4_net.specs.declared.output.NetOutput.{NetOutput}
+use Rattle.dhcp4_net.specs.declared.output.NetWhat.TheVariants.{Hold}
 
 -- an output that reports this hold, which covers the moment
 pub record Holds (moment client : ℕ) (address : Ipv4Addr) (output : NetOutput) : Type 0 where

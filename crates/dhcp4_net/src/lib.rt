@@ -1,13 +1,24 @@
 //! A network of DHCPv4 clients and one server.
 #![tactic(auto)]
 
+mod log;
+mod output;
+mod peer;
+mod script;
+
 ghost use Rattle.std.specs.Prelude.{◌≡◌, ℕ, List, Some, true, All, length};
 ghost use Rattle.dhcp4_server.specs.Config.{is_lawful};
 ghost use Rattle.dhcp4_server.specs.declared.config.ServerConfig.{ServerConfig};
 ghost use Rattle.dhcp4_server.specs.Config.{IsTyped};
-ghost use Rattle.dhcp4_net.specs.Clients.{HaveDistinctIds, IsTypedClient, NetClient, net_of};
-ghost use Rattle.dhcp4_net.specs.Net.{Net, NetEvent};
+ghost use Rattle.dhcp4_net.specs.Clients.{HaveDistinctIds, IsTypedClient, net_of};
+ghost use Rattle.dhcp4_net.specs.declared.script.NetClient.{NetClient};
+ghost use Rattle.dhcp4_net.specs.Net.{Net};
+ghost use Rattle.dhcp4_net.specs.declared.script.NetEvent.{NetEvent};
 ghost use Rattle.dhcp4_net.specs.OneAddress.{OneAddress, OneHolder};
+
+pub use log::SentPacket;
+pub use output::{NetOutput, NetWhat};
+pub use script::{NetAct, NetClient, NetEvent, NetScript, NetWho};
 
 /// In every network of a lawful server and clients with different transaction ids, after whatever
 /// events may come, no moment is covered by two holds of one address by different clients; and no
