@@ -6,5 +6,6 @@ pub mod NetworkLemmas
 pub mod OptionLemmas
 pub mod PeerLemmas
 pub mod RunLemmas
+pub mod RunningLemmas
 pub mod SentLemmas
 pub mod ServeLemmas

@@ -5,4 +5,5 @@ pub mod Kept
 pub mod Net
 pub mod Network
 pub mod OneAddress
+pub mod Running
 pub mod Safe

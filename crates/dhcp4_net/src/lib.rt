@@ -4,6 +4,7 @@
 mod log;
 mod output;
 mod peer;
+mod running;
 mod script;
 
 ghost use Rattle.std.specs.Prelude.{◌≡◌, ℕ, List, Some, true, All, length};
