@@ -7,3 +7,4 @@ pub mod Network
 pub mod OneAddress
 pub mod Running
 pub mod Safe
+pub mod Script

@@ -19,7 +19,7 @@ ghost use Rattle.dhcp4_net.specs.OneAddress.{OneAddress, OneHolder};
 
 pub use log::SentPacket;
 pub use output::{NetOutput, NetWhat};
-pub use script::{NetAct, NetClient, NetEvent, NetScript, NetWho};
+pub use script::{MAX_CLIENTS, MAX_EVENTS, NetAct, NetClient, NetEvent, NetScript, NetWho};
 
 /// In every network of a lawful server and clients with different transaction ids, after whatever
 /// events may come, no moment is covered by two holds of one address by different clients; and no

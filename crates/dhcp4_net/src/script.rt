@@ -1,7 +1,21 @@
 //! The script of a network: one server, its clients, and what happens when.
 
+ghost use Rattle.std.specs.Prelude.{◌≡◌};
+ghost use Rattle.std.specs.List.{list_all};
+ghost use Rattle.dhcp4_net.specs.Clients as clients;
+ghost use Rattle.dhcp4_net.specs.Script as scripts;
+
 use dhcp_wire::Sequence;
 use dhcp4_server::ServerConfig;
+
+/// How many clients a network has at most.
+pub const MAX_CLIENTS: usize = 64;
+
+/// How many events a script has at most.
+pub const MAX_EVENTS: usize = 20_000;
+
+// Every moment is below this one, in milliseconds.
+const MOMENT_LIMIT: u64 = 1 << 60;
 
 /// A client of a network, on interface 1, which asks for the options 1, 3 and 6 and has no lease at
 /// the start.
@@ -57,4 +71,68 @@ pub struct NetScript {
     pub start: u64,
     /// The events, in the order in which they happen.
     pub events: Sequence<NetEvent>,
+}
+
+impl NetClient {
+    /// The transaction id with which it begins.
+    pub fn xid(&self) -> u32
+        ensures { result ≡ clients.xid_of self.now }
+    {
+        match self.words.as_slice().first() {
+            Some(word) => *word,
+            None => 0,
+        }
+    }
+}
+
+impl NetScript {
+    /// Whether it is within its limits: a server can have its configuration; it has 1 to 64
+    /// clients, with different transaction ids, and at most 20,000 events, all before 2^60
+    /// milliseconds.
+    #[tactic(auto, unfolding(crate::specs::Script::is_within_limits))]
+    pub fn is_within_limits(&self) -> bool
+        ensures { result ≡ scripts.is_within_limits self.now }
+    {
+        self.server.is_lawful()
+            && 0 < self.clients.len()
+            && self.clients.len() <= MAX_CLIENTS
+            && are_distinct(self.clients.as_slice())
+            && self.events.len() <= MAX_EVENTS
+            && are_early(self.events.as_slice())
+    }
+}
+
+// Whether the transaction ids of clients differ.
+fn are_distinct(clients: &[NetClient]) -> bool
+    ensures { result ≡ scripts.are_distinct clients.now }
+{
+    for place in 0..clients.len() {
+        if has_id(clients[place].xid(), &clients[place + 1..]) {
+            return false;
+        }
+    }
+    true
+}
+
+// Whether a client with this transaction id is among these.
+fn has_id(xid: u32, clients: &[NetClient]) -> bool
+    ensures { result ≡ scripts.has_id xid clients.now }
+{
+    clients.iter().any(|client| client.xid() == xid)
+}
+
+// Whether all events are before 2^60 milliseconds.
+fn are_early(events: &[NetEvent]) -> bool
+    ensures { result ≡ list_all scripts.is_early events.now }
+{
+    events.iter().all(NetEvent::is_early)
+}
+
+impl NetEvent {
+    // Whether it is before 2^60 milliseconds.
+    fn is_early(&self) -> bool
+        ensures { result ≡ scripts.is_early self.now }
+    {
+        self.moment < MOMENT_LIMIT
+    }
 }
