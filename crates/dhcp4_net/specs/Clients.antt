@@ -61,12 +61,17 @@ begun client = record {
   words = drop 1 client.words;
 }
 
+-- the views of clients at their start, by their numbers
+abbrev pub views_of : List NetClient → ℕ → View ClientState Exchange
+views_of clients number = begun (client_at clients number)
+
+-- the network at its start
 abbrev pub net_at : ℕ → List NetClient → Net
 net_at start clients = record {
   now = start;
   acks = [];
   sent = [];
-  clients = λ number. begun (client_at clients number);
+  clients = views_of clients;
   outputs = [];
 }
 

@@ -1,18 +1,22 @@
 //! A network as it runs, event by event.
 
-ghost use Rattle.std.specs.Prelude.{◌≡◌, ◌≤◌, ◌<◌, ◌^◌, ℕ, IfErr, IfOk, OnOk, length};
+ghost use Rattle.std.specs.Prelude.{◌≡◌, ◌≤◌, ◌<◌, ◌^◌, ℕ, IfErr, IfOk, OnOk, length, true};
 ghost use Rattle.dhcp_wire.specs.Error.{no_memory};
 ghost use Rattle.dhcp_wire.specs.Outcome.{Finds, Makes};
 ghost use Rattle.dhcp4_lease.specs.Config.{Config};
+ghost use Rattle.std.specs.List.{list_all};
 ghost use Rattle.dhcp4_server.specs.Answer.{answer_to};
+ghost use Rattle.dhcp4_server.specs.Config.{is_lawful};
 ghost use Rattle.dhcp4_server.specs.declared.config.ServerConfig.{ServerConfig};
 ghost use Rattle.dhcp4_net.specs.Net as nets;
 ghost use Rattle.dhcp4_net.specs.Net.{Net};
-ghost use Rattle.dhcp4_net.specs.Running.{PlaysAt, StandsForNet, StepsTo};
+ghost use Rattle.dhcp4_net.specs.Running.{ArePeers, PlaysAt, StandsForNet, StepsTo};
+ghost use Rattle.dhcp4_net.specs.Clients.{net_at, views_of};
+ghost use Rattle.dhcp4_net.specs.Script.{configs_of, is_early};
 
 use crate::log::{At, NetLog, SentPacket};
-use crate::peer::Peer;
-use crate::{NetAct, NetEvent, NetWho};
+use crate::peer::{Peer, begun};
+use crate::{NetAct, NetClient, NetEvent, NetOutput, NetScript, NetWho};
 use dhcp_clock::{Handed, Packet};
 use dhcp_history::{Event, Input, Output, Reported};
 use dhcp_wire::{Bytes, DhcpError};
@@ -93,11 +97,12 @@ impl RunningNet {
     /// Lets an event come: false if and only if it may not come. Out of memory is the only error.
     pub(crate) fn step(&mut self, number: u32, event: &NetEvent) -> Result<bool, DhcpError>
         requires moment { event.now.moment < 2 ^ 60 }
-        ensures { (config : ServerConfig) (configs : ℕ → Config) (count : ℕ) (net : Net) →
+        ensures steps { (config : ServerConfig) (configs : ℕ → Config) (count : ℕ) (net : Net) →
             StandsForNet config configs count self.old net →
             StepsTo config configs count result self.new
             (nets.after_event (answer_to config) configs config.bound_ms count net number
             event.now) }
+        ensures error { IfErr result (λ error. error ≡ no_memory) }
     {
         if event.moment < self.now {
             return Ok(false);
@@ -122,11 +127,12 @@ impl RunningNet {
         act: NetAct,
     ) -> Result<bool, DhcpError>
         requires moment { at.moment < 2 ^ 60 }
-        ensures { (config : ServerConfig) (configs : ℕ → Config) (count : ℕ) (net : Net) →
+        ensures steps { (config : ServerConfig) (configs : ℕ → Config) (count : ℕ) (net : Net) →
             StandsForNet config configs count self.old net → net.now ≤ at.moment →
             StepsTo config configs count result self.new
             (nets.after_who (answer_to config) configs config.bound_ms count net at.event at.moment
             (NetWho.Client client refuse act)) }
+        ensures error { IfErr result (λ error. error ≡ no_memory) }
     {
         if client as usize >= self.peers.len() {
             return Ok(false);
@@ -174,11 +180,12 @@ impl RunningNet {
     // Lets an event of the server come.
     fn server_event(&mut self, at: At, number: u32) -> Result<bool, DhcpError>
         requires moment { at.moment < 2 ^ 60 }
-        ensures { (config : ServerConfig) (configs : ℕ → Config) (count : ℕ) (net : Net) →
+        ensures steps { (config : ServerConfig) (configs : ℕ → Config) (count : ℕ) (net : Net) →
             StandsForNet config configs count self.old net → net.now ≤ at.moment →
             StepsTo config configs count result self.new
             (nets.after_who (answer_to config) configs config.bound_ms count net at.event at.moment
             (NetWho.Server number)) }
+        ensures error { IfErr result (λ error. error ≡ no_memory) }
     {
         let bound = self.bound_ms;
         let Some(packet) = delivered(self.log.sent(), bound, at.moment, number) else {
@@ -191,4 +198,68 @@ impl RunningNet {
         self.now = at.moment;
         Ok(true)
     }
+}
+
+impl RunningNet {
+    /// The network of a script at its start. Out of memory is the only error.
+    pub(crate) fn begun(alloc: Global, script: &NetScript) -> Result<RunningNet, DhcpError>
+        requires { is_lawful script.now.server ≡ true }
+        ensures stands { IfOk result (λ net. StandsForNet script.now.server
+            (configs_of script.now.clients) (length script.now.clients) net
+            (net_at script.now.start script.now.clients)) }
+        ensures error { IfErr result (λ error. error ≡ no_memory) }
+    {
+        let peers = begun_peers(alloc, script.clients.as_slice())?;
+        let config = script.server;
+        let server = DhcpV4Server::new(alloc, config)?;
+        Ok(RunningNet {
+            alloc,
+            server,
+            peers,
+            log: NetLog::new(alloc),
+            now: script.start,
+            bound_ms: config.bound_ms,
+        })
+    }
+
+    /// Lets events come: false if and only if one may not come. Out of memory is the only error.
+    pub(crate) fn play_all(&mut self, events: &[NetEvent]) -> Result<bool, DhcpError>
+        requires early { list_all is_early events.now ≡ true }
+        requires few { length events.now ≤ 20000 }
+        ensures steps { (config : ServerConfig) (configs : ℕ → Config) (count : ℕ) (net : Net) →
+            StandsForNet config configs count self.old net →
+            StepsTo config configs count result self.new
+            (nets.net_after (answer_to config) configs config.bound_ms count net 1 events.now) }
+        ensures error { IfErr result (λ error. error ≡ no_memory) }
+    {
+        let mut number = 1u32;
+        for event in events {
+            if !self.step(number, event)? {
+                return Ok(false);
+            }
+            number += 1;
+        }
+        Ok(true)
+    }
+
+    /// What was reported.
+    pub(crate) fn into_outputs(self) -> Vec<NetOutput>
+        ensures { result.items ≡ self.log.outputs }
+    {
+        self.log.into_outputs()
+    }
+}
+
+// The clients of a network at its start. Out of memory is the only error.
+fn begun_peers(alloc: Global, clients: &[NetClient]) -> Result<Vec<Peer>, DhcpError>
+    ensures peers { IfOk result (λ peers. ArePeers (configs_of clients.now)
+        (views_of clients.now) peers.items) }
+    ensures count { IfOk result (λ peers. length peers.items ≡ length clients.now) }
+    ensures error { IfErr result (λ error. error ≡ no_memory) }
+{
+    let mut peers = Vec::new(alloc);
+    for client in clients {
+        peers.push(begun(alloc, client)?)?;
+    }
+    Ok(peers)
 }
