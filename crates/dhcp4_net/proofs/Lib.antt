@@ -7,5 +7,6 @@ pub mod OptionLemmas
 pub mod PeerLemmas
 pub mod RunLemmas
 pub mod RunningLemmas
+pub mod ScriptLemmas
 pub mod SentLemmas
 pub mod ServeLemmas

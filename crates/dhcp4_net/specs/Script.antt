@@ -1,5 +1,5 @@
 -- The script of a network: its limits, and the network after it.
-use Rattle.std.specs.Prelude.{◌≡◌, ℕ, ◌^◌, ◌==◌, Bool, true, not, ◌&&◌, nat_lt, nat_le, List, [], ◌∷◌, length, Option, None, option_map, if◌then◌else◌}
+use Rattle.std.specs.Prelude.{◌≡◌, ℕ, ◌^◌, ◌≤◌, ◌==◌, Bool, true, not, ◌&&◌, nat_lt, nat_le, List, [], ◌∷◌, length, Option, None, option_map, if◌then◌else◌}
 use Rattle.std.specs.List.{list_all, list_any}
 use Rattle.dhcp4_lease.specs.Config.{Config}
 use Rattle.dhcp4_server.specs.Answer.{answer_to}
@@ -34,6 +34,14 @@ is_within_limits script =
     is_lawful script.server && nat_lt 0 (length script.clients)
     && nat_le (length script.clients) 64 && are_distinct script.clients
     && nat_le (length script.events) 20000 && list_all is_early script.events
+
+-- what the limits say
+pub record IsWithin (script : NetScript) : Type 0 where
+  pub within : is_within_limits script ≡ true
+  pub lawful : is_lawful script.server ≡ true
+  pub distinct : are_distinct script.clients ≡ true
+  pub few : length script.events ≤ 20000
+  pub early : list_all is_early script.events ≡ true
 
 -- the network after the events of a script, if it is valid: it is within its limits, and each event
 -- may come

@@ -2,6 +2,7 @@
 #![tactic(auto)]
 
 mod log;
+mod net;
 mod output;
 mod peer;
 mod running;
@@ -18,6 +19,7 @@ ghost use Rattle.dhcp4_net.specs.declared.script.NetEvent.{NetEvent};
 ghost use Rattle.dhcp4_net.specs.OneAddress.{OneAddress, OneHolder};
 
 pub use log::SentPacket;
+pub use net::run_net;
 pub use output::{NetOutput, NetWhat};
 pub use script::{MAX_CLIENTS, MAX_EVENTS, NetAct, NetClient, NetEvent, NetScript, NetWho};
 
