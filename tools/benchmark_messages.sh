@@ -1,6 +1,6 @@
 #!/bin/sh
 # Times the reading and writing of messages of both families, frames, lists of DHCPv6 options and
-# relay messages.
+# relay messages, and what a server does with a message.
 #
 #   tools/benchmark_messages.sh      at the repository's top, after `rt run < stdin -- frame 3`
 #                                    in crates/dhcp_bench has built the program
@@ -96,6 +96,14 @@ frame 342
 measure frame_of_342_bytes frame 200000
 frame 1500
 measure frame_of_1500_bytes frame 100000
+
+# A Discover and a Request of the last address, to a server all of whose other addresses are bound.
+for pool in serve256 serve65536; do
+    message 350101ff 244
+    measure discover_to_a_server "$pool" 200000
+    message 35010332040affffffff 250
+    measure request_to_a_server "$pool" 200000
+done
 
 # Lists of DHCPv6 options: a piece of hex in front, and then one piece for each number of a range.
 options6() { # the piece in front, a format for each number, the first number, the last, the step

@@ -2,7 +2,7 @@
 
 use dhcp_clock::{Packet, PacketKind};
 use dhcp_wire::{BufferMut, Bytes, DhcpError};
-use dhcp4_msg::{DhcpV4Message, DhcpV4MessageType, DhcpV4Option};
+use dhcp4_msg::{DhcpV4Message, DhcpV4MessageType, DhcpV4Option, DhcpV4Options};
 use dhcp4_server::{DhcpV4Server, ServerAnswer, ServerConfig};
 use std::alloc::Global;
 use std::net::Ipv4Addr;
@@ -60,12 +60,18 @@ fn fill(alloc: Global, server: &mut DhcpV4Server, count: u32) -> Result<(), Dhcp
 fn request(alloc: Global, xid: u32, address: Ipv4Addr) -> Result<Bytes, DhcpError> {
     let mut message = DhcpV4Message::empty(alloc);
     message.xid = xid;
-    let options = &mut message.options;
-    options.insert(DhcpV4Option::MessageType(DhcpV4MessageType::Request))?;
-    options.insert(DhcpV4Option::RequestedIpAddress(address))?;
+    ask(&mut message.options, address)?;
     let mut buffer = BufferMut::new(alloc);
     message.emit(&mut buffer)?;
     Ok(buffer.into_bytes())
+}
+
+// Makes a message a Request for this address.
+#[tactic(auto, unfolding(dhcp4_msg::specs::Value::fits, dhcp4_msg::specs::Value::written_value))]
+fn ask(options: &mut DhcpV4Options, address: Ipv4Addr) -> Result<(), DhcpError> {
+    let _address = address.octets();
+    options.insert(DhcpV4Option::MessageType(DhcpV4MessageType::Request))?;
+    options.insert(DhcpV4Option::RequestedIpAddress(address))
 }
 
 // The configuration of a server with a pool of so many addresses.

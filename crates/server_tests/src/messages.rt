@@ -34,6 +34,7 @@ pub fn config(count: u32) -> ServerConfig {
 }
 
 // A message of this type by the client with this transaction id.
+#[tactic(auto, unfolding(dhcp4_msg::specs::Value::fits, dhcp4_msg::specs::Value::written_value))]
 fn message(alloc: Global, xid: u32, kind: DhcpV4MessageType) -> Result<DhcpV4Message, DhcpError> {
     let mut message = DhcpV4Message::empty(alloc);
     message.xid = xid;
@@ -66,7 +67,10 @@ pub fn request(
 }
 
 // Adds the address that a Request asks for, and the server that it is for.
+#[tactic(auto, unfolding(dhcp4_msg::specs::Value::fits, dhcp4_msg::specs::Value::written_value))]
 fn ask(options: &mut DhcpV4Options, server: Ipv4Addr, address: Ipv4Addr) -> Result<(), DhcpError> {
+    let _server = server.octets();
+    let _address = address.octets();
     options.insert(DhcpV4Option::RequestedIpAddress(address))?;
     options.insert(DhcpV4Option::ServerIdentifier(server))
 }
