@@ -1,8 +1,8 @@
 pub mod AnswerLemmas
 pub mod ClientLemmas
+pub mod HoldLemmas
 pub mod KeptLemmas
 pub mod NetLemmas
-pub mod NetworkLemmas
 pub mod OptionLemmas
 pub mod PeerLemmas
 pub mod RunLemmas

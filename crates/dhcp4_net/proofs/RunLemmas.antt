@@ -20,11 +20,11 @@ use Rattle.dhcp_history.specs.EventLoop.{event_at}
 use Rattle.dhcp_history.specs.Machine.{EventEffect, View}
 use Rattle.dhcp4_net.specs.Kept as kept
 use Rattle.dhcp4_server.specs.Ack.{Ack, AreLawful}
-use Rattle.dhcp4_net.specs.Network.{Covers, Grant}
-use Rattle.dhcp4_net.specs.Network as networks
-use Rattle.dhcp4_net.specs.Safe.{IsBacked, IsGranted, RestsOn}
+use Rattle.dhcp4_net.specs.Hold.{Covers, Grant}
+use Rattle.dhcp4_net.specs.Hold as holds
+use Rattle.dhcp4_net.specs.Hold.{IsBacked, IsGranted, RestsOn}
 use Rattle.dhcp4_server.proofs.AckLemmas.{lawful_later, same_if_not_other}
-use Rattle.dhcp4_net.proofs.NetworkLemmas.{backed_later, backed_more, granted_more, granted_now, held_apart}
+use Rattle.dhcp4_net.proofs.HoldLemmas.{backed_later, backed_more, granted_more, granted_now, held_apart}
 use Rattle.dhcp4_lease.specs.Config.{Config, is_within_limits}
 use Rattle.dhcp4_lease.specs.Laws.{IsTyped}
 use Rattle.dhcp4_lease.specs.Lease.{Lease}
@@ -67,7 +67,7 @@ module _ (serve : List Ack → ℕ → Packet → Served) (configs : ℕ → Con
 
   -- 1. What holds of the network.
 
-  abbrev sent_of : SentPacket → networks.Sent
+  abbrev sent_of : SentPacket → holds.Sent
   sent_of one = record { moment = one.moment; grant = grant_of one.packet }
 
   record IsSentSoundly (acks : List Ack) (now : ℕ) (one : SentPacket) : Type 0 where

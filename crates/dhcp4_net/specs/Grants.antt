@@ -10,7 +10,7 @@ use Rattle.dhcp_clock.specs.declared.link.PacketKind.TheVariants as kinds
 use Rattle.dhcp_history.specs.BoundLease.{Bound}
 use Rattle.dhcp_history.specs.declared.script.Input.{Input}
 use Rattle.dhcp_history.specs.declared.script.Input.TheVariants.{Nothing, Arrival, Release, CleanUp}
-use Rattle.dhcp4_net.specs.Network.{Grant}
+use Rattle.dhcp4_net.specs.Hold.{Grant}
 use Rattle.dhcp4_server.specs.Request.{CanBeAnswered, message_to_server}
 use Rattle.dhcp4_msg.specs.declared.message.DhcpV4Message.{DhcpV4Message}
 use Rattle.dhcp4_msg.specs.declared.message_type.DhcpV4MessageType.TheVariants.{Offer, Ack}

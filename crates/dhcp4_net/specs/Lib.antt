@@ -1,10 +1,9 @@
 pub mod Becomes
 pub mod Clients
 pub mod Grants
+pub mod Hold
 pub mod Kept
 pub mod Net
-pub mod Network
 pub mod OneAddress
 pub mod Running
-pub mod Safe
 pub mod Script

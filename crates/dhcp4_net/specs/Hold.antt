@@ -1,7 +1,28 @@
--- What holds of a network at each moment: each packet that grants and each hold rests on an Ack.
-use Rattle.std.specs.Prelude.{◌≡◌, ℕ, ◌+◌, ◌≤◌, All, List, Option, Some, None}
-use Rattle.dhcp4_server.specs.Ack.{Ack, AreLawful, IsAmong}
-use Rattle.dhcp4_net.specs.Network.{Grant, Hold, Network, Sent}
+-- Holds of addresses, and the Acks on which they rest.
+use Rattle.std.specs.Prelude.{◌≡◌, ℕ, ◌+◌, ◌≤◌, ◌<◌, List, Option, Some, None}
+use Rattle.dhcp4_server.specs.Ack.{Ack, IsAmong}
+
+-- what an Ack grants: an address to the client with a transaction id
+pub record Grant : Type 0 where
+  pub xid : ℕ
+  pub address : ℕ
+
+-- a packet that was sent: when, and what it grants if it is delivered
+pub record Sent : Type 0 where
+  pub moment : ℕ
+  pub grant : Option Grant
+
+-- an address that the client with this transaction id holds, from a moment on up to another
+pub record Hold : Type 0 where
+  pub xid : ℕ
+  pub address : ℕ
+  pub from : ℕ
+  pub until : ℕ
+
+-- whether a hold has begun at a moment and is not over
+pub record Covers (moment : ℕ) (hold : Hold) : Type 0 where
+  pub begun : hold.from ≤ moment
+  pub lasts : moment < hold.until
 
 -- a packet that was sent at a moment with such a grant, or with none
 abbrev pub RestsOn : List Ack → ℕ → Option Grant → Type 0
@@ -24,8 +45,3 @@ module _ (lease bound : ℕ) where
     pub later : ack.moment ≤ hold.from
     pub in_time : hold.from ≤ ack.moment + bound
     pub until : hold.until ≡ hold.from + lease
-
-  pub record IsSafe (network : Network) : Type 0 where
-    pub acks : AreLawful (lease + bound) network.now network.acks
-    pub sent : All (IsBacked network.acks network.now) network.sent
-    pub holds : All (IsGranted network.acks) network.holds
