@@ -51,12 +51,12 @@ pub fn replies_read_back(config: &ServerConfig, message: &DhcpV4Message, decisio
     ensures framed { IfSome (reply_by config.now message.now decision)
         (λ reply. IsFramed (reply_frame config.now (written_message reply))) }
 {
-    is_typed(config);
+    a_configuration_is_typed(config);
     can_be_answered(message);
 }
 
-// What the types of a configuration keep.
-fn is_typed(config: &ServerConfig)
+/// What the types of a configuration keep.
+pub fn a_configuration_is_typed(config: &ServerConfig)
     ensures { IsTyped config.now }
 {
     let ip = config.ip;

@@ -34,10 +34,10 @@ module _ (config : ServerConfig) (typed : IsTyped config) (message : DhcpV4Messa
   framed decisions.Refuse = frame_back config typed (written_message (refusing config message)) (short decisions.Refuse)
 
 pub returns-clause-read_back : goal.returns-clause-read_back
-returns-clause-read_back c = back c.args.config.now c.is_typed.ensures c.args.message.now c.can_be_answered.ensures c.args.decision
+returns-clause-read_back c = back c.args.config.now c.a_configuration_is_typed.ensures c.args.message.now c.can_be_answered.ensures c.args.decision
 
 pub returns-clause-short : goal.returns-clause-short
-returns-clause-short c = short c.args.config.now c.is_typed.ensures c.args.message.now c.can_be_answered.ensures c.args.decision
+returns-clause-short c = short c.args.config.now c.a_configuration_is_typed.ensures c.args.message.now c.can_be_answered.ensures c.args.decision
 
 pub returns-clause-framed : goal.returns-clause-framed
-returns-clause-framed c = framed c.args.config.now c.is_typed.ensures c.args.message.now c.can_be_answered.ensures c.args.decision
+returns-clause-framed c = framed c.args.config.now c.a_configuration_is_typed.ensures c.args.message.now c.can_be_answered.ensures c.args.decision

@@ -1,0 +1,12 @@
+pub mod AnswerLemmas
+pub mod ClientLemmas
+pub mod HoldLemmas
+pub mod KeptLemmas
+pub mod NetLemmas
+pub mod OptionLemmas
+pub mod PeerLemmas
+pub mod RunLemmas
+pub mod RunningLemmas
+pub mod ScriptLemmas
+pub mod SentLemmas
+pub mod ServeLemmas

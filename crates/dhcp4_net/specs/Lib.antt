@@ -1,0 +1,9 @@
+pub mod Becomes
+pub mod Clients
+pub mod Grants
+pub mod Hold
+pub mod Kept
+pub mod Net
+pub mod OneAddress
+pub mod Running
+pub mod Script
