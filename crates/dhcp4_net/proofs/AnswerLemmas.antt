@@ -143,7 +143,7 @@ read_granted lease_sec awaited xid packet words lease sound grants read =
     let message : DhcpV4Message = read.message in
     let has : IsLeaseOf message lease = lease_is_of message words lease read.lease_is in
     let is_ack : is_of_type Ack message ≡ true = subst (λ kind. is_of_type kind message ≡ true) grants read.kind in
-    let own : message.xid ≡ xid = same_number message.xid xid (both_true (message.xid == xid) (is_of_type awaited.grant message || is_refusal awaited message) read.is_for.concerns).0 in
+    let own : message.xid ≡ xid = same_number message.xid xid (both_true (message.xid == xid) (is_of_type awaited.grant message || is_refusal awaited.refuser message) read.is_for.concerns).0 in
     let said : Some lease.lease_time_sec ≡ Some lease_sec = sym has.said ∙ sound.lease message read.is_for.read is_ack in
     record {
       grant = ap (λ (found : Option DhcpV4Message). found >>= grant_in) read.is_for.read

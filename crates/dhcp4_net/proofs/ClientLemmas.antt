@@ -15,8 +15,13 @@ use Rattle.dhcp4_msg.specs.declared.message_type.DhcpV4MessageType.TheVariants.{
 use Rattle.dhcp4_lease.specs.Config.{Config, is_within_limits}
 use Rattle.dhcp4_lease.specs.Laws.{IsTyped}
 use Rattle.dhcp4_lease.specs.Lease.{Lease}
-use Rattle.dhcp4_client.specs.Answer.{ack_in, is_of_type, message_for, reading_of}
-use Rattle.dhcp4_client.specs.Rules.{after_answer, after_end, protocol, public_state, reading}
+use Rattle.dhcp4_lease.specs.declared.message_forms.DhcpV4MessageForms.{DhcpV4MessageForms}
+use Rattle.dhcp4_lease.specs.declared.message_forms.DhcpV4MessageForms.TheVariants.{Mozim, Rfc2131}
+use Rattle.dhcp4_client.specs.Answer.{ack_in, is_of_type, message_for, reading_of, refuser_of, renewal_carrier}
+use Rattle.dhcp4_client.specs.Message.{renewal_server}
+use Rattle.dhcp4_client.specs.Rules.{after_answer, after_end, protocol, public_state, reading, requesting}
+use Rattle.dhcp4_client.specs.declared.answer.Refuser.{Refuser}
+use Rattle.dhcp4_client.specs.declared.answer.Refuser.TheVariants.{Nobody, AnyServer}
 use Rattle.dhcp4_client.specs.declared.answer.Answer.{Answer}
 use Rattle.dhcp4_client.specs.declared.answer.Answer.TheVariants.{Granted, Refused}
 use Rattle.dhcp4_client.specs.declared.answer.Awaited.{Awaited}
@@ -51,21 +56,21 @@ module _ (config : Config) (within : IsTrue (is_within_limits config)) (typed : 
     whole : IsWhole lease
     granted : GrantedIn lease_sec xid input lease
 
-  ack_grants : (carrier : PacketKind) (exchange : Exchange) (packet : Packet) (words : List ℕ) (lease : Lease) → Good exchange → Comes packet →
-      (reading_of (Some (ack_in carrier)) (message_for (Some (ack_in carrier)) exchange.xid packet) words).value ≡ Some (Granted lease) → Grants lease
-  ack_grants carrier exchange packet words lease good comes e =
-      let read : IsRead (ack_in carrier) exchange.xid packet words lease = answer_is_read (ack_in carrier) exchange.xid packet words lease e in
-      let granted : IsGrantedBy lease_sec exchange.xid packet lease = read_granted lease_sec (ack_in carrier) exchange.xid packet words lease comes.1 refl read in
+  ack_grants : (carrier : PacketKind) (refuser : Refuser) (exchange : Exchange) (packet : Packet) (words : List ℕ) (lease : Lease) → Good exchange → Comes packet →
+      (reading_of (Some (ack_in carrier refuser)) (message_for (Some (ack_in carrier refuser)) exchange.xid packet) words).value ≡ Some (Granted lease) → Grants lease
+  ack_grants carrier refuser exchange packet words lease good comes e =
+      let read : IsRead (ack_in carrier refuser) exchange.xid packet words lease = answer_is_read (ack_in carrier refuser) exchange.xid packet words lease e in
+      let granted : IsGrantedBy lease_sec exchange.xid packet lease = read_granted lease_sec (ack_in carrier refuser) exchange.xid packet words lease comes.1 refl read in
       record {
-        whole = read_whole lease_sec (ack_in carrier) exchange.xid packet words lease comes.1 read (second_of_two (is_of_type Offer read.message) (is_of_type Ack read.message) read.kind);
+        whole = read_whole lease_sec (ack_in carrier refuser) exchange.xid packet words lease comes.1 read (second_of_two (is_of_type Offer read.message) (is_of_type Ack read.message) read.kind);
         granted = subst (λ (brought : Input Packet). GrantedIn lease_sec xid brought lease) (sym comes.0)
             (subst (λ (id : ℕ). IsGrantedBy lease_sec id packet lease) good granted);
       }
 
   offer_whole : (exchange : Exchange) (packet : Packet) (words : List ℕ) (lease : Lease) → Comes packet →
-      (reading states.InitReboot exchange packet words).value ≡ Some (Granted lease) → IsWhole lease
+      (reading config.message_forms states.InitReboot exchange packet words).value ≡ Some (Granted lease) → IsWhole lease
   offer_whole exchange packet words lease comes e =
-      let awaited : Awaited = record { carrier = kinds.Frame; grant = Offer; may_refuse = false } in
+      let awaited : Awaited = record { carrier = kinds.Frame; grant = Offer; refuser = Nobody } in
       let read : IsRead awaited exchange.xid packet words lease = answer_is_read awaited exchange.xid packet words lease e in
       read_whole lease_sec awaited exchange.xid packet words lease comes.1 read (first_of_two (is_of_type Offer read.message) (is_of_type Ack read.message) read.kind)
 
@@ -73,28 +78,32 @@ module _ (config : Config) (within : IsTrue (is_within_limits config)) (typed : 
   bound_held lease grants = (grants.whole, backs lease grants.granted)
 
   answered_held : (state : ClientState) (exchange : Exchange) (packet : Packet) (words : List ℕ) (answer : Answer) → Good exchange → Held state → Comes packet →
-      (reading state exchange packet words).value ≡ Some answer → Held (after_answer state answer moment exchange).state
+      (reading config.message_forms state exchange packet words).value ≡ Some answer → Held (after_answer config.message_forms state answer moment exchange).state
   answered_held state exchange packet words Refused good held comes e = (tt, tt)
   answered_held states.InitReboot exchange packet words (Granted lease) good held comes e = (offer_whole exchange packet words lease comes e, tt)
-  answered_held (states.Selecting offer) exchange packet words (Granted lease) good held comes e = bound_held lease (ack_grants kinds.Frame exchange packet words lease good comes e)
-  answered_held (states.Rebooting before) exchange packet words (Granted lease) good held comes e = bound_held lease (ack_grants kinds.Frame exchange packet words lease good comes e)
+  answered_held (states.Selecting offer) exchange packet words (Granted lease) good held comes e = bound_held lease (ack_grants kinds.Frame (refuser_of config.message_forms offer) exchange packet words lease good comes e)
+  answered_held (states.Rebooting before) exchange packet words (Granted lease) good held comes e = bound_held lease (ack_grants kinds.Frame AnyServer exchange packet words lease good comes e)
   answered_held (states.Done bound) exchange packet words (Granted lease) good held comes e = absurd (cc e)
-  answered_held (states.Renewing bound) exchange packet words (Granted lease) good held comes e = bound_held lease (ack_grants kinds.Payload exchange packet words lease good comes e)
-  answered_held (states.Rebinding bound) exchange packet words (Granted lease) good held comes e = bound_held lease (ack_grants kinds.Frame exchange packet words lease good comes e)
+  answered_held (states.Renewing bound) exchange packet words (Granted lease) good held comes e = bound_held lease (ack_grants (renewal_carrier (renewal_server config.message_forms bound.lease)) (refuser_of config.message_forms bound.lease) exchange packet words lease good comes e)
+  answered_held (states.Rebinding bound) exchange packet words (Granted lease) good held comes e = bound_held lease (ack_grants kinds.Frame (refuser_of config.message_forms bound.lease) exchange packet words lease good comes e)
 
   answered_shows : (state : ClientState) (exchange : Exchange) (packet : Packet) (words : List ℕ) (answer : Answer) → Good exchange → Comes packet →
-      (reading state exchange packet words).value ≡ Some answer → Shows (public_state (after_answer state answer moment exchange).state)
+      (reading config.message_forms state exchange packet words).value ≡ Some answer → Shows (public_state (after_answer config.message_forms state answer moment exchange).state)
   answered_shows state exchange packet words Refused good comes e = tt
   answered_shows states.InitReboot exchange packet words (Granted lease) good comes e = tt
-  answered_shows (states.Selecting offer) exchange packet words (Granted lease) good comes e = (ack_grants kinds.Frame exchange packet words lease good comes e).granted
-  answered_shows (states.Rebooting before) exchange packet words (Granted lease) good comes e = (ack_grants kinds.Frame exchange packet words lease good comes e).granted
+  answered_shows (states.Selecting offer) exchange packet words (Granted lease) good comes e = (ack_grants kinds.Frame (refuser_of config.message_forms offer) exchange packet words lease good comes e).granted
+  answered_shows (states.Rebooting before) exchange packet words (Granted lease) good comes e = (ack_grants kinds.Frame AnyServer exchange packet words lease good comes e).granted
   answered_shows (states.Done bound) exchange packet words (Granted lease) good comes e = absurd (cc e)
-  answered_shows (states.Renewing bound) exchange packet words (Granted lease) good comes e = (ack_grants kinds.Payload exchange packet words lease good comes e).granted
-  answered_shows (states.Rebinding bound) exchange packet words (Granted lease) good comes e = (ack_grants kinds.Frame exchange packet words lease good comes e).granted
+  answered_shows (states.Renewing bound) exchange packet words (Granted lease) good comes e = (ack_grants (renewal_carrier (renewal_server config.message_forms bound.lease)) (refuser_of config.message_forms bound.lease) exchange packet words lease good comes e).granted
+  answered_shows (states.Rebinding bound) exchange packet words (Granted lease) good comes e = (ack_grants kinds.Frame (refuser_of config.message_forms bound.lease) exchange packet words lease good comes e).granted
 
-  answered_good : (state : ClientState) (answer : Answer) (now : ℕ) (exchange : Exchange) → Good exchange → Good (after_answer state answer now exchange).exchange
+  requesting_good : (forms : DhcpV4MessageForms) (exchange : Exchange) → Good exchange → Good (requesting forms exchange)
+  requesting_good Mozim exchange good = good
+  requesting_good Rfc2131 exchange good = good
+
+  answered_good : (state : ClientState) (answer : Answer) (now : ℕ) (exchange : Exchange) → Good exchange → Good (after_answer config.message_forms state answer now exchange).exchange
   answered_good state Refused now exchange good = good
-  answered_good states.InitReboot (Granted lease) now exchange good = good
+  answered_good states.InitReboot (Granted lease) now exchange good = requesting_good config.message_forms exchange good
   answered_good (states.Selecting offer) (Granted lease) now exchange good = good
   answered_good (states.Rebooting held) (Granted lease) now exchange good = good
   answered_good (states.Done bound) (Granted lease) now exchange good = good

@@ -3,6 +3,8 @@ use Rattle.std.proofs.Common.{◌≡◌, ℕ, zero, suc, ◌<◌, ◌≤◌, ◌
 use Rattle.std.specs.Prelude.{Option, Some, None, ◌==◌, ◌||◌, if◌then◌else◌}
 use Rattle.std.specs.Net.Addr.{IsIpv4Addr, ipv4_bits, ipv4_octets}
 use Rattle.dhcp_wire.specs.Field.{◌>>=◌}
+use Rattle.std.specs.declared.net.Ipv4Addr.{Ipv4Addr}
+use Rattle.dhcp_clock.specs.declared.link.Handed.TheVariants as handed
 use Rattle.dhcp_clock.specs.declared.link.Packet.{Packet}
 use Rattle.dhcp_frame.specs.View.{read_frame}
 use Rattle.dhcp_frame.specs.Write.{frame_bytes}
@@ -15,6 +17,8 @@ use Rattle.dhcp4_msg.specs.Laws.{MessageReadsBack, read_back}
 use Rattle.dhcp4_msg.specs.Message.{no_address, read_message, written_message}
 use Rattle.dhcp4_msg.proofs.MessageLaw.{message_back}
 use Rattle.dhcp4_lease.specs.declared.message_table.Row.{Row}
+use Rattle.dhcp4_lease.specs.declared.message_forms.DhcpV4MessageForms.{DhcpV4MessageForms}
+use Rattle.dhcp4_lease.specs.declared.message_forms.DhcpV4MessageForms.TheVariants.{Mozim, Rfc2131}
 use Rattle.dhcp4_lease.specs.Config.{Config, is_within_limits}
 use Rattle.dhcp4_lease.specs.Laws.{IsRow, IsTyped}
 use Rattle.dhcp4_lease.specs.Lease.{Lease}
@@ -22,7 +26,7 @@ use Rattle.dhcp4_lease.specs.MessageTable as table
 use Rattle.dhcp4_lease.proofs.BuiltMessages.{no_address_is, row_reads_back}
 use Rattle.dhcp4_lease.proofs.ShortMessages.{row_is_short}
 use Rattle.dhcp4_client.specs.Answer.{payload_to_client, is_of_type}
-use Rattle.dhcp4_client.specs.Message.{attempt_message, broadcast, everyone, frame, framed_release, held_release, message_bytes, release_bytes, to_server}
+use Rattle.dhcp4_client.specs.Message.{attempt_message, broadcast, everyone, frame, framed_release, held_release, message_bytes, payload_release, renewal, renewal_of, renewal_server, release_server}
 use Rattle.dhcp4_client.specs.declared.client_state.ClientState.{ClientState}
 use Rattle.dhcp4_client.specs.declared.client_state.ClientState.TheVariants as states
 use Rattle.dhcp4_client.specs.Rules.{held_lease}
@@ -92,11 +96,13 @@ request_is lease whole = record { ciaddr = no_address_is; requested = whole.yiad
 reboot_is : (lease : Lease) → IsWhole lease → IsRow (table.reboot lease)
 reboot_is lease whole = record { ciaddr = no_address_is; requested = whole.yiaddr; server = tt }
 
-extend_is : (lease : Lease) → IsWhole lease → IsRow (table.extend lease)
-extend_is lease whole = record { ciaddr = whole.yiaddr; requested = whole.yiaddr; server = whole.server }
+extend_is : (forms : DhcpV4MessageForms) (lease : Lease) → IsWhole lease → IsRow (table.extend forms lease)
+extend_is Mozim lease whole = record { ciaddr = whole.yiaddr; requested = whole.yiaddr; server = whole.server }
+extend_is Rfc2131 lease whole = record { ciaddr = whole.yiaddr; requested = tt; server = tt }
 
-release_is : (lease : Lease) → IsWhole lease → IsRow (table.release lease)
-release_is lease whole = record { ciaddr = no_address_is; requested = whole.yiaddr; server = whole.server }
+release_is : (forms : DhcpV4MessageForms) (lease : Lease) → IsWhole lease → IsRow (table.release forms lease)
+release_is Mozim lease whole = record { ciaddr = no_address_is; requested = whole.yiaddr; server = whole.server }
+release_is Rfc2131 lease whole = record { ciaddr = whole.yiaddr; requested = tt; server = whole.server }
 
 request_other : ((type_number Request == type_number Offer) || (type_number Request == type_number Ack)) ≡ false
 unfolding type_number
@@ -105,6 +111,15 @@ request_other = refl
 release_other : ((type_number Release == type_number Offer) || (type_number Release == type_number Ack)) ≡ false
 unfolding type_number
 release_other = refl
+
+-- by either form a renewal is a Request and a release a Release
+extend_other : (forms : DhcpV4MessageForms) (lease : Lease) → ((type_number (table.extend forms lease).message_type == type_number Offer) || (type_number (table.extend forms lease).message_type == type_number Ack)) ≡ false
+extend_other Mozim lease = request_other
+extend_other Rfc2131 lease = request_other
+
+row_release_other : (forms : DhcpV4MessageForms) (lease : Lease) → ((type_number (table.release forms lease).message_type == type_number Offer) || (type_number (table.release forms lease).message_type == type_number Ack)) ≡ false
+row_release_other Mozim lease = release_other
+row_release_other Rfc2131 lease = release_other
 
 module _ (config : Config) (within : IsTrue (is_within_limits config)) (typed : IsTyped config) (xid : ℕ) (small : xid < 2 ^ 32) where
   -- the message of a row reads back, and a server can answer it
@@ -132,29 +147,36 @@ module _ (config : Config) (within : IsTrue (is_within_limits config)) (typed : 
       record { none = no_message_grants packet none; sound = λ lease_sec. no_message_sound lease_sec packet none answerable }
 
   -- a payload with the message of a row that is neither an Offer nor an Ack
-  payload_nothing : (lease : Lease) (one : Row) → IsRow one → ((type_number one.message_type == type_number Offer) || (type_number one.message_type == type_number Ack)) ≡ false →
-      GrantsNothing (to_server lease (message_bytes xid config one))
-  payload_nothing lease one is other =
-      let packet : Packet = packet_of (to_server lease (message_bytes xid config one)) in
+  payload_nothing : (here there : Ipv4Addr) (one : Row) → IsRow one → ((type_number one.message_type == type_number Offer) || (type_number one.message_type == type_number Ack)) ≡ false →
+      GrantsNothing (handed.Udp4 here there (message_bytes xid config one))
+  payload_nothing here there one is other =
+      let packet : Packet = packet_of (handed.Udp4 here there (message_bytes xid config one)) in
       let reply : DhcpV4Message = read_back (table.table_message xid config one) in
       let found : read_message (message_bytes xid config one) ≡ Some reply = row_back one is in
       let kind : is_offer_or_ack reply ≡ false = other_type reply one.message_type (type_of_row xid config one) other in
       let answerable : IsAnswerable packet = λ message read. subst CanBeAnswered (cc (found, read)) (row_answered one) in
       record { none = other_grants packet reply found kind; sound = λ lease_sec. other_sound lease_sec packet reply found kind answerable }
 
+  renewal_nothing : (lease : Lease) → IsWhole lease → GrantsNothing (renewal_of config lease (message_bytes xid config (table.extend config.message_forms lease)))
+  renewal_nothing lease whole = go (renewal_server config.message_forms lease)
+    where
+      go : (server : Option Ipv4Addr) → GrantsNothing (renewal config lease server (message_bytes xid config (table.extend config.message_forms lease)))
+      go None = broadcast_row (table.extend config.message_forms lease) (extend_is config.message_forms lease whole)
+      go (Some server) = payload_nothing lease.yiaddr server (table.extend config.message_forms lease) (extend_is config.message_forms lease whole) (extend_other config.message_forms lease)
+
   -- each message of an attempt, and the release of a lease, grants nothing
   pub attempt_nothing : (state : ClientState) → HoldsWhole state → GrantsNothing (attempt_message xid config state)
   attempt_nothing states.InitReboot whole = broadcast_row table.discover discover_is
   attempt_nothing (states.Selecting offer) whole = broadcast_row (table.request offer) (request_is offer whole)
   attempt_nothing (states.Rebooting held) whole = broadcast_row (table.reboot held) (reboot_is held whole)
-  attempt_nothing (states.Done bound) whole = payload_nothing bound.lease (table.extend bound.lease) (extend_is bound.lease whole) request_other
-  attempt_nothing (states.Renewing bound) whole = payload_nothing bound.lease (table.extend bound.lease) (extend_is bound.lease whole) request_other
-  attempt_nothing (states.Rebinding bound) whole = broadcast_row (table.extend bound.lease) (extend_is bound.lease whole)
+  attempt_nothing (states.Done bound) whole = renewal_nothing bound.lease whole
+  attempt_nothing (states.Renewing bound) whole = renewal_nothing bound.lease whole
+  attempt_nothing (states.Rebinding bound) whole = broadcast_row (table.extend config.message_forms bound.lease) (extend_is config.message_forms bound.lease whole)
 
   pub release_nothing : config.is_proxy ≡ false → (lease : Lease) → IsWhole lease → GrantsNothing (held_release xid config lease)
   release_nothing no_proxy lease whole =
-      subst (λ (proxy : Bool). GrantsNothing (if proxy then framed_release xid config lease else to_server lease (release_bytes xid config lease))) (sym no_proxy)
-      (payload_nothing lease (table.release lease) (release_is lease whole) release_other)
+      subst (λ (proxy : Bool). GrantsNothing (if proxy then framed_release xid config lease else payload_release xid config lease lease)) (sym no_proxy)
+      (payload_nothing lease.yiaddr (release_server config.message_forms lease.siaddr lease) (table.release config.message_forms lease) (release_is config.message_forms lease whole) (row_release_other config.message_forms lease))
 
 -- the lease of a state whose lease is whole is whole
 pub held_whole : (state : ClientState) (lease : Lease) → HoldsWhole state → held_lease state ≡ Some lease → IsWhole lease
