@@ -5,7 +5,7 @@ use Rattle.std.specs.List.{list_any}
 use Rattle.std.specs.Fmt.{decimal}
 use Rattle.std.specs.Int.{w16}
 use Rattle.dhcp_stream.specs.HexText.{address6_text, hex_text, numbers_text}
-use Rattle.dhcp_stream.specs.Line.{line}
+use Rattle.dhcp_stream.specs.Line.{line, spaced}
 use Rattle.dhcp6_msg.specs.declared.mode.DhcpV6Mode.TheVariants.{NonTemporaryAddresses}
 use Rattle.dhcp_script.specs.declared.event.Event.{Event}
 use Rattle.dhcp_script.specs.declared.event.EventWhat.{EventWhat}
@@ -13,7 +13,6 @@ use Rattle.dhcp_script.specs.declared.event.EventWhat.TheVariants.{Nothing, Fram
 use Rattle.dhcp_script.specs.declared.script6.Script6.{Script6}
 use Rattle.dhcp_script.specs.declared.version.Version.TheVariants.{Two}
 use Rattle.dhcp_script.specs.Codes.{listed_text}
-use Rattle.dhcp_script.specs.Field.{spaced}
 use Rattle.dhcp_script.specs.Life.{life_text}
 use Rattle.dhcp_script.specs.Script6.{IsScript6, mac_text}
 
