@@ -5,15 +5,14 @@ use Rattle.std.specs.List.{list_any}
 use Rattle.std.specs.Fmt.{decimal}
 use Rattle.std.specs.Int.{w16}
 use Rattle.dhcp_stream.specs.HexText.{address6_text, hex_text, numbers_text}
-use Rattle.dhcp_stream.specs.Line.{line}
+use Rattle.dhcp_stream.specs.Line.{line, spaced}
 use Rattle.dhcp6_msg.specs.declared.mode.DhcpV6Mode.TheVariants.{NonTemporaryAddresses}
 use Rattle.dhcp_script.specs.declared.event.Event.{Event}
 use Rattle.dhcp_script.specs.declared.event.EventWhat.{EventWhat}
 use Rattle.dhcp_script.specs.declared.event.EventWhat.TheVariants.{Nothing, Frame, Payload, Release, CleanUp}
 use Rattle.dhcp_script.specs.declared.script6.Script6.{Script6}
-use Rattle.dhcp_script.specs.declared.version.Version.TheVariants.{Two}
+use Rattle.dhcp_script.specs.declared.version.Version.TheVariants.{Later}
 use Rattle.dhcp_script.specs.Codes.{listed_text}
-use Rattle.dhcp_script.specs.Field.{spaced}
 use Rattle.dhcp_script.specs.Life.{life_text}
 use Rattle.dhcp_script.specs.Script6.{IsScript6, mac_text}
 
@@ -58,7 +57,7 @@ has_release events = list_any is_release events
 -- A script that has a text: one of an IPv6 client whose mode is that of IA_NA, as no other is read,
 -- that holds no lease and releases none.
 pub record IsInfoScript (script : Script6) : Type 0 where
-  pub fits : IsScript6 Two script
+  pub fits : IsScript6 Later script
   pub mode : script.mode ≡ NonTemporaryAddresses
   pub lease : script.lease ≡ None
   pub releases : has_release script.events ≡ false

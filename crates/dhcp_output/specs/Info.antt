@@ -3,7 +3,8 @@ use Rattle.std.specs.Prelude.{ℕ, Bool, true, false, if◌then◌else◌, List,
 use Rattle.std.specs.Fmt.{decimal}
 use Rattle.std.specs.declared.net.Ipv6Addr.{Ipv6Addr}
 use Rattle.dhcp_stream.specs.HexText.{address6_text, hex_text}
-use Rattle.dhcp_script.specs.Field.{list_text, spaced, unless_none}
+use Rattle.dhcp_stream.specs.Line.{spaced}
+use Rattle.dhcp_script.specs.Field.{list_text, unless_none}
 use Rattle.dhcp6_opt.specs.Duid.{written_duid}
 use Rattle.dhcp6_opt.specs.declared.ntp_server.DhcpV6OptionNtpServer.{DhcpV6OptionNtpServer}
 use Rattle.dhcp6_opt.specs.declared.ntp_server.DhcpV6OptionNtpServer.TheVariants.{ServerAddr, MulticastAddr, ServerFqdn, Other}

@@ -26,7 +26,4 @@ from_zero number start (event ∷ events) rises = (rises.0, omega arith, rises.2
 pub valid_events_rise : (start : ℕ) (events : List Event) → are_valid start events ≡ true → Rises 0 0 (numbered 1 events)
 unfolding are_valid
 valid_events_rise start events is =
-    let late = both (nat_lt start moment_limit) (nat_le (length events) most_events && (list_all is_within_limits events && are_in_order start events)) is in
-    let few = both (nat_le (length events) most_events) (list_all is_within_limits events && are_in_order start events) late.1 in
-    let each = both (list_all is_within_limits events) (are_in_order start events) few.1 in
-    from_zero 0 start events (ordered_rise 0 start events each.1)
+    from_zero 0 start events (ordered_rise 0 start events (both (nat_lt start moment_limit && nat_le (length events) most_events && list_all is_within_limits events) (are_in_order start events) is).1)

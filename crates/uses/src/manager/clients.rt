@@ -133,7 +133,7 @@ impl ManagedClient for DhcpV6InfoClient {
 
     ghost client = { λ parts. parts.client };
 
-    ghost needs_memory = { rules_info.needs_memory };
+    ghost needs_memory = { λ parts. rules_info.needs_memory };
 
     ghost lasts_for_ever = { client_info.lasts_for_ever };
 
