@@ -1,4 +1,4 @@
-use Rattle.std.proofs.Common.{◌≡◌, ℕ, IfOk, length, slice_index_or, slice_set}
+use Rattle.std.proofs.Common.{slice_index_or, slice_set}
 use Rattle.std.proofs.lemmas.Result.{IfOk-weaker}
 use Rattle.dhcp4_net.specs.Clients.{Plays}
 use Rattle.dhcp4_net.specs.Running.{PlaysAt}

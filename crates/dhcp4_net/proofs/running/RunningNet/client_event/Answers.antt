@@ -1,4 +1,4 @@
-use Rattle.std.proofs.Common.{◌≡◌, ℕ, ◌≤◌, ◌<◌, ◌∙◌, nat_lt, List, Some, ap, subst, sym}
+use Rattle.std.proofs.Common.{◌≡◌, ℕ, ◌<◌, ◌∙◌, nat_lt, List, Some, ap, subst, sym}
 use Rattle.std.proofs.lemmas.Bool.{lt-ltb}
 use Rattle.dhcp4_net.specs.declared.log.SentPacket.{SentPacket}
 use Rattle.dhcp_history.specs.declared.script.Input.{Input}
