@@ -15,9 +15,9 @@ returns-in_ok-play-in-Some-clause-steps c = λ config configs count net stands l
     let inside : c.args.client < count = subst (λ (bound : ℕ). c.args.client < bound) (c.len.ensures ∙ length_is) c.if-client-len.false in
     let sent_is : c.sent.result.now ≡ net.sent = c.sent.ensures ∙ ap (λ (log : Log). log.sent) stands.log in
     let input_is : input_of config.bound_ms net.sent c.args.at.moment c.args.act ≡ Some c.in-Some.input =
-        ap (λ (bound : ℕ). input_of bound net.sent c.args.at.moment c.args.act) (sym stands.bound_is)
-        ∙ ap (λ (sent : List SentPacket). input_of c.args.self.now.bound_ms sent c.args.at.moment c.args.act) (sym sent_is)
-        ∙ sym c.in_ok-input_of.ensures ∙ c.in-Some.is in
+    ap (λ (bound : ℕ). input_of bound net.sent c.args.at.moment c.args.act) (sym stands.bound_is)
+    ∙ ap (λ (sent : List SentPacket). input_of c.args.self.now.bound_ms sent c.args.at.moment c.args.act) (sym sent_is)
+    ∙ sym c.in_ok-input_of.ensures ∙ c.in-Some.is in
     client_stepped config configs count c.play.new.self (nat_lt c.args.client count)
     (input_of config.bound_ms net.sent c.args.at.moment c.args.act) c.in-Some.input
     (λ (input : Input Packet). after_client (answer_to config) configs config.bound_ms count net c.args.at.event c.args.at.moment c.args.client c.args.refuse input)
