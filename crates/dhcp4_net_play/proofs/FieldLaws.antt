@@ -25,7 +25,7 @@ use Rattle.dhcp4_net.specs.declared.script.NetEvent.{NetEvent}
 use Rattle.dhcp4_net.specs.declared.script.NetWho.{NetWho}
 use Rattle.dhcp4_net.specs.declared.script.NetWho.TheVariants.{Client, Server}
 use Rattle.dhcp4_net_play.specs.NetScript.{IsAct, IsClient, IsEvent, IsWho, act_text, client_text, event_text, who_text}
-use Rattle.dhcp4_net_play.specs.Reader.{act_at, call_in, client_at, client_of, event_at, event_of, u64_at, who_at, who_of}
+use Rattle.dhcp4_net_play.specs.Reader.{act_at, call_in, client_at, client_event_at, client_of, event_at, event_of, u64_at, who_at, who_of}
 
 -- ---- fields
 
@@ -156,7 +156,7 @@ either (Server packet) = inl (packet, refl)
 either (Client client refuse act) = inr ((client, (refuse, act)), refl)
 
 IsCodec-who : IsCodec who_line IsWho who_at
-unfolding who_at
+unfolding who_at client_event_at
 IsCodec-who = IsCodec-choice who_line IsWho (tag_at (codes "server deliver ")) (u32_at 10)
     (after_tag (codes "client ") (both (u32_at 32) (both (in_field (flag_in (codes "refuse") (codes "ok")) 32) act_at))) Server who_of
     codec_server_event codec_client_event apart either

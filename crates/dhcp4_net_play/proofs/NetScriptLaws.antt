@@ -14,7 +14,7 @@ use Rattle.dhcp4_net.specs.declared.script.NetClient.{NetClient}
 use Rattle.dhcp4_net.specs.declared.script.NetEvent.{NetEvent}
 use Rattle.dhcp4_net.specs.declared.script.NetScript.{NetScript}
 use Rattle.dhcp4_net_play.specs.Lines.{lines_at}
-use Rattle.dhcp4_net_play.specs.NetScript.{IsClient, IsEvent, IsNetScript, IsServer, client_line, client_text, event_line, event_text, first_line, net_script_text, server_text}
+use Rattle.dhcp4_net_play.specs.NetScript.{IsClient, IsEvent, IsNetScript, IsServer, client_line, client_text, event_line, event_text, first_line, first_lines, net_script_text, server_text}
 use Rattle.dhcp4_net_play.specs.Reader.{Server1, client_at, event_at, script_at, script_in, script_of, server_at, server_of}
 use Rattle.dhcp4_net_play.proofs.FieldLaws.{IsCodec-client, IsCodec-event, mac_field, u64_field}
 use Rattle.dhcp4_net_play.proofs.LineLaws.{IsCodec-lines, lines_text}
@@ -94,6 +94,12 @@ unfolding net_script_text clients_print events_print
 printed script =
     as_lines first_line (line (codes "server " ++ server_text script.server)) (flat_map client_line script.clients) (codes "start ") (decimal script.start) (10 ∷ [])
     (flat_map event_line script.events) (codes "end\n")
+
+-- the text of a script, by its lines
+pub text_lines : (script : NetScript) → net_script_text script
+    ≡ first_lines script ++ line (codes "start " ++ decimal script.start) ++ flat_map event_line script.events ++ line (codes "end")
+unfolding net_script_text
+text_lines script = refl
 
 IsCodec-script : IsCodec net_script_text IsNetScript script_at
 unfolding script_at script_parts

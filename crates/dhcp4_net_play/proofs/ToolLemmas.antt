@@ -48,6 +48,12 @@ run_refused script e (inr refused) = inr (by_end (net_at_end script) refused)
     by_end None refused = (cc refused, refl)
     by_end (Some net) refused = cc refused
 
+-- what is printed of a script that was run
+pub ran_answers : (result : Result (List ℕ) ErrorParts) (script : NetScript) (outputs : List NetOutput) → ok_or (outputs_at_end script) InvalidArgument ≡ Ok outputs → OneAddress outputs
+    → IfSome (net_at_end script) (OneHolder (length script.clients)) → Makes (λ text. text) result (outputs_text outputs) → AnswersRun result script
+ran_answers (Ok text) script outputs gives address holder made = run_answers script outputs text gives address holder made
+ran_answers (Err e) script outputs gives address holder made = inl made
+
 -- the status of an error
 pub refused_answers : (script : NetScript) (e : ErrorParts) → AnswersRun (Err e) script → AnswersScript net_scripts (Err (status_of e.kind)) script
 refused_answers script e (inl memory) = rw memory tt

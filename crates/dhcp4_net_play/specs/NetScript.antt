@@ -58,6 +58,10 @@ event_text event = spaced (decimal event.moment ∷ who_text event.who ∷ [])
 abbrev pub event_line : NetEvent → List ℕ
 event_line event = codes "at " ++ line (event_text event)
 
+-- the lines of events, and the last line
+abbrev pub events_text : List NetEvent → List ℕ
+events_text events = flat_map event_line events ++ line (codes "end")
+
 -- the lines up to those of the clients
 abbrev pub first_lines : NetScript → List ℕ
 first_lines script =
@@ -70,8 +74,7 @@ unfoldable pub net_script_text : NetScript → List ℕ
 net_script_text script =
     first_lines script
     ++ line (codes "start " ++ decimal script.start)
-    ++ flat_map event_line script.events
-    ++ line (codes "end")
+    ++ events_text script.events
 
 -- numbers of 32 and of 64 bits
 abbrev pub IsU32 : ℕ → Type 0

@@ -69,12 +69,17 @@ act_at text =
 abbrev pub who_of : ℕ × (Bool × NetAct) → NetWho
 who_of parts = Client parts.0 parts.1.0 parts.1.1
 
+-- what comes to which client
+unfoldable pub client_event_at : List ℕ → Read NetWho
+client_event_at text =
+    made_of who_of (after_tag (codes "client ") (both (u32_at 32)
+    (both (in_field (flag_in (codes "refuse") (codes "ok")) 32) act_at))) text
+
 -- whom an event is of, and what comes
 unfoldable pub who_at : List ℕ → Read NetWho
 who_at text =
     if_tag (tag_at (codes "server deliver ") text) (made_of Server (u32_at 10))
-    (made_of who_of (after_tag (codes "client ") (both (u32_at 32)
-    (both (in_field (flag_in (codes "refuse") (codes "ok")) 32) act_at))) text)
+    (client_event_at text)
 
 abbrev pub event_of : ℕ × NetWho → NetEvent
 event_of parts = record { moment = parts.0; who = parts.1 }

@@ -1,10 +1,13 @@
 //! The text of what is reported of a network.
 
-ghost use Rattle.std.specs.Prelude.{◌≡◌, ◌++◌, OnOk, string_bytes};
+ghost use Rattle.std.specs.Prelude.{◌≡◌, ◌∷◌, ◌++◌, OnOk, string_bytes};
+ghost use Rattle.std.specs.Fmt.{decimal};
 ghost use Rattle.std.specs.List.{flat_map};
 ghost use Rattle.dhcp_wire.specs.Outcome.{Makes};
+ghost use Rattle.dhcp_stream.specs.Line.{line};
 ghost use Rattle.dhcp4_net_play.specs.Output.{output_line, outputs_text};
 
+use dhcp_script::field::Field;
 use dhcp_wire::{Bytes, DhcpError};
 use dhcp4_net::{NetOutput, NetWhat};
 use std::alloc::{AllocError, Global};
@@ -40,8 +43,18 @@ fn push_output(text: &mut String, output: &NetOutput) -> Result<(), AllocError>
     match output.what {
         NetWhat::Sent(packet) => write!(text, "{event} sent {packet}\n"),
         NetWhat::Hold(client, address, from, until) => {
-            write!(text, "{event} hold {client} {address} {from} {until}\n")
+            write!(text, "{event} hold {client} ")?;
+            address.push_to(text)?;
+            push_span(text, from, until)
         }
         NetWhat::Failed(client) => write!(text, "{event} failed {client} io_error\n"),
     }
+}
+
+// Puts the two moments of a hold at the end of a text, and ends its line.
+fn push_span(text: &mut String, from: u64, until: u64) -> Result<(), AllocError>
+    ensures { OnOk result (string_bytes text.new ≡ string_bytes text.old
+        ++ line (32 ∷ (decimal from ++ 32 ∷ decimal until))) }
+{
+    write!(text, " {from} {until}\n")
 }

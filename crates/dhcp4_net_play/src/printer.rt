@@ -1,11 +1,21 @@
 //! The printer of the script of a network.
 
 ghost use Rattle.std.specs.Prelude.{◌≡◌, ◌++◌, OnOk, codes, string_bytes};
-ghost use Rattle.std.specs.List.{flat_map};
+ghost use Rattle.std.specs.Fmt.{decimal};
 ghost use Rattle.dhcp_stream.specs.Line.{line};
-ghost use Rattle.dhcp4_net_play.specs.NetScript.{act_text, client_line, client_text, event_line, event_text, first_lines, net_script_text, server_text, who_text};
+ghost use Rattle.dhcp4_net_play.specs.NetScript.{
+  act_text,
+  client_text,
+  event_text,
+  events_text,
+  first_lines,
+  net_script_text,
+  server_text,
+  who_text,
+};
 
 use crate::lines::push_lines;
+use dhcp_script::field::{Field, push_three_more};
 use dhcp_script::life::printer::push_flag;
 use dhcp_script::push_numbers;
 use dhcp_stream::push_octets;
@@ -20,9 +30,16 @@ pub(crate) fn push_net_script(text: &mut String, script: &NetScript) -> Result<(
         ≡ string_bytes text.old ++ net_script_text script.now) }
 {
     push_first_lines(text, script)?;
-    let start = script.start;
-    write!(text, "start {start}\n")?;
-    push_lines(text, "at ", script.events.as_slice())?;
+    push_start(text, script.start)?;
+    push_events(text, script.events.as_slice())
+}
+
+// Puts the lines of events, and the last line, at the end of a text.
+fn push_events(text: &mut String, events: &[NetEvent]) -> Result<(), AllocError>
+    ensures { OnOk result (string_bytes text.new
+        ≡ string_bytes text.old ++ events_text events.now) }
+{
+    push_lines(text, "at ", events)?;
     text.push_str("end\n")
 }
 
@@ -36,20 +53,28 @@ fn push_first_lines(text: &mut String, script: &NetScript) -> Result<(), AllocEr
     push_lines(text, "client ", script.clients.as_slice())
 }
 
+// Puts the line of the start at the end of a text.
+fn push_start(text: &mut String, start: u64) -> Result<(), AllocError>
+    ensures { OnOk result (string_bytes text.new
+        ≡ string_bytes text.old ++ line (codes "start " ++ decimal start)) }
+{
+    write!(text, "start {start}\n")
+}
+
 // Puts the line of the server at the end of a text.
 fn push_server(text: &mut String, server: &ServerConfig) -> Result<(), AllocError>
     ensures { OnOk result (string_bytes text.new
         ≡ string_bytes text.old ++ line (codes "server " ++ server_text server.now)) }
 {
-    let ip = server.ip;
-    let mask = server.mask;
-    let first = server.first;
-    let count = server.count;
+    text.push_str("server ")?;
+    server.ip.push_to(text)?;
+    text.push(' ')?;
+    push_octets(text, &server.mac)?;
+    text.push(' ')?;
+    push_three_more(text, &server.mask, &server.first, &server.count)?;
     let lease_sec = server.lease_sec;
     let bound_ms = server.bound_ms;
-    write!(text, "server {ip} ")?;
-    push_octets(text, &server.mac)?;
-    write!(text, " {mask} {first} {count} {lease_sec} {bound_ms}\n")
+    write!(text, "{lease_sec} {bound_ms}\n")
 }
 
 /// Puts the line of a client, after `client `, at the end of a text. After an error, which is out

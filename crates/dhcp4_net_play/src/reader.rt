@@ -2,7 +2,17 @@
 
 ghost use Rattle.std.specs.Prelude.{◌≡◌};
 ghost use Rattle.dhcp_stream.specs.TextReader.{Finds, Takes};
-ghost use Rattle.dhcp4_net_play.specs.Reader.{act_at, call_in, client_at, event_at, script_at, script_in, server_at, who_at};
+ghost use Rattle.dhcp4_net_play.specs.Reader.{
+  act_at,
+  call_in,
+  client_at,
+  client_event_at,
+  event_at,
+  script_at,
+  script_in,
+  server_at,
+  who_at,
+};
 
 use crate::lines::{Line, read_lines};
 use crate::printer::{push_client, push_event};
@@ -127,6 +137,14 @@ fn read_who(text: &mut TextReader) -> Result<NetWho, ReadError>
     if text.skip(b"server deliver ") {
         return Ok(NetWho::Server(text.u32(b'\n')?));
     }
+    read_client_event(text)
+}
+
+// Reads whose client's event it is, and what comes, to the end of the line.
+#[tactic(auto, unfolding(crate::specs::Reader::client_event_at))]
+fn read_client_event(text: &mut TextReader) -> Result<NetWho, ReadError>
+    ensures { Takes result text.new (client_event_at text.old) }
+{
     text.tag(b"client ")?;
     let client = text.u32(b' ')?;
     let refuse = flag(text.field(b' ')?, b"refuse", b"ok")?;

@@ -137,8 +137,8 @@ fn status_of(kind: ErrorKind) -> Status
     }
 }
 
-// The text to print for a script; `InvalidArgument` if and only if it is not valid. Out of memory is
-// the only other error.
+// The text to print for a script; `InvalidArgument` if and only if it is not valid. Out of memory
+// is the only other error.
 fn text_for(alloc: Global, script: &NetScript) -> Result<Bytes, DhcpError>
     ensures { AnswersRun result script.now }
 {

@@ -1,5 +1,5 @@
-//! The program: `run` runs the network whose script is on standard input, and writes what it reports
-//! to standard output; the exit status is a `Status` of dhcp_tool.
+//! The program: `run` runs the network whose script is on standard input, and writes what it
+//! reports to standard output; the exit status is a `Status` of dhcp_tool.
 #![tactic(auto)]
 
 use dhcp_stream::{StdSink, StdSource};

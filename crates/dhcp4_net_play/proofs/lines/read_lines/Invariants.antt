@@ -4,7 +4,7 @@ use Rattle.dhcp4_net_play.proofs.LineLaws.{IsSoFar}
 use Rattle.dhcp4_net_play.proofs.lines.read_lines.Given as goal
 
 abbrev pub invariant-lines : goal.invariant-lines
-invariant-lines g l = IsSoFar l.tag.now l.end.now g.T.Line.line_at (lines_at l.tag.now g.T.Line.line_at l.end.now l.initial.text) l.lines.items l.text
+invariant-lines g l = IsSoFar l.tag l.end g.T.Line.line_at (lines_at l.tag g.T.Line.line_at l.end l.initial.text) l.lines.items l.text
 
 abbrev pub decreases-lines : goal.decreases-lines
 decreases-lines g l = length l.text
