@@ -14,7 +14,7 @@ use Rattle.dhcp4_net.specs.declared.script.NetClient.{NetClient}
 use Rattle.dhcp4_net.specs.declared.script.NetEvent.{NetEvent}
 use Rattle.dhcp4_net.specs.declared.script.NetScript.{NetScript}
 use Rattle.dhcp4_net_play.specs.Lines.{lines_at}
-use Rattle.dhcp4_net_play.specs.NetScript.{IsClient, IsEvent, IsNetScript, IsServer, client_line, client_text, event_line, event_text, first_line, first_lines, net_script_text, server_text}
+use Rattle.dhcp4_net_play.specs.NetScript.{IsClient, IsEvent, IsNetScript, IsServer, client_line, client_text, event_line, event_text, events_text, first_line, first_lines, net_script_text, server_text}
 use Rattle.dhcp4_net_play.specs.Reader.{Server1, client_at, event_at, script_at, script_in, script_of, server_at, server_of}
 use Rattle.dhcp4_net_play.proofs.FieldLaws.{IsCodec-client, IsCodec-event, mac_field, u64_field}
 use Rattle.dhcp4_net_play.proofs.LineLaws.{IsCodec-lines, lines_text}
@@ -85,7 +85,7 @@ script_parts script = (script.server, (script.clients, (script.start, script.eve
 
 -- lines as they are read, and as they are printed
 as_lines : (first server clients tag start feed events end : List ℕ)
-    → first ++ (server ++ ((clients ++ tag) ++ ((start ++ feed) ++ (events ++ end)))) ≡ (first ++ server ++ clients) ++ ((tag ++ start) ++ feed) ++ events ++ end
+    → first ++ (server ++ ((clients ++ tag) ++ ((start ++ feed) ++ (events ++ end)))) ≡ (first ++ server ++ clients) ++ ((tag ++ start) ++ feed) ++ (events ++ end)
 as_lines first server clients tag start feed events end = simp append_assoc
 
 printed : (script : NetScript) → first_line ++ (line (codes "server " ++ server_text script.server)
@@ -97,7 +97,7 @@ printed script =
 
 -- the text of a script, by its lines
 pub text_lines : (script : NetScript) → net_script_text script
-    ≡ first_lines script ++ line (codes "start " ++ decimal script.start) ++ flat_map event_line script.events ++ line (codes "end")
+    ≡ first_lines script ++ line (codes "start " ++ decimal script.start) ++ events_text script.events
 unfolding net_script_text
 text_lines script = refl
 

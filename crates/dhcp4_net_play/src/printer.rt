@@ -2,7 +2,9 @@
 
 ghost use Rattle.std.specs.Prelude.{◌≡◌, ◌++◌, OnOk, codes, string_bytes};
 ghost use Rattle.std.specs.Fmt.{decimal};
+ghost use Rattle.hex.specs.Hex.{encode_lower};
 ghost use Rattle.dhcp_stream.specs.Line.{line};
+ghost use Rattle.dhcp_stream.specs.Number.{address_text};
 ghost use Rattle.dhcp4_net_play.specs.NetScript.{
   act_text,
   client_text,
@@ -66,12 +68,29 @@ fn push_server(text: &mut String, server: &ServerConfig) -> Result<(), AllocErro
     ensures { OnOk result (string_bytes text.new
         ≡ string_bytes text.old ++ line (codes "server " ++ server_text server.now)) }
 {
+    push_server_names(text, server)?;
+    text.push_str(" ")?;
+    push_three_more(text, &server.mask, &server.first, &server.count)?;
+    push_server_times(text, server)
+}
+
+// Puts the start of the line of the server at the end of a text: its address and MAC address.
+fn push_server_names(text: &mut String, server: &ServerConfig) -> Result<(), AllocError>
+    ensures { OnOk result (string_bytes text.new ≡ string_bytes text.old
+        ++ (codes "server " ++ address_text server.now.ip ++ codes " "
+        ++ encode_lower server.now.mac)) }
+{
     text.push_str("server ")?;
     server.ip.push_to(text)?;
-    text.push(' ')?;
-    push_octets(text, &server.mac)?;
-    text.push(' ')?;
-    push_three_more(text, &server.mask, &server.first, &server.count)?;
+    text.push_str(" ")?;
+    push_octets(text, &server.mac)
+}
+
+// Puts the end of the line of the server at the end of a text: its lease time and its bound.
+fn push_server_times(text: &mut String, server: &ServerConfig) -> Result<(), AllocError>
+    ensures { OnOk result (string_bytes text.new ≡ string_bytes text.old
+        ++ line (decimal server.now.lease_sec ++ codes " " ++ decimal server.now.bound_ms)) }
+{
     let lease_sec = server.lease_sec;
     let bound_ms = server.bound_ms;
     write!(text, "{lease_sec} {bound_ms}\n")

@@ -15,4 +15,4 @@ returns-in_err-outputs c =
 pub returns : goal.returns
 returns c =
     ran_answers c.print_net_outputs.result c.args.script.now c.in_ok-outputs.outputs.items c.in_ok-outputs.ensures.played c.in_ok-outputs.ensures.one_address c.in_ok-outputs.ensures.one_holder
-    (subst (λ (outputs : List NetOutput). Makes (λ (text : List ℕ). text) c.print_net_outputs.result (outputs_text outputs)) c.as_slice.ensures c.print_net_outputs.ensures)
+    (subst (λ (outputs : List NetOutput). Makes (λ (text : List ℕ). text) c.print_net_outputs.result (outputs_text outputs)) c.as_slice.ensures.value c.print_net_outputs.ensures)
