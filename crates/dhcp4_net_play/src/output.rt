@@ -14,6 +14,7 @@ use std::alloc::{AllocError, Global};
 
 /// The text of what is reported of a network: a line for each output, and `ok`. Out of memory is
 /// the only error.
+#[tactic(auto, unfolding(crate::specs::Output::outputs_text))]
 pub fn print_net_outputs(alloc: Global, outputs: &[NetOutput]) -> Result<Bytes, DhcpError>
     ensures { Makes (λ text. text) result (outputs_text outputs.now) }
 {
