@@ -57,7 +57,7 @@ routes =
     IsValue-list IsValue-route (λ route fits. HasNo-route 44 route fits (λ e. omega arith) (λ e. omega arith) (λ a b. omega arith))
     (λ route fits. other_word 45 [] (route_text route) (HasNo-route 45 route fits (λ e. omega arith) (λ e. omega arith) (λ a b. omega arith)))
 
-address_field : IsCodec (λ address. address_text address ++ 32 ∷ []) IsIpv4Addr (in_field address_in 32)
+pub address_field : IsCodec (λ address. address_text address ++ 32 ∷ []) IsIpv4Addr (in_field address_in 32)
 address_field = IsCodec-in_field IsValue-address 32 (λ address fits. HasNo-address 32 address fits (λ e. omega arith) (λ a b. omega arith))
 
 broadcast_field : IsCodec (λ o. unless_none address_text o ++ 32 ∷ []) (λ o. IfSome o IsIpv4Addr) (in_field (word_or (codes "none") address_in) 32)

@@ -21,7 +21,7 @@ mod widths;
 pub use demo::demo_script;
 pub use duid::MAX_DUID_LEN;
 pub use event::{Event, EventWhat, MAX_EVENTS, MAX_PACKET_LEN, MOMENT_LIMIT, are_valid};
-pub use hex_text::{push_hex, push_hex_line};
+pub use hex_text::{push_hex, push_hex_line, push_numbers};
 pub use lease4::Lease4;
 pub use lease4::printer::push_lease as push_lease4;
 pub use lease6::Lease6;

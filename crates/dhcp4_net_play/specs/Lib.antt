@@ -1,0 +1,5 @@
+pub mod Lines
+pub mod NetScript
+pub mod Output
+pub mod Reader
+pub mod Tool
