@@ -7,6 +7,10 @@ usage, at the top of the repository, after: cd crates/dhcp_main && rt run < stdi
       refused in turn
   tools/refused_calls.py program NUMBER WORD..
       the program with these words; the allocation of this number is refused
+or after `rt run < stdin`, with the words of its file args, in the folder of each crate:
+  tools/refused_calls.py stored CRATE..
+      the programs of these crates, as net_main, over their stored input: each allocation, each read
+      and each write is refused in turn
 or after `rt test` in the folder of each crate, as wire_tests:
   tools/refused_calls.py tests CRATE..
       the tests of these crates: each allocation is refused in turn
@@ -71,23 +75,43 @@ def printed_by(command, given):
     return subprocess.run(command, input=given, capture_output=True, check=True).stdout
 
 
+def try_over(runner, name, command, given):
+    """Returns how many runs of a program over these bytes ended as they must not."""
+    wrong = 0
+    whole = printed_by(command, given)
+    for kind in ("ALLOCATION", "READ", "WRITE"):
+        statuses = {}
+        for number, done in runner.in_turn(command, given, kind):
+            statuses[done.returncode] = statuses.get(done.returncode, 0) + 1
+            if not is_lawful(kind, done, whole):
+                wrong += 1
+                print(f"{name}: {kind.lower()} {number}: status {done.returncode}")
+        counts = [f"{many} with status {status}" for status, many in sorted(statuses.items())]
+        print(f"{name}: each {kind.lower()} refused in turn: {', '.join(counts) or 'none'}")
+    return wrong
+
+
+def bytes_of(path):
+    """Returns the bytes of a file, or none if there is no such file."""
+    if not os.path.exists(path):
+        return b""
+    with open(path, "rb") as file:
+        return file.read()
+
+
 def try_scripts(runner):
     """Returns how many runs of the program over the scripts ended as they must not."""
-    wrong = 0
-    for name in sorted(os.listdir(SCRIPTS)):
-        with open(f"{SCRIPTS}/{name}", "rb") as file:
-            given = file.read()
-        whole = printed_by([PROGRAM, "run"], given)
-        for kind in ("ALLOCATION", "READ", "WRITE"):
-            statuses = {}
-            for number, done in runner.in_turn([PROGRAM, "run"], given, kind):
-                statuses[done.returncode] = statuses.get(done.returncode, 0) + 1
-                if not is_lawful(kind, done, whole):
-                    wrong += 1
-                    print(f"{name}: {kind.lower()} {number}: status {done.returncode}")
-            counts = [f"{many} with status {status}" for status, many in sorted(statuses.items())]
-            print(f"{name}: each {kind.lower()} refused in turn: {', '.join(counts) or 'none'}")
-    return wrong
+    names = sorted(os.listdir(SCRIPTS))
+    command = [PROGRAM, "run"]
+    return sum(try_over(runner, name, command, bytes_of(f"{SCRIPTS}/{name}")) for name in names)
+
+
+def try_stored(runner, crate):
+    """Returns how many runs of a crate's program, over its stored input, ended as they must not."""
+    folder = f"{TOP}/crates/{crate}"
+    words = bytes_of(f"{folder}/args").decode().split()
+    command = [f"{folder}/out/{crate}", *words]
+    return try_over(runner, crate, command, bytes_of(f"{folder}/stdin"))
 
 
 def try_tests(runner, crate):
@@ -120,7 +144,7 @@ def try_program(runner, number, words):
 
 
 def main(words):
-    least = {"scripts": 1, "program": 3, "tests": 2}
+    least = {"scripts": 1, "program": 3, "stored": 2, "tests": 2}
     if not words or len(words) < least.get(words[0], len(words) + 1):
         print(__doc__, file=sys.stderr)
         return 2
@@ -130,7 +154,8 @@ def main(words):
             return 1 if try_scripts(runner) else 0
         if words[0] == "program":
             return try_program(runner, int(words[1]), words[2:])
-        return 1 if sum(try_tests(runner, crate) for crate in words[1:]) else 0
+        tried = try_stored if words[0] == "stored" else try_tests
+        return 1 if sum(tried(runner, crate) for crate in words[1:]) else 0
 
 
 if __name__ == "__main__":
