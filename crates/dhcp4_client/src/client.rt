@@ -12,7 +12,7 @@ use crate::DhcpV4State;
 use crate::client_state::{ClientState, Exchange};
 use crate::rules::{ClientRules, restarted};
 use dhcp_clock::{DhcpLink, Words};
-use dhcp_history::{BoundLease, Client, Reported, clean_up, is_listening, next_poll, run};
+use dhcp_history::{BoundLease, Client, StateReport, clean_up, is_listening, next_poll, run};
 use dhcp_wire::{DhcpError, ErrorKind, FixedText};
 use dhcp4_lease::{DhcpV4Config, DhcpV4Lease};
 use std::alloc::Global;
@@ -127,7 +127,7 @@ impl DhcpV4Client {
         crate::laws::table_is_lawful();
         crate::laws::leases_are_granted(self);
         let reported = run(&self.rules, &mut self.client, now, words, link)?;
-        Ok(reported.map(Reported::into_state))
+        Ok(reported.map(StateReport::into_state))
     }
 
     /// Drops the lease, the offer, the attempt and a kept error: the client searches anew, with its

@@ -18,7 +18,7 @@ use crate::answer::{Answer, Awaited, read_answer};
 use crate::client_state::{ClientState, Exchange};
 use crate::message::{attempt_message, release_message};
 use dhcp_clock::{Handed, Packet, Words, discovery_wait, draw, half_wait};
-use dhcp_history::{AttemptStart, BoundLease, NewAttempt, Reported, Rules};
+use dhcp_history::{AttemptStart, BoundLease, NewAttempt, Rules, StateReport};
 use dhcp4_lease::{DhcpV4Config, DhcpV4Lease, DhcpV4MessageForms};
 use std::alloc::{AllocError, Global};
 use std::mem;
@@ -45,7 +45,7 @@ pub struct ClientRules {
 impl Rules for ClientRules {
     ghost use Rattle.dhcp4_client.specs.Rules as table;
 
-    type PublicState = Reported<DhcpV4State>;
+    type PublicState = StateReport<DhcpV4State>;
 
     type State = ClientState;
 
@@ -151,22 +151,26 @@ impl Rules for ClientRules {
         answer: Answer,
         now: u64,
         exchange: &mut Exchange,
-    ) -> Result<Reported<DhcpV4State>, AllocError> {
+    ) -> Result<StateReport<DhcpV4State>, AllocError> {
         match answer {
             Answer::Granted(lease) => self.after_grant(state, lease, now, exchange),
             Answer::Refused => {
                 enter(state, ClientState::InitReboot);
-                Ok(Reported::new(DhcpV4State::InitReboot))
+                Ok(StateReport::new(DhcpV4State::InitReboot))
             }
         }
     }
 
-    fn after_end(&self, state: &mut ClientState, exchange: &mut Exchange) -> Reported<DhcpV4State> {
+    fn after_end(
+        &self,
+        state: &mut ClientState,
+        exchange: &mut Exchange,
+    ) -> StateReport<DhcpV4State> {
         let reported = reported_after_end(state);
         *exchange = exchange_after_end(state, *exchange);
         let next = ended(mem::replace(state, ClientState::InitReboot));
         enter(state, next);
-        Reported::new(reported)
+        StateReport::new(reported)
     }
 
     fn after_clean_up(&self, state: &mut ClientState, exchange: &mut Exchange) {
@@ -195,7 +199,7 @@ impl ClientRules {
         lease: DhcpV4Lease,
         now: u64,
         exchange: &mut Exchange,
-    ) -> Result<Reported<DhcpV4State>, AllocError>
+    ) -> Result<StateReport<DhcpV4State>, AllocError>
         requires { now < 2 ^ 60 }
         ensures next { OnOk result (IsNext (table.after_grant self.now.config.message_forms
             state.old lease now exchange.old) state.new exchange.new) }
@@ -207,7 +211,7 @@ impl ClientRules {
             ClientState::InitReboot => {
                 enter(state, ClientState::Selecting(lease));
                 *exchange = requesting(self.config.message_forms(), *exchange);
-                Ok(Reported::new(DhcpV4State::Selecting))
+                Ok(StateReport::new(DhcpV4State::Selecting))
             }
             ClientState::Selecting(_) => self.bind(state, lease, now, exchange),
             ClientState::Rebooting(_) => self.bind(state, lease, now, exchange),
@@ -224,7 +228,7 @@ impl ClientRules {
         lease: DhcpV4Lease,
         now: u64,
         exchange: &mut Exchange,
-    ) -> Result<Reported<DhcpV4State>, AllocError>
+    ) -> Result<StateReport<DhcpV4State>, AllocError>
         requires { now < 2 ^ 60 }
         ensures next { OnOk result (IsNext (table.bound_from now lease exchange.old)
             state.new exchange.new) }
@@ -235,7 +239,7 @@ impl ClientRules {
         let reported = done_with(self.alloc, &lease)?;
         enter(state, ClientState::Done(BoundLease::new(lease, now)));
         *exchange = restarted(*exchange);
-        Ok(Reported::new(reported))
+        Ok(StateReport::new(reported))
     }
 }
 

@@ -4,13 +4,13 @@ use Rattle.std.specs.Prelude.{Some}
 use Rattle.dhcp_clock.specs.declared.link.Packet.{Packet}
 use Rattle.dhcp_clock.specs.declared.link.PacketKind.{PacketKind}
 use Rattle.dhcp_clock.specs.declared.link.PacketKind.TheVariants as kinds
-use Rattle.dhcp_history.specs.declared.script.Event.{Event}
+use Rattle.dhcp_history.specs.declared.script.NumberedEvent.{NumberedEvent}
 use Rattle.dhcp_history.specs.declared.script.Input.{Input}
 use Rattle.dhcp_history.specs.declared.script.Input.TheVariants.{Nothing, Arrival, Release, CleanUp}
 use Rattle.dhcp_history.specs.EventLoop.{event_at}
 use Rattle.dhcp_history.specs.Machine.{View}
-use Rattle.dhcp4_net.specs.Kept as kept
-use Rattle.dhcp4_net.proofs.KeptLemmas.{event_keeps}
+use Rattle.dhcp_history.specs.KeptByEvent as kept
+use Rattle.dhcp_history.proofs.KeptByEvent.{event_keeps}
 use Rattle.dhcp4_msg.specs.declared.message_type.DhcpV4MessageType.TheVariants.{Offer, Ack}
 use Rattle.dhcp4_lease.specs.Config.{Config, is_within_limits}
 use Rattle.dhcp4_lease.specs.Laws.{IsTyped}
@@ -163,7 +163,7 @@ module _ (config : Config) (within : IsTrue (is_within_limits config)) (typed : 
   comes_in Release is sound = tt
   comes_in CleanUp is sound = tt
 
-  pub client_event : (event : Event Packet) (view : View ClientState Exchange) → event.input ≡ input → event.moment ≡ moment → SoundIn input → Good view.exchange → Held view.state →
+  pub client_event : (event : NumberedEvent Packet) (view : View ClientState Exchange) → event.input ≡ input → event.moment ≡ moment → SoundIn input → Good view.exchange → Held view.state →
       kept.IsKept (protocol config) Good Held Comes GrantsNothing Shows moment (event_at (protocol config) event view)
   client_event event view is at sound good held =
       event_keeps (protocol config) Good Held Comes GrantsNothing Shows moment client_keeps event view at good held

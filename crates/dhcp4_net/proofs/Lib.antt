@@ -1,7 +1,6 @@
 pub mod AnswerLemmas
 pub mod ClientLemmas
 pub mod HoldLemmas
-pub mod KeptLemmas
 pub mod NetLemmas
 pub mod OptionLemmas
 pub mod PeerLemmas

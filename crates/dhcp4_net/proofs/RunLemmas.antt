@@ -13,12 +13,12 @@ use Rattle.dhcp_clock.specs.declared.link.Packet.{Packet}
 use Rattle.dhcp_history.specs.declared.script.Failure.TheVariants.{TimedOut, SendRefused}
 use Rattle.dhcp_history.specs.declared.script.Input.{Input}
 use Rattle.dhcp_history.specs.declared.script.Input.TheVariants as inputs
-use Rattle.dhcp_history.specs.declared.script.Output.{Output}
+use Rattle.dhcp_history.specs.declared.script.NumberedReport.{NumberedReport}
 use Rattle.dhcp_history.specs.declared.script.Report.{Report}
 use Rattle.dhcp_history.specs.declared.script.Report.TheVariants as reports
 use Rattle.dhcp_history.specs.EventLoop.{event_at}
 use Rattle.dhcp_history.specs.Machine.{EventEffect, View}
-use Rattle.dhcp4_net.specs.Kept as kept
+use Rattle.dhcp_history.specs.KeptByEvent as kept
 use Rattle.dhcp4_server.specs.Ack.{Ack, AreLawful}
 use Rattle.dhcp4_net.specs.Hold.{Covers, Grant}
 use Rattle.dhcp4_net.specs.Hold as holds
@@ -237,7 +237,7 @@ module _ (serve : List Ack → ℕ → Packet → Served) (configs : ℕ → Con
   report_safe acks now number client input (reports.Failed SendRefused) log known brought tells safe = told acks now number (Failed client) log safe tt
   report_safe acks now number client input (reports.Failed TimedOut) log known brought tells safe = safe
 
-  reports_safe : (acks : List Ack) (now number client : ℕ) (input : Input Packet) (outputs : List (Output PlainState Message)) (log : Log) → client < count → Brought acks now input →
+  reports_safe : (acks : List Ack) (now number client : ℕ) (input : Input Packet) (outputs : List (NumberedReport PlainState Message)) (log : Log) → client < count → Brought acks now input →
       AllByRecursion (λ output. TellsOf acks now client input output.report) outputs → SafeLog acks now log → SafeLog acks now (log_reports number now client outputs log)
   reports_safe acks now number client input [] log known brought tells safe = safe
   reports_safe acks now number client input (output ∷ outputs) log known brought tells safe =

@@ -9,9 +9,9 @@ use Rattle.dhcp_clock.specs.declared.link.Handed.{Handed}
 use Rattle.dhcp_clock.specs.declared.link.Packet.{Packet}
 use Rattle.dhcp_history.specs.EventLoop.{event_at}
 use Rattle.dhcp_history.specs.Machine.{EventEffect, View}
-use Rattle.dhcp_history.specs.declared.script.Event.{Event}
+use Rattle.dhcp_history.specs.declared.script.NumberedEvent.{NumberedEvent}
 use Rattle.dhcp_history.specs.declared.script.Input.{Input}
-use Rattle.dhcp_history.specs.declared.script.Output.{Output}
+use Rattle.dhcp_history.specs.declared.script.NumberedReport.{NumberedReport}
 use Rattle.dhcp4_lease.specs.Config.{Config}
 use Rattle.dhcp4_client.specs.Rules.{protocol}
 use Rattle.dhcp4_client.specs.declared.client_state.ClientState.{ClientState}
@@ -32,7 +32,7 @@ use Rattle.dhcp4_net.specs.declared.peer.Peer.{Peer}
 use Rattle.dhcp4_net.specs.declared.running.RunningNet.{RunningNet}
 
 -- one peer plays an event, and the others stay
-pub played_at : (client : ℕ) (event : Event Packet) (reported : List (Output PlainState Handed)) (before : List Peer) (one after : Peer) →
+pub played_at : (client : ℕ) (event : NumberedEvent Packet) (reported : List (NumberedReport PlainState Handed)) (before : List Peer) (one after : Peer) →
     client < length before → Plays event reported (slice_index_or before client one) after → PlaysAt client event reported before (slice_set before client after)
 played_at client event reported before one after inside plays configs views are =
     let once : EventEffect PlainState Handed ClientState Exchange = event_at (protocol (configs client)) event (views client) in
@@ -59,17 +59,17 @@ played_at client event reported before one after inside plays configs views are 
             (slice_get-get_or before number one within ∙ ap Some (sym (get_or-set_other before client number after one (λ is. absurd (cc (eq-eqb number client is, other))))) ∙ sym there) (are number within)
 
 -- a client has played an event, and what it reported was logged
-pub client_played : (config : ServerConfig) (configs : ℕ → Config) (count : ℕ) (net : Net) (before after : RunningNet) (number now client : ℕ) (refuse : Bool) (input : Input Packet) (reported : List (Output PlainState Handed)) →
+pub client_played : (config : ServerConfig) (configs : ℕ → Config) (count : ℕ) (net : Net) (before after : RunningNet) (number now client : ℕ) (refuse : Bool) (input : Input Packet) (reported : List (NumberedReport PlainState Handed)) →
     StandsForNet config configs count before net → net.now ≤ now →
     PlaysAt client (record { number = number; moment = now; refuse = refuse; input = input }) reported before.peers.items after.peers.items →
     after.log ≡ log_reports number now client reported before.log → after.now ≡ now → after.server ≡ before.server → after.bound_ms ≡ before.bound_ms →
     StandsForNet config configs count after (after_client (answer_to config) configs config.bound_ms count net number now client refuse input)
 client_played config configs count net before after number now client refuse input reported stands le plays logged moved server bound =
-    let event : Event Packet = record { number = number; moment = now; refuse = refuse; input = input } in
+    let event : NumberedEvent Packet = record { number = number; moment = now; refuse = refuse; input = input } in
     let played : HasPlayedAt (event_at (protocol (configs client)) event (net.clients client)) client configs net.clients reported before.peers.items after.peers.items = plays configs net.clients stands.peers in
     record {
       now = moved;
-      log = logged ∙ ap (λ (outputs : List (Output PlainState Handed)). log_reports number now client outputs before.log) played.reported_is
+      log = logged ∙ ap (λ (outputs : List (NumberedReport PlainState Handed)). log_reports number now client outputs before.log) played.reported_is
           ∙ ap (λ (log : Log). log_reports number now client (event_at (protocol (configs client)) event (net.clients client)).outputs log) stands.log;
       config_is = ap (λ (one : Server). one.config) server ∙ stands.config_is;
       bound_is = bound ∙ stands.bound_is;

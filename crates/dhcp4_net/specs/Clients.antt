@@ -7,8 +7,8 @@ use Rattle.dhcp_clock.specs.declared.link.Packet.{Packet}
 use Rattle.dhcp_history.specs.Client.{view_of}
 use Rattle.dhcp_history.specs.EventLoop.{event_at}
 use Rattle.dhcp_history.specs.Machine.{EventEffect, View}
-use Rattle.dhcp_history.specs.declared.script.Event.{Event}
-use Rattle.dhcp_history.specs.declared.script.Output.{Output}
+use Rattle.dhcp_history.specs.declared.script.NumberedEvent.{NumberedEvent}
+use Rattle.dhcp_history.specs.declared.script.NumberedReport.{NumberedReport}
 use Rattle.dhcp4_client.specs.Rules.{protocol}
 use Rattle.dhcp4_client.specs.declared.state.PlainState.{PlainState}
 use Rattle.dhcp4_net.specs.declared.peer.Peer.{Peer}
@@ -82,11 +82,12 @@ pub record IsPeer (config : Config) (view : View ClientState Exchange) (peer : P
 
 -- the client of a peer reports this of an event, and is left so
 pub record HasPlayed (once : EventEffect PlainState Handed ClientState Exchange) (config : Config)
-    (reported : List (Output PlainState Handed)) (after : Peer) : Type 0 where
+    (reported : List (NumberedReport PlainState Handed)) (after : Peer) : Type 0 where
   pub reported_is : reported ≡ once.outputs
   pub after_is : IsPeer config once.view after
 
-abbrev pub Plays : Event Packet → List (Output PlainState Handed) → Peer → Peer → Type 0
+abbrev pub Plays : NumberedEvent Packet → List (NumberedReport PlainState Handed) → Peer → Peer →
+    Type 0
 Plays event reported before after =
     (config : Config) (view : View ClientState Exchange) → IsPeer config view before →
     HasPlayed (event_at (protocol config) event view) config reported after

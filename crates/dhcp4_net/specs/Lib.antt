@@ -2,7 +2,6 @@ pub mod Becomes
 pub mod Clients
 pub mod Grants
 pub mod Hold
-pub mod Kept
 pub mod Net
 pub mod OneAddress
 pub mod Running

@@ -3,11 +3,11 @@ use Rattle.std.specs.Prelude.{ℕ, suc, ◌+◌, ◌*◌, ◌==◌, nat_le, nat_
 use Rattle.dhcp_wire.specs.Field.{◌>>=◌}
 use Rattle.dhcp_clock.specs.declared.link.Handed.{Handed}
 use Rattle.dhcp_clock.specs.declared.link.Packet.{Packet}
-use Rattle.dhcp_history.specs.declared.script.Event.{Event}
+use Rattle.dhcp_history.specs.declared.script.NumberedEvent.{NumberedEvent}
 use Rattle.dhcp_history.specs.declared.script.Failure.TheVariants.{TimedOut, SendRefused}
 use Rattle.dhcp_history.specs.declared.script.Input.{Input}
 use Rattle.dhcp_history.specs.declared.script.Input.TheVariants as inputs
-use Rattle.dhcp_history.specs.declared.script.Output.{Output}
+use Rattle.dhcp_history.specs.declared.script.NumberedReport.{NumberedReport}
 use Rattle.dhcp_history.specs.declared.script.Report.{Report}
 use Rattle.dhcp_history.specs.declared.script.Report.TheVariants as reports
 use Rattle.dhcp_history.specs.EventLoop.{event_at}
@@ -72,7 +72,7 @@ module _ (number now client : ℕ) where
   log_report (reports.Failed SendRefused) log = log_output (Failed client) log
   log_report (reports.Failed TimedOut) log = log
 
-  abbrev pub log_reports : List (Output PlainState Handed) → Log → Log
+  abbrev pub log_reports : List (NumberedReport PlainState Handed) → Log → Log
   log_reports [] log = log
   log_reports (output ∷ outputs) log = log_reports outputs (log_report output.report log)
 
@@ -95,7 +95,7 @@ input_of bound sent now Release = Some inputs.Release
 input_of bound sent now CleanUp = Some inputs.CleanUp
 
 module _ (serve : List Ack → ℕ → Packet → Served) (configs : ℕ → Config) (bound count : ℕ) where
-  abbrev pub client_event : ℕ → ℕ → Bool → Input Packet → Event Packet
+  abbrev pub client_event : ℕ → ℕ → Bool → Input Packet → NumberedEvent Packet
   client_event number now refuse input =
       record { number = number; moment = now; refuse = refuse; input = input }
 

@@ -5,8 +5,8 @@ use Rattle.dhcp_clock.specs.declared.link.Handed.{Handed}
 use Rattle.dhcp_clock.specs.declared.link.Packet.{Packet}
 use Rattle.dhcp_history.specs.EventLoop.{event_at}
 use Rattle.dhcp_history.specs.Machine.{EventEffect, View}
-use Rattle.dhcp_history.specs.declared.script.Event.{Event}
-use Rattle.dhcp_history.specs.declared.script.Output.{Output}
+use Rattle.dhcp_history.specs.declared.script.NumberedEvent.{NumberedEvent}
+use Rattle.dhcp_history.specs.declared.script.NumberedReport.{NumberedReport}
 use Rattle.dhcp4_lease.specs.Config.{Config}
 use Rattle.dhcp4_client.specs.Rules.{protocol}
 use Rattle.dhcp4_client.specs.declared.client_state.ClientState.{ClientState}
@@ -38,20 +38,21 @@ with_view views client view other = if other == client then view else views othe
 -- The client of a number reports this of an event, and the others are left as they are.
 pub record HasPlayedAt (once : EventEffect PlainState Handed ClientState Exchange) (client : ℕ)
     (configs : ℕ → Config) (views : ℕ → View ClientState Exchange)
-    (reported : List (Output PlainState Handed)) (before after : List Peer) : Type 0 where
+    (reported : List (NumberedReport PlainState Handed)) (before after : List Peer) : Type 0 where
   pub reported_is : reported ≡ once.outputs
   pub peers : ArePeers configs (with_view views client once.view) after
   pub count : length after ≡ length before
 
-abbrev pub PlaysAt : ℕ → Event Packet → List (Output PlainState Handed) → List Peer → List Peer →
-    Type 0
+abbrev pub PlaysAt : ℕ → NumberedEvent Packet → List (NumberedReport PlainState Handed) →
+    List Peer → List Peer → Type 0
 PlaysAt client event reported before after =
     (configs : ℕ → Config) (views : ℕ → View ClientState Exchange) →
     ArePeers configs views before →
     HasPlayedAt (event_at (protocol (configs client)) event (views client)) client configs views
     reported before after
 
--- a network that runs with this server, these configurations and so many clients stands for a network
+-- a network that runs with this server, these configurations and so many clients stands for a
+-- network
 module _ (config : ServerConfig) (configs : ℕ → Config) (count : ℕ) where
   pub record StandsForNet (running : RunningNet) (net : Net) : Type 0 where
     pub now : running.now ≡ net.now

@@ -8,7 +8,7 @@ ghost use Rattle.dhcp4_net.specs.Net as nets;
 
 use crate::{NetOutput, NetWhat};
 use dhcp_clock::{Handed, Packet, PacketKind};
-use dhcp_history::{Failure, Output, Report, Reported};
+use dhcp_history::{Failure, NumberedReport, Report, StateReport};
 use dhcp_wire::DhcpError;
 use dhcp4_client::DhcpV4State;
 use std::alloc::Global;
@@ -48,7 +48,7 @@ pub(crate) struct At {
 }
 
 // What a client reports.
-type ClientReport = Report<Reported<DhcpV4State>, Handed>;
+type ClientReport = Report<StateReport<DhcpV4State>, Handed>;
 
 impl NetLog {
     /// Nothing was sent or reported.
@@ -134,7 +134,7 @@ impl NetLog {
         &mut self,
         at: At,
         client: u32,
-        outputs: Vec<Output<Reported<DhcpV4State>, Handed>>,
+        outputs: Vec<NumberedReport<StateReport<DhcpV4State>, Handed>>,
     ) -> Result<(), DhcpError>
         requires { at.moment < 2 ^ 60 }
         ensures { Becomes result self.new

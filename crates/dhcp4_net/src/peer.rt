@@ -9,7 +9,7 @@ ghost use Rattle.dhcp4_net.specs.Clients.{IsPeer, Plays};
 
 use crate::NetClient;
 use dhcp_clock::{Handed, Packet, WordList};
-use dhcp_history::{Event, Output, Reported};
+use dhcp_history::{NumberedEvent, NumberedReport, StateReport};
 use dhcp_wire::DhcpError;
 use dhcp4_client::{DhcpV4Client, DhcpV4State};
 use dhcp4_lease::DhcpV4Config;
@@ -85,8 +85,8 @@ impl Peer {
     pub(crate) fn play(
         &mut self,
         alloc: Global,
-        event: Event<Packet>,
-    ) -> Result<Vec<Output<Reported<DhcpV4State>, Handed>>, DhcpError>
+        event: NumberedEvent<Packet>,
+    ) -> Result<Vec<NumberedReport<StateReport<DhcpV4State>, Handed>>, DhcpError>
         requires { event.moment < 2 ^ 60 }
         ensures plays { IfOk result (λ reported. Plays event reported.items self.old self.new) }
         ensures error { IfErr result (λ error. error ≡ no_memory) }

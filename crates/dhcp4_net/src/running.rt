@@ -18,7 +18,7 @@ use crate::log::{At, NetLog, SentPacket};
 use crate::peer::{Peer, begun};
 use crate::{NetAct, NetClient, NetEvent, NetOutput, NetScript, NetWho};
 use dhcp_clock::{Handed, Packet};
-use dhcp_history::{Event, Input, Output, Reported};
+use dhcp_history::{Input, NumberedEvent, NumberedReport, StateReport};
 use dhcp_wire::{Bytes, DhcpError};
 use dhcp4_client::DhcpV4State;
 use dhcp4_server::{DhcpV4Server, ServerAnswer};
@@ -82,8 +82,8 @@ fn play_at(
     alloc: Global,
     peers: &mut [Peer],
     client: usize,
-    event: Event<Packet>,
-) -> Result<Vec<Output<Reported<DhcpV4State>, Handed>>, DhcpError>
+    event: NumberedEvent<Packet>,
+) -> Result<Vec<NumberedReport<StateReport<DhcpV4State>, Handed>>, DhcpError>
     requires moment { event.moment < 2 ^ 60 }
     requires inside { client < length peers.old }
     ensures plays { IfOk result (λ reported.
@@ -164,7 +164,7 @@ impl RunningNet {
             at.moment client refuse input)) }
         ensures error { IfErr result (λ error. error ≡ no_memory) }
     {
-        let event = Event {
+        let event = NumberedEvent {
             number: at.event,
             moment: at.moment,
             refuse,

@@ -41,8 +41,8 @@ net_scripts = record {
   IsKept = KeepsOneAddressIn;
 }
 
--- What a run of a script gives: what is printed, if it is valid, and what is promised of it is kept;
--- else a refusal. Out of memory is allowed of any script.
+-- What a run of a script gives: what is printed, if it is valid, and what is promised of it is
+-- kept; else a refusal. Out of memory is allowed of any script.
 abbrev pub AnswersRun : Result (List ℕ) ErrorParts → NetScript → Type 0
 AnswersRun (Ok text) script =
     (is_valid script ≡ true) × (text ≡ printed script) × KeepsOneAddressIn script

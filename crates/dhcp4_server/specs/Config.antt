@@ -16,8 +16,8 @@ is_lawful config =
 abbrev pub pool_of : ServerConfig → Pool
 pool_of config = record { first = ipv4_bits config.first; count = config.count }
 
--- How long it keeps an address after it has sent the Ack, in milliseconds: the lease time, which the
--- client counts from when the Ack arrives, and the longest time that the Ack may take.
+-- How long it keeps an address after it has sent the Ack, in milliseconds: the lease time, which
+-- the client counts from when the Ack arrives, and the longest time that the Ack may take.
 abbrev pub kept_ms : ServerConfig → ℕ
 kept_ms config = 1000 * config.lease_sec + config.bound_ms
 

@@ -30,7 +30,8 @@ ListsOwners owned first places =
     (xid address : ℕ) → contains pair_order owned (xid, address)
     ≡ is_own_by (bound_in first places address) xid
 
--- the set has this client as the one owner of an address, and the owners of other addresses as before
+-- the set has this client as the one owner of an address, and the owners of other addresses as
+-- before
 pub record ChangesOwner (address xid : ℕ) (old new : BTreeSet (ℕ × ℕ)) : Type 0 where
   pub own : contains pair_order new (xid, address) ≡ true
   pub others : (other : ℕ) → (other ≡ xid → ⊥) → contains pair_order new (other, address) ≡ false

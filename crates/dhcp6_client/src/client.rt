@@ -18,7 +18,7 @@ use crate::draws::{new_id, restarted};
 use crate::granted_lease::GrantedLease;
 use crate::rules::{ClientRules, bound_state};
 use dhcp_clock::{DhcpLink, Words};
-use dhcp_history::{BoundLease, Client, Reported, clean_up, is_listening, next_poll, run};
+use dhcp_history::{BoundLease, Client, StateReport, clean_up, is_listening, next_poll, run};
 use dhcp_wire::{DhcpError, ErrorKind, FixedText, beside};
 use dhcp6_msg::{DhcpV6Config, DhcpV6Lease, DhcpV6Mode, is_duid};
 use std::alloc::Global;
@@ -148,7 +148,7 @@ impl DhcpV6Client {
         crate::laws::table_is_lawful();
         crate::laws::leases_are_granted(self);
         let reported = run(&self.rules, &mut self.client, now, words, link)?;
-        Ok(reported.map(Reported::into_state))
+        Ok(reported.map(StateReport::into_state))
     }
 
     /// Drops the lease, the offer, the attempt and a kept error: the client searches anew, with its

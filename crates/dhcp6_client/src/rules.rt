@@ -16,7 +16,7 @@ use crate::draws::{association_id, restarted, transaction_id, wait};
 use crate::granted_lease::{GrantedLease, expiry, rebinding, renewal};
 use crate::message::{attempt_message, release_message};
 use dhcp_clock::{Handed, Packet, Words, draw};
-use dhcp_history::{AttemptStart, BoundLease, NewAttempt, Reported, Rules};
+use dhcp_history::{AttemptStart, BoundLease, NewAttempt, Rules, StateReport};
 use dhcp6_msg::{DhcpV6Config, DhcpV6Lease, DhcpV6Mode};
 use std::alloc::{AllocError, Global};
 use std::mem;
@@ -41,7 +41,7 @@ pub struct ClientRules {
 impl Rules for ClientRules {
     ghost use Rattle.dhcp6_client.specs.Rules as table;
 
-    type PublicState = Reported<DhcpV6State>;
+    type PublicState = StateReport<DhcpV6State>;
 
     type State = ClientState;
 
@@ -155,12 +155,12 @@ impl Rules for ClientRules {
         answer: GrantedLease,
         now: u64,
         exchange: &mut Exchange,
-    ) -> Result<Reported<DhcpV6State>, AllocError> {
+    ) -> Result<StateReport<DhcpV6State>, AllocError> {
         match state {
             ClientState::Solicit => {
                 enter(state, ClientState::Request(answer));
                 *exchange = restarted(*exchange);
-                Ok(Reported::new(DhcpV6State::Request))
+                Ok(StateReport::new(DhcpV6State::Request))
             }
             ClientState::Request(_) => self.bind(state, answer, now, exchange),
             ClientState::Done(_) => self.bind(state, answer, now, exchange),
@@ -170,7 +170,11 @@ impl Rules for ClientRules {
         }
     }
 
-    fn after_end(&self, state: &mut ClientState, exchange: &mut Exchange) -> Reported<DhcpV6State> {
+    fn after_end(
+        &self,
+        state: &mut ClientState,
+        exchange: &mut Exchange,
+    ) -> StateReport<DhcpV6State> {
         *exchange = restarted(*exchange);
         let reported = reported_after(state);
         let ended = mem::replace(state, ClientState::Solicit);
@@ -204,7 +208,7 @@ impl ClientRules {
         lease: GrantedLease,
         now: u64,
         exchange: &mut Exchange,
-    ) -> Result<Reported<DhcpV6State>, AllocError>
+    ) -> Result<StateReport<DhcpV6State>, AllocError>
         requires { now < 2 ^ 60 }
         ensures next { OnOk result (IsNext
             (table.bound_from self.now.config.mode now lease exchange.old)
@@ -217,7 +221,7 @@ impl ClientRules {
         let next = bound_state(self.config.mode, BoundLease::new(lease, now));
         enter(state, next);
         *exchange = restarted(*exchange);
-        Ok(Reported::new(reported))
+        Ok(StateReport::new(reported))
     }
 }
 
@@ -259,17 +263,17 @@ fn search_without<T: Drop>(lease: T) -> ClientState
 }
 
 // What is reported of that state.
-fn reported_after(state: &ClientState) -> Reported<DhcpV6State>
+fn reported_after(state: &ClientState) -> StateReport<DhcpV6State>
     ensures { (exchange : Exchange) → result ≡
         table.public_state (table.after_end state.now exchange).state }
 {
     match state {
-        ClientState::Solicit => Reported::new(DhcpV6State::Solicit),
-        ClientState::Request(_) => Reported::new(DhcpV6State::Solicit),
-        ClientState::Done(_) => Reported::new(DhcpV6State::Renew),
-        ClientState::Temporary(_) => Reported::new(DhcpV6State::Solicit),
-        ClientState::Renew(_) => Reported::new(DhcpV6State::Rebind),
-        ClientState::Rebind(_) => Reported::new(DhcpV6State::Solicit),
+        ClientState::Solicit => StateReport::new(DhcpV6State::Solicit),
+        ClientState::Request(_) => StateReport::new(DhcpV6State::Solicit),
+        ClientState::Done(_) => StateReport::new(DhcpV6State::Renew),
+        ClientState::Temporary(_) => StateReport::new(DhcpV6State::Solicit),
+        ClientState::Renew(_) => StateReport::new(DhcpV6State::Rebind),
+        ClientState::Rebind(_) => StateReport::new(DhcpV6State::Solicit),
     }
 }
 

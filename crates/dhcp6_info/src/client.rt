@@ -11,7 +11,7 @@ use crate::DhcpV6InfoState;
 use crate::client_state::{ClientState, Exchange};
 use crate::rules::ClientRules;
 use dhcp_clock::{DhcpLink, Words};
-use dhcp_history::{Client, Reported, clean_up, is_listening, next_poll, run};
+use dhcp_history::{Client, StateReport, clean_up, is_listening, next_poll, run};
 use dhcp_wire::{DhcpError, ErrorKind, FixedText};
 use dhcp6_msg::{DhcpV6Config, is_duid};
 use std::alloc::Global;
@@ -115,7 +115,7 @@ impl DhcpV6InfoClient {
     {
         crate::laws::table_is_lawful();
         let reported = run(&self.rules, &mut self.client, now, words, link)?;
-        Ok(reported.map(Reported::into_state))
+        Ok(reported.map(StateReport::into_state))
     }
 
     /// Drops the configuration that was given, the attempt and a kept error: the client asks anew,

@@ -14,7 +14,7 @@ use crate::draws::{restarted, transaction_id, wait};
 use crate::given_info::{GivenInfo, refresh_moment};
 use crate::message::attempt_message;
 use dhcp_clock::{Handed, Packet, Words, draw};
-use dhcp_history::{AttemptStart, BoundLease, NewAttempt, Reported, Rules};
+use dhcp_history::{AttemptStart, BoundLease, NewAttempt, Rules, StateReport};
 use dhcp6_msg::DhcpV6Config;
 use std::alloc::{AllocError, Global};
 use std::mem;
@@ -37,7 +37,7 @@ pub struct ClientRules {
 impl Rules for ClientRules {
     ghost use Rattle.dhcp6_info.specs.Rules as table;
 
-    type PublicState = Reported<DhcpV6InfoState>;
+    type PublicState = StateReport<DhcpV6InfoState>;
 
     type State = ClientState;
 
@@ -125,21 +125,21 @@ impl Rules for ClientRules {
         answer: GivenInfo,
         now: u64,
         exchange: &mut Exchange,
-    ) -> Result<Reported<DhcpV6InfoState>, AllocError> {
+    ) -> Result<StateReport<DhcpV6InfoState>, AllocError> {
         let reported = done_with(self.alloc, &answer)?;
         enter(state, ClientState::Done(BoundLease::new(answer, now)));
         *exchange = restarted(*exchange);
-        Ok(Reported::new(reported))
+        Ok(StateReport::new(reported))
     }
 
     fn after_end(
         &self,
         state: &mut ClientState,
         exchange: &mut Exchange,
-    ) -> Reported<DhcpV6InfoState> {
+    ) -> StateReport<DhcpV6InfoState> {
         *exchange = restarted(*exchange);
         enter(state, ClientState::Inform);
-        Reported::new(DhcpV6InfoState::Inform)
+        StateReport::new(DhcpV6InfoState::Inform)
     }
 
     fn after_clean_up(&self, state: &mut ClientState, exchange: &mut Exchange) {

@@ -6,7 +6,7 @@ use Rattle.std.proofs.lemmas.Bool.{leb-false, leb-true, le-leb}
 use Rattle.std.proofs.Math.Nat.{pow-le-pow_right}
 use Rattle.dhcp_history.specs.declared.rules.AttemptStart.{AttemptStart}
 use Rattle.dhcp_history.specs.Protocol.{Protocol, has_come}
-use Rattle.dhcp_history.specs.Script.{Event, Script}
+use Rattle.dhcp_history.specs.Script.{NumberedEvent, Script}
 use Rattle.dhcp_history.specs.History.{Stay, before, from, is_at_or_past, cuts, overruns, ends, closes, is_release, moment_of, LastAttempt, NoneYet, Open, Unsent, is_open, is_none_yet, last_by, Progress, exchange_after, runs_out, Heard, hear, reading_if, answer_or, refused_release, refused_release_of, new_attempt_at, Attempt, attempt_at, progress_after, Course, course, next_attempt, attempt_or_end, Finish, Outcome, Unanswered, AnsweredBy, RanOut, Act, Attempted, ReleaseRefused, LimitOver, Setting, Entry, Transition, transition, transition_by, close, cut, end_at, limit_acts, setting_at, entry_progress, stays, history}
 use Rattle.dhcp_history.specs.Script.{after_call}
 use Rattle.dhcp_clock.specs.Wait.{half_wait}
@@ -66,10 +66,10 @@ module _ {Message : Type 0} where
 
 module _ {Packet : Type 0} where
   -- events that stand before a moment
-  abbrev AllBefore : ℕ → List (Event Packet) → Type 0
+  abbrev AllBefore : ℕ → List (NumberedEvent Packet) → Type 0
   AllBefore end events = AllByRecursion (λ event. event.moment < end) events
 
-  from_before : (end : ℕ) (test : Event Packet → Bool) (events : List (Event Packet)) → AllBefore end events → AllBefore end (from test events)
+  from_before : (end : ℕ) (test : NumberedEvent Packet → Bool) (events : List (NumberedEvent Packet)) → AllBefore end events → AllBefore end (from test events)
   from_before end test [] all = tt
   from_before end test (v ∷ vs) all = go (from_before end test vs all.1) (test v) refl
     where
@@ -79,7 +79,7 @@ module _ {Packet : Type 0} where
 
 module _ {PublicState Packet Message State Exchange Answer Lease : Type 0} (p : Protocol PublicState Packet Message State Exchange Answer Lease) where
   -- no attempt is among what is refused, what is heard, and what is overdue
-  pub none_denied : (setting : Setting State) (exchange : Exchange) (v : Event Packet) → attempts_of (refused_release p setting exchange v) ≡ []
+  pub none_denied : (setting : Setting State) (exchange : Exchange) (v : NumberedEvent Packet) → attempts_of (refused_release p setting exchange v) ≡ []
   none_denied setting exchange v = go (p.held_lease setting.state)
     where
       go : (held : Option Lease) → attempts_of (refused_release_of p held exchange v) ≡ []
@@ -90,7 +90,7 @@ module _ {PublicState Packet Message State Exchange Answer Lease : Type 0} (p : 
           by_test true e = rw e
           by_test false e = rw e
 
-  pub none_heard : (setting : Setting State) (exchange : Exchange) (listens : Bool) (words : List ℕ) (events : List (Event Packet)) → attempts_of (hear p setting exchange listens words events).acts ≡ []
+  pub none_heard : (setting : Setting State) (exchange : Exchange) (listens : Bool) (words : List ℕ) (events : List (NumberedEvent Packet)) → attempts_of (hear p setting exchange listens words events).acts ≡ []
   none_heard setting exchange listens words [] = refl
   none_heard setting exchange listens words (v ∷ vs) =
       go (reading_if p listens setting exchange words v.input).value (none_heard setting exchange listens (reading_if p listens setting exchange words v.input).left vs)
@@ -103,43 +103,43 @@ module _ {PublicState Packet Message State Exchange Answer Lease : Type 0} (p : 
       go None ih = rw (attempts-append (refused_release p setting exchange v) later.acts, none_denied setting exchange v, ih)
       go (Some answer) ih = none_denied setting exchange v
 
-  none_overdue : (setting : Setting State) (exchange : Exchange) (events : List (Event Packet)) → attempts_of (flat_map (limit_acts p setting exchange) events) ≡ []
+  none_overdue : (setting : Setting State) (exchange : Exchange) (events : List (NumberedEvent Packet)) → attempts_of (flat_map (limit_acts p setting exchange) events) ≡ []
   none_overdue setting exchange [] = refl
   none_overdue setting exchange (v ∷ vs) =
       rw (attempts-append (limit_acts p setting exchange v) (flat_map (limit_acts p setting exchange) vs), attempts-append (refused_release p setting exchange v) (LimitOver v.number ∷ []), none_denied setting exchange v)
       (none_overdue setting exchange vs)
 
-  pub none_turned : (setting : Setting State) (finish : Finish Packet Exchange Answer) (late : List (Event Packet)) → attempts_of (transition p setting finish late).acts ≡ []
+  pub none_turned : (setting : Setting State) (finish : Finish Packet Exchange Answer) (late : List (NumberedEvent Packet)) → attempts_of (transition p setting finish late).acts ≡ []
   none_turned setting finish late = go finish.outcome late
     where
-      by_end : (events : List (Event Packet)) → attempts_of (end_at p setting finish events).acts ≡ []
+      by_end : (events : List (NumberedEvent Packet)) → attempts_of (end_at p setting finish events).acts ≡ []
       by_end [] = refl
       by_end (v ∷ vs) = none_denied setting finish.exchange v
 
-      by_cut : (events : List (Event Packet)) → attempts_of (cut p setting finish events).acts ≡ []
+      by_cut : (events : List (NumberedEvent Packet)) → attempts_of (cut p setting finish events).acts ≡ []
       by_cut [] = refl
       by_cut (v ∷ vs) = refl
 
-      by_close : (v : Event Packet) (vs : List (Event Packet)) (cuts over : Bool) → attempts_of (close p cuts over setting finish v vs).acts ≡ []
+      by_close : (v : NumberedEvent Packet) (vs : List (NumberedEvent Packet)) (cuts over : Bool) → attempts_of (close p cuts over setting finish v vs).acts ≡ []
       by_close v vs true over = by_cut (v ∷ vs)
       by_close v vs false true = none_overdue setting finish.exchange (before (cuts p setting) (v ∷ vs))
       by_close v vs false false = by_end (v ∷ vs)
 
-      go : (outcome : Outcome Answer) (late : List (Event Packet)) → attempts_of (transition_by p outcome setting finish late).acts ≡ []
+      go : (outcome : Outcome Answer) (late : List (NumberedEvent Packet)) → attempts_of (transition_by p outcome setting finish late).acts ≡ []
       go (AnsweredBy answer) late = refl
       go RanOut late = by_end (finish.rest ++ late)
       go Unanswered [] = by_cut []
       go Unanswered (v ∷ vs) = by_close v vs (cuts p setting v) (overruns p setting v)
 
   -- What holds of the attempts from a place on, where it holds of none, and of one attempt and those after it.
-  module _ (setting : Setting State) (Fits : Progress Exchange → List (Event Packet) → Type 0) (Holds : Progress Exchange → List (Attempt Message) → Type 0)
+  module _ (setting : Setting State) (Fits : Progress Exchange → List (NumberedEvent Packet) → Type 0) (Holds : Progress Exchange → List (Attempt Message) → Type 0)
       (by_none : (progress : Progress Exchange) → Holds progress [])
       (by_words : (progress : Progress Exchange) (words : List ℕ) (attempts : List (Attempt Message)) → Holds (record progress { words = words }) attempts → Holds progress attempts)
-      (fits_next : (progress : Progress Exchange) (words : List ℕ) (events : List (Event Packet)) (v : Event Packet) (vs : List (Event Packet)) → Fits progress events → from (is_at_or_past progress.due) events ≡ v ∷ vs →
+      (fits_next : (progress : Progress Exchange) (words : List ℕ) (events : List (NumberedEvent Packet)) (v : NumberedEvent Packet) (vs : List (NumberedEvent Packet)) → Fits progress events → from (is_at_or_past progress.due) events ≡ v ∷ vs →
       Fits (progress_after p setting (record progress { words = words }) v) (after_call v ∷ vs))
-      (by_one : (progress : Progress Exchange) (events : List (Event Packet)) (v : Event Packet) (vs : List (Event Packet)) (attempts : List (Attempt Message)) → Fits progress events → from (is_at_or_past progress.due) events ≡ v ∷ vs → runs_out p setting progress ≡ false →
+      (by_one : (progress : Progress Exchange) (events : List (NumberedEvent Packet)) (v : NumberedEvent Packet) (vs : List (NumberedEvent Packet)) (attempts : List (Attempt Message)) → Fits progress events → from (is_at_or_past progress.due) events ≡ v ∷ vs → runs_out p setting progress ≡ false →
       (words : List ℕ) → Holds (progress_after p setting (record progress { words = words }) v) attempts → Holds (record progress { words = words }) (attempt_at p setting (record progress { words = words }) v ∷ attempts)) where
-    pub course_holds : (fuel : ℕ) (progress : Progress Exchange) (events : List (Event Packet)) → Fits progress events → Holds progress (attempts_of (course p fuel setting progress events).acts)
+    pub course_holds : (fuel : ℕ) (progress : Progress Exchange) (events : List (NumberedEvent Packet)) → Fits progress events → Holds progress (attempts_of (course p fuel setting progress events).acts)
     course_holds zero progress events fits = by_none progress
     course_holds (suc fuel) progress events fits = go last.answer (from (is_at_or_past progress.due) events) refl (λ next vs h. course_holds fuel next vs h)
       where
@@ -152,8 +152,8 @@ module _ {PublicState Packet Message State Exchange Answer Lease : Type 0} (p : 
         quiet : attempts_of last.acts ≡ []
         quiet = none_heard setting progress.exchange (is_open progress.last) progress.words (before (is_at_or_past progress.due) events)
 
-        by_end : (b : Bool) → runs_out p setting now ≡ b → (v : Event Packet) (vs : List (Event Packet)) → from (is_at_or_past progress.due) events ≡ v ∷ vs →
-            ((next : Progress Exchange) (xs : List (Event Packet)) → Fits next xs → Holds next (attempts_of (course p fuel setting next xs).acts)) →
+        by_end : (b : Bool) → runs_out p setting now ≡ b → (v : NumberedEvent Packet) (vs : List (NumberedEvent Packet)) → from (is_at_or_past progress.due) events ≡ v ∷ vs →
+            ((next : Progress Exchange) (xs : List (NumberedEvent Packet)) → Fits next xs → Holds next (attempts_of (course p fuel setting next xs).acts)) →
             Holds progress (attempts_of (attempt_or_end p b (course p fuel setting) setting now last.acts v vs).acts)
         by_end true r v vs e ih = rw (attempts-append last.acts (refused_release p setting progress.exchange v), quiet, none_denied setting progress.exchange v) (by_none progress)
         by_end false r v vs e ih =
@@ -169,8 +169,8 @@ module _ {PublicState Packet Message State Exchange Answer Lease : Type 0} (p : 
             (by_words progress last.words (attempt_at p setting now v ∷ attempts_of rest)
             (by_one progress events v vs (attempts_of rest) fits e r last.words (ih next (after_call v ∷ vs) (fits_next progress last.words events v vs fits e))))
 
-        go : (answer : Option Answer) (late : List (Event Packet)) → from (is_at_or_past progress.due) events ≡ late →
-            ((next : Progress Exchange) (xs : List (Event Packet)) → Fits next xs → Holds next (attempts_of (course p fuel setting next xs).acts)) →
+        go : (answer : Option Answer) (late : List (NumberedEvent Packet)) → from (is_at_or_past progress.due) events ≡ late →
+            ((next : Progress Exchange) (xs : List (NumberedEvent Packet)) → Fits next xs → Holds next (attempts_of (course p fuel setting next xs).acts)) →
             Holds progress (attempts_of (next_attempt p (course p fuel setting) setting now answer last late).acts)
         go (Some answer) late e ih = rw quiet (by_none progress)
         go None [] e ih = rw quiet (by_none progress)
@@ -180,12 +180,12 @@ module _ {PublicState Packet Message State Exchange Answer Lease : Type 0} (p : 
   abbrev DueBy : ℕ → Progress Exchange → Type 0
   DueBy due progress = (now : ℕ) → has_come now progress.due ≡ true → due ≤ now
 
-  due_at : (due : ℕ) (progress : Progress Exchange) (events : List (Event Packet)) (v : Event Packet) (vs : List (Event Packet)) → DueBy due progress → from (is_at_or_past progress.due) events ≡ v ∷ vs → due ≤ v.moment
+  due_at : (due : ℕ) (progress : Progress Exchange) (events : List (NumberedEvent Packet)) (v : NumberedEvent Packet) (vs : List (NumberedEvent Packet)) → DueBy due progress → from (is_at_or_past progress.due) events ≡ v ∷ vs → due ≤ v.moment
   due_at due progress events v vs by e = by v.moment (from_passes (is_at_or_past progress.due) events v vs e)
 
   -- the attempts of a stay are at least their waits apart
   module _ (setting : Setting State) where
-    course_apart : (fuel : ℕ) (progress : Progress Exchange) (events : List (Event Packet)) (due : ℕ) → DueBy due progress → Apart due (attempts_of (course p fuel setting progress events).acts)
+    course_apart : (fuel : ℕ) (progress : Progress Exchange) (events : List (NumberedEvent Packet)) (due : ℕ) → DueBy due progress → Apart due (attempts_of (course p fuel setting progress events).acts)
     course_apart fuel progress events =
         course_holds setting (λ place' events'. Unit {0}) (λ place' attempts. (due : ℕ) → DueBy due place' → Apart due attempts)
         (λ place' due by. tt)
@@ -200,7 +200,7 @@ module _ {PublicState Packet Message State Exchange Answer Lease : Type 0} (p : 
 
   -- the attempts of a stay whose waits are halves are spaced so
   module _ (setting : Setting State) (end : ℕ) (halved : Halved p setting.state end) where
-    course_spaced : (fuel : ℕ) (progress : Progress Exchange) (events : List (Event Packet)) → AllBefore end events → (due : ℕ) → DueBy due progress → Spaced end due (attempts_of (course p fuel setting progress events).acts)
+    course_spaced : (fuel : ℕ) (progress : Progress Exchange) (events : List (NumberedEvent Packet)) → AllBefore end events → (due : ℕ) → DueBy due progress → Spaced end due (attempts_of (course p fuel setting progress events).acts)
     course_spaced fuel progress events all =
         course_holds setting (λ place' events'. AllBefore end events') (λ place' attempts. (due : ℕ) → DueBy due place' → Spaced end due attempts)
         (λ place' due by. tt)
@@ -209,10 +209,10 @@ module _ {PublicState Packet Message State Exchange Answer Lease : Type 0} (p : 
         (λ place' events' v vs attempts fits e more words h due by. one place' events' v vs attempts fits e words h due by)
         fuel progress events all
       where
-        later : (events' : List (Event Packet)) (v : Event Packet) (vs : List (Event Packet)) (place' : Progress Exchange) → AllBefore end events' → from (is_at_or_past place'.due) events' ≡ v ∷ vs → AllBefore end (v ∷ vs)
-        later events' v vs place' fits e = subst (λ (xs : List (Event Packet)). AllBefore end xs) e (from_before end (is_at_or_past place'.due) events' fits)
+        later : (events' : List (NumberedEvent Packet)) (v : NumberedEvent Packet) (vs : List (NumberedEvent Packet)) (place' : Progress Exchange) → AllBefore end events' → from (is_at_or_past place'.due) events' ≡ v ∷ vs → AllBefore end (v ∷ vs)
+        later events' v vs place' fits e = subst (λ (xs : List (NumberedEvent Packet)). AllBefore end xs) e (from_before end (is_at_or_past place'.due) events' fits)
 
-        one : (place' : Progress Exchange) (events' : List (Event Packet)) (v : Event Packet) (vs : List (Event Packet)) (attempts : List (Attempt Message)) → AllBefore end events' → from (is_at_or_past place'.due) events' ≡ v ∷ vs →
+        one : (place' : Progress Exchange) (events' : List (NumberedEvent Packet)) (v : NumberedEvent Packet) (vs : List (NumberedEvent Packet)) (attempts : List (Attempt Message)) → AllBefore end events' → from (is_at_or_past place'.due) events' ≡ v ∷ vs →
             (words : List ℕ) → ((due : ℕ) → DueBy due (progress_after p setting (record place' { words = words }) v) → Spaced end due attempts) → (due : ℕ) → DueBy due place' →
             Spaced end due (attempt_at p setting (record place' { words = words }) v ∷ attempts)
         one place' events' v vs attempts fits e words h due by =
@@ -242,7 +242,7 @@ module _ {PublicState Packet Message State Exchange Answer Lease : Type 0} (p : 
     abbrev count : Exchange → ℕ
     count exchange = ends_after.count exchange
 
-    course_few : (fuel : ℕ) (progress : Progress Exchange) (events : List (Event Packet)) → taken_count (attempts_of (course p fuel setting progress events).acts) ≤ most (is_open progress.last) (count progress.exchange)
+    course_few : (fuel : ℕ) (progress : Progress Exchange) (events : List (NumberedEvent Packet)) → taken_count (attempts_of (course p fuel setting progress events).acts) ≤ most (is_open progress.last) (count progress.exchange)
     course_few fuel progress events =
         course_holds setting (λ place' events'. Unit {0}) (λ place' attempts. taken_count attempts ≤ most (is_open place'.last) (count place'.exchange))
         (λ place'. omega arith)
@@ -258,7 +258,7 @@ module _ {PublicState Packet Message State Exchange Answer Lease : Type 0} (p : 
             go true e = absurd (cc (ends_after.last exchange (leb-true n (suc (count exchange)) e), more))
             go false e = leb-false n (suc (count exchange)) e
 
-        by_last : (last : LastAttempt) (due : Option ℕ) (exchange : Exchange) (words : List ℕ) (v : Event Packet) (attempts : List (Attempt Message)) → runs_out p setting (record { last = last; due = due; exchange = exchange; words = words }) ≡ false →
+        by_last : (last : LastAttempt) (due : Option ℕ) (exchange : Exchange) (words : List ℕ) (v : NumberedEvent Packet) (attempts : List (Attempt Message)) → runs_out p setting (record { last = last; due = due; exchange = exchange; words = words }) ≡ false →
             taken_count attempts ≤ most (is_open (last_by v.refuse)) (count (new_attempt_at p setting (record { last = last; due = due; exchange = exchange; words = words }) v.moment).value.exchange) →
             (if not v.refuse then 1 else 0) + taken_count attempts ≤ most (is_open last) (count exchange)
         by_last NoneYet due exchange words v attempts more h =
@@ -272,13 +272,13 @@ module _ {PublicState Packet Message State Exchange Answer Lease : Type 0} (p : 
             next_taken v.refuse (count exchange) (count (p.after_wait exchange)) (count (new_attempt_at p setting (record { last = Open; due = due; exchange = exchange; words = words }) v.moment).value.exchange) fewer (ends_after.rises exchange fewer)
             (ends_after.keeps (p.after_wait exchange) (record { is_first = false; entered = setting.entered; now = v.moment }) words) (taken_count attempts) h
 
-        one : (place' : Progress Exchange) (v : Event Packet) (attempts : List (Attempt Message)) → runs_out p setting place' ≡ false → (words : List ℕ) →
+        one : (place' : Progress Exchange) (v : NumberedEvent Packet) (attempts : List (Attempt Message)) → runs_out p setting place' ≡ false → (words : List ℕ) →
             taken_count attempts ≤ most (is_open (last_by v.refuse)) (count (new_attempt_at p setting (record place' { words = words }) v.moment).value.exchange) →
             taken_count (attempt_at p setting (record place' { words = words }) v ∷ attempts) ≤ most (is_open place'.last) (count place'.exchange)
         one place' v attempts more words h = by_last place'.last place'.due place'.exchange words v attempts more h
 
   -- no attempt of a stay stands before its entry
-  entry_due : (setting : Setting State) (entry : Entry State Exchange) (v : Event Packet) → DueBy v.moment (entry_progress p setting entry v)
+  entry_due : (setting : Setting State) (entry : Entry State Exchange) (v : NumberedEvent Packet) → DueBy v.moment (entry_progress p setting entry v)
   entry_due setting entry v now h = go (cuts p setting v) refl (p.has_attempts entry.state) refl
     where
       go : (b : Bool) → cuts p setting v ≡ b → (c : Bool) → p.has_attempts entry.state ≡ c → v.moment ≤ now
@@ -289,7 +289,7 @@ module _ {PublicState Packet Message State Exchange Answer Lease : Type 0} (p : 
           omega arith
 
   -- the events of a window stand before the moment that ends the state
-  window_before : (setting : Setting State) (end : ℕ) → p.ending_moment setting.state ≡ Some end → (events : List (Event Packet)) → AllBefore end (before (closes p setting) events)
+  window_before : (setting : Setting State) (end : ℕ) → p.ending_moment setting.state ≡ Some end → (events : List (NumberedEvent Packet)) → AllBefore end (before (closes p setting) events)
   window_before setting end e [] = tt
   window_before setting end e (v ∷ vs) = go (window_before setting end e vs) (cuts p setting v) refl (overruns p setting v) refl (ends p setting v) refl
     where
@@ -301,9 +301,9 @@ module _ {PublicState Packet Message State Exchange Answer Lease : Type 0} (p : 
 
   -- what holds of the attempts of each stay, by its setting, holds of all stays
   module _ (Holds : Setting State → List (Attempt Message) → Type 0)
-      (each : (fuel : ℕ) (setting : Setting State) (entry : Entry State Exchange) (v : Event Packet) (vs : List (Event Packet)) → setting.state ≡ entry.state → setting.entered ≡ v.moment →
+      (each : (fuel : ℕ) (setting : Setting State) (entry : Entry State Exchange) (v : NumberedEvent Packet) (vs : List (NumberedEvent Packet)) → setting.state ≡ entry.state → setting.entered ≡ v.moment →
       Holds setting (attempts_of (course p fuel setting (entry_progress p setting entry v) (before (closes p setting) (v ∷ vs))).acts)) where
-    stays_have : (fuel timeout_sec : ℕ) (entry : Entry State Exchange) (events : List (Event Packet)) → AllByRecursion (λ stay. Holds stay.setting (attempts_of stay.acts)) (stays p fuel timeout_sec entry events)
+    stays_have : (fuel timeout_sec : ℕ) (entry : Entry State Exchange) (events : List (NumberedEvent Packet)) → AllByRecursion (λ stay. Holds stay.setting (attempts_of stay.acts)) (stays p fuel timeout_sec entry events)
     stays_have fuel timeout_sec entry [] = tt
     stays_have zero timeout_sec entry (v ∷ vs) = tt
     stays_have (suc fuel) timeout_sec entry (v ∷ vs) =
@@ -334,14 +334,14 @@ module _ {PublicState Packet Message State Exchange Answer Lease : Type 0} (p : 
       (course_few setting n ends_after fuel (entry_progress p setting entry v) (before (closes p setting) (v ∷ vs))))
       script
     where
-      shut : (setting : Setting State) (entry : Entry State Exchange) (v : Event Packet) → is_open (entry_progress p setting entry v).last ≡ false
+      shut : (setting : Setting State) (entry : Entry State Exchange) (v : NumberedEvent Packet) → is_open (entry_progress p setting entry v).last ≡ false
       shut setting entry v = go (cuts p setting v) refl
         where
           go : (b : Bool) → cuts p setting v ≡ b → is_open (entry_progress p setting entry v).last ≡ false
           go true e = rw e
           go false e = rw e
 
-      few : (setting : Setting State) (n : ℕ) (ends_after : EndsAfter p setting.state n) (entry : Entry State Exchange) (v : Event Packet) (attempts : List (Attempt Message)) →
+      few : (setting : Setting State) (n : ℕ) (ends_after : EndsAfter p setting.state n) (entry : Entry State Exchange) (v : NumberedEvent Packet) (attempts : List (Attempt Message)) →
           taken_count attempts ≤ most setting n ends_after (is_open (entry_progress p setting entry v).last) (ends_after.count (entry_progress p setting entry v).exchange) → taken_count attempts ≤ n
       few setting n ends_after entry v attempts h = go (ends_after.count (entry_progress p setting entry v).exchange) (rw (shut setting entry v) at h)
         where
@@ -355,7 +355,7 @@ module _ {PublicState Packet Message State Exchange Answer Lease : Type 0} (p : 
       (λ fuel setting entry v vs s e end halved. halves fuel setting entry v vs e end halved)
       script
     where
-      halves : (fuel : ℕ) (setting : Setting State) (entry : Entry State Exchange) (v : Event Packet) (vs : List (Event Packet)) → setting.entered ≡ v.moment → (end : ℕ) → Halved p setting.state end →
+      halves : (fuel : ℕ) (setting : Setting State) (entry : Entry State Exchange) (v : NumberedEvent Packet) (vs : List (NumberedEvent Packet)) → setting.entered ≡ v.moment → (end : ℕ) → Halved p setting.state end →
           Halves (taken_count (attempts_of (course p fuel setting (entry_progress p setting entry v) (before (closes p setting) (v ∷ vs))).acts)) (end - setting.entered)
       halves fuel setting entry v vs e end halved =
           subst (λ (entered : ℕ). Halves (taken_count (attempts_of (course p fuel setting (entry_progress p setting entry v) (before (closes p setting) (v ∷ vs))).acts)) (end - entered)) (sym e)
@@ -368,10 +368,10 @@ module _ {PublicState Packet Message State Exchange Answer Lease : Type 0} (p : 
     abbrev Next : ℕ → Progress Exchange → Type 0
     Next due progress = (now : ℕ) → has_come now (p.ending_moment setting.state) ≡ false → has_come now progress.due ≡ true → (due ≤ now) × (good progress.exchange ≡ true)
 
-    abbrev Lasting : List (Event Packet) → Type 0
+    abbrev Lasting : List (NumberedEvent Packet) → Type 0
     Lasting events = AllByRecursion (λ event. ends p setting event ≡ false) events
 
-    lasting_from : (test : Event Packet → Bool) (events : List (Event Packet)) → Lasting events → Lasting (from test events)
+    lasting_from : (test : NumberedEvent Packet → Bool) (events : List (NumberedEvent Packet)) → Lasting events → Lasting (from test events)
     lasting_from test [] all = tt
     lasting_from test (v ∷ vs) all = go (lasting_from test vs all.1) (test v) refl
       where
@@ -389,7 +389,7 @@ module _ {PublicState Packet Message State Exchange Answer Lease : Type 0} (p : 
     come_later None soon late h e = e
     come_later (Some moment) soon late h e = le-leb moment late (omega (arith, h, leb-true moment soon e))
 
-    next_far : (progress : Progress Exchange) (v : Event Packet) → good progress.exchange ≡ true → has_come v.moment (p.ending_moment setting.state) ≡ false → Next (v.moment + distance) (progress_after p setting progress v)
+    next_far : (progress : Progress Exchange) (v : NumberedEvent Packet) → good progress.exchange ≡ true → has_come v.moment (p.ending_moment setting.state) ≡ false → Next (v.moment + distance) (progress_after p setting progress v)
     next_far progress v g lasts now open_ended come = go (distant.far (exchange_after p progress) start progress.words (good_counted progress.last progress.due progress.exchange progress.words g) lasts)
       where
         start : AttemptStart
@@ -406,7 +406,7 @@ module _ {PublicState Packet Message State Exchange Answer Lease : Type 0} (p : 
         go (inl far) = (omega (arith, far.0, over), far.1)
         go (inr past) = absurd (cc (come_later (p.ending_moment setting.state) (v.moment + waited) now over past, open_ended))
 
-    course_far : (fuel : ℕ) (progress : Progress Exchange) (events : List (Event Packet)) → Lasting events → (due : ℕ) → Next due progress → FarApart distance due (attempts_of (course p fuel setting progress events).acts)
+    course_far : (fuel : ℕ) (progress : Progress Exchange) (events : List (NumberedEvent Packet)) → Lasting events → (due : ℕ) → Next due progress → FarApart distance due (attempts_of (course p fuel setting progress events).acts)
     course_far fuel progress events all =
         course_holds setting (λ place' events'. Lasting events') (λ place' attempts. (due : ℕ) → Next due place' → FarApart distance due attempts)
         (λ place' due next. tt)
@@ -415,10 +415,10 @@ module _ {PublicState Packet Message State Exchange Answer Lease : Type 0} (p : 
         (λ place' events' v vs attempts fits e more words h due next. one place' events' v vs attempts fits e words h due next)
         fuel progress events all
       where
-        later : (events' : List (Event Packet)) (v : Event Packet) (vs : List (Event Packet)) (place' : Progress Exchange) → Lasting events' → from (is_at_or_past place'.due) events' ≡ v ∷ vs → Lasting (v ∷ vs)
-        later events' v vs place' fits e = subst (λ (xs : List (Event Packet)). Lasting xs) e (lasting_from (is_at_or_past place'.due) events' fits)
+        later : (events' : List (NumberedEvent Packet)) (v : NumberedEvent Packet) (vs : List (NumberedEvent Packet)) (place' : Progress Exchange) → Lasting events' → from (is_at_or_past place'.due) events' ≡ v ∷ vs → Lasting (v ∷ vs)
+        later events' v vs place' fits e = subst (λ (xs : List (NumberedEvent Packet)). Lasting xs) e (lasting_from (is_at_or_past place'.due) events' fits)
 
-        one : (place' : Progress Exchange) (events' : List (Event Packet)) (v : Event Packet) (vs : List (Event Packet)) (attempts : List (Attempt Message)) → Lasting events' → from (is_at_or_past place'.due) events' ≡ v ∷ vs →
+        one : (place' : Progress Exchange) (events' : List (NumberedEvent Packet)) (v : NumberedEvent Packet) (vs : List (NumberedEvent Packet)) (attempts : List (Attempt Message)) → Lasting events' → from (is_at_or_past place'.due) events' ≡ v ∷ vs →
             (words : List ℕ) → ((due : ℕ) → Next due (progress_after p setting (record place' { words = words }) v) → FarApart distance due attempts) → (due : ℕ) → Next due place' →
             FarApart distance due (attempt_at p setting (record place' { words = words }) v ∷ attempts)
         one place' events' v vs attempts fits e words h due next =
@@ -426,7 +426,7 @@ module _ {PublicState Packet Message State Exchange Answer Lease : Type 0} (p : 
             let now : (due ≤ v.moment) × (good place'.exchange ≡ true) = next v.moment lasts (from_passes (is_at_or_past place'.due) events' v vs e) in
             (now.0, h (v.moment + distance) (next_far (record place' { words = words }) v now.1 lasts))
 
-    window_lasts : (events : List (Event Packet)) → Lasting (before (closes p setting) events)
+    window_lasts : (events : List (NumberedEvent Packet)) → Lasting (before (closes p setting) events)
     window_lasts [] = tt
     window_lasts (v ∷ vs) = go (window_lasts vs) (cuts p setting v) refl (overruns p setting v) refl (ends p setting v) refl
       where
@@ -440,29 +440,29 @@ module _ {PublicState Packet Message State Exchange Answer Lease : Type 0} (p : 
     abbrev GoodFirst : Transition Packet Message State Exchange → Type 0
     GoodFirst next = (next.events ≡ []) ⊎ (good next.entry.exchange ≡ true)
 
-    turn_good : (setting : Setting State) (finish : Finish Packet Exchange Answer) (late : List (Event Packet)) → GoodFirst (transition p setting finish late)
+    turn_good : (setting : Setting State) (finish : Finish Packet Exchange Answer) (late : List (NumberedEvent Packet)) → GoodFirst (transition p setting finish late)
     turn_good setting finish late = go finish.outcome late
       where
-        by_end : (events : List (Event Packet)) → GoodFirst (end_at p setting finish events)
+        by_end : (events : List (NumberedEvent Packet)) → GoodFirst (end_at p setting finish events)
         by_end [] = inl refl
         by_end (v ∷ vs) = inr (is_kept.ended setting.state finish.after_wait)
 
-        by_cut : (events : List (Event Packet)) → GoodFirst (cut p setting finish events)
+        by_cut : (events : List (NumberedEvent Packet)) → GoodFirst (cut p setting finish events)
         by_cut [] = inl refl
         by_cut (v ∷ vs) = inr (is_kept.cleaned finish.exchange)
 
-        by_close : (v : Event Packet) (vs : List (Event Packet)) (cuts over : Bool) → GoodFirst (close p cuts over setting finish v vs)
+        by_close : (v : NumberedEvent Packet) (vs : List (NumberedEvent Packet)) (cuts over : Bool) → GoodFirst (close p cuts over setting finish v vs)
         by_close v vs true over = by_cut (v ∷ vs)
         by_close v vs false true = by_cut (from (cuts p setting) (v ∷ vs))
         by_close v vs false false = by_end (v ∷ vs)
 
-        go : (outcome : Outcome Answer) (late : List (Event Packet)) → GoodFirst (transition_by p outcome setting finish late)
+        go : (outcome : Outcome Answer) (late : List (NumberedEvent Packet)) → GoodFirst (transition_by p outcome setting finish late)
         go (AnsweredBy answer) late = inr (is_kept.answered setting.state answer (moment_of (finish.rest ++ late)) finish.exchange)
         go RanOut late = by_end (finish.rest ++ late)
         go Unanswered [] = inl refl
         go Unanswered (v ∷ vs) = by_close v vs (cuts p setting v) (overruns p setting v)
 
-    entry_next : (setting : Setting State) (distance : ℕ) (distant : Distant p good setting.state distance) (entry : Entry State Exchange) (v : Event Packet) → good entry.exchange ≡ true →
+    entry_next : (setting : Setting State) (distance : ℕ) (distant : Distant p good setting.state distance) (entry : Entry State Exchange) (v : NumberedEvent Packet) → good entry.exchange ≡ true →
         Next good is_kept setting distance distant v.moment (entry_progress p setting entry v)
     entry_next setting distance distant entry v g now open_ended come = (entry_due setting entry v now come, go (cuts p setting v) refl)
       where
@@ -470,7 +470,7 @@ module _ {PublicState Packet Message State Exchange Answer Lease : Type 0} (p : 
         go true e = rw e g
         go false e = rw e g
 
-    stays_far : (fuel timeout_sec : ℕ) (entry : Entry State Exchange) (events : List (Event Packet)) → (events ≡ []) ⊎ (good entry.exchange ≡ true) → AllByRecursion (IsDistant p good) (stays p fuel timeout_sec entry events)
+    stays_far : (fuel timeout_sec : ℕ) (entry : Entry State Exchange) (events : List (NumberedEvent Packet)) → (events ≡ []) ⊎ (good entry.exchange ≡ true) → AllByRecursion (IsDistant p good) (stays p fuel timeout_sec entry events)
     stays_far fuel timeout_sec entry [] g = tt
     stays_far zero timeout_sec entry (v ∷ vs) g = tt
     stays_far (suc fuel) timeout_sec entry (v ∷ vs) (inl none) = absurd (cc none)

@@ -2,7 +2,7 @@
 use Rattle.std.proofs.Common.{◌≡◌, ℕ, suc, zero, ◌+◌, ◌*◌, ◌≤◌, List, [], ◌∷◌, ◌++◌, length, refl, ap, Bool, true, false, arith, ◌∙◌, sym, append_assoc}
 use Rattle.std.specs.Prelude.{Option, Some, None, flat_map, is_some, option_map}
 use Rattle.dhcp_history.specs.Protocol.{Protocol, Lawful}
-use Rattle.dhcp_history.specs.Script.{Input, Nothing, Arrival, Release, CleanUp, Event, Output, Script}
+use Rattle.dhcp_history.specs.Script.{Input, Nothing, Arrival, Release, CleanUp, NumberedEvent, NumberedReport, Script}
 use Rattle.dhcp_history.specs.History.{before, from, ends, overruns, closes, cuts, NoneYet, Progress, Course, course, Entry, Transition, transition, entry_progress, entry_pause, setting_at, act_outputs, closing_outputs, stays, outputs, history, Setting, Finish, refused_release, refused_release_of, cut_message, cuts_by, Cut, Act, limit_acts, cut, LimitOver, entry_of_next}
 use Rattle.dhcp_history.specs.Script.{after_call}
 use Rattle.dhcp_history.specs.Machine.{View, Phase, Unpolled, Pausing, Listening, Resting, Stopped, EventEffect, is_stopped, begin_stay, begin_in, call, call_by, release_of, clean_up, replay_from, replay, first_view}
@@ -12,14 +12,14 @@ use Rattle.dhcp_history.proofs.Follows.{flat_map-append, stay_reported, fresh_fo
 
 module _ {PublicState Packet Message State Exchange Answer Lease : Type 0} (p : Protocol PublicState Packet Message State Exchange Answer Lease) where
   -- the call of an event that cuts the stay, and of one that doesn't
-  abbrev cut_outputs : Setting State → Exchange → Event Packet → List (Output PublicState Message)
+  abbrev cut_outputs : Setting State → Exchange → NumberedEvent Packet → List (NumberedReport PublicState Message)
   cut_outputs setting exchange v = closing_outputs p (Cut v.number (cut_message p setting exchange v.input))
 
   -- what the stays report from a clean-up at this event on
-  abbrev cut_stays : ℕ → ℕ → Exchange → List ℕ → Event Packet → List (Event Packet) → List (Output PublicState Message)
+  abbrev cut_stays : ℕ → ℕ → Exchange → List ℕ → NumberedEvent Packet → List (NumberedEvent Packet) → List (NumberedReport PublicState Message)
   cut_stays fuel timeout_sec exchange words v vs = outputs p (stays p fuel timeout_sec (entry_of_next (p.after_clean_up exchange) words) (after_call v ∷ vs))
 
-  call_cut : (view : View State Exchange) (v : Event Packet) → cuts p (setting_of p view) v ≡ true → call p v view ≡ record { outputs = cut_outputs (setting_of p view) view.exchange v; view = clean_up p view }
+  call_cut : (view : View State Exchange) (v : NumberedEvent Packet) → cuts p (setting_of p view) v ≡ true → call p v view ≡ record { outputs = cut_outputs (setting_of p view) view.exchange v; view = clean_up p view }
   call_cut view v e = by_what v.input e
     where
       by_held : (held : Option Lease) (refuse : Bool) → cuts_by {Packet = Packet} Release refuse (is_some held) ≡ true →
@@ -35,7 +35,7 @@ module _ {PublicState Packet Message State Exchange Answer Lease : Type 0} (p : 
       by_what CleanUp h = refl
       by_what Release h = by_held (p.held_lease view.state) v.refuse h
 
-  call_uncut : (view : View State Exchange) (v : Event Packet) → cuts p (setting_of p view) v ≡ false → call p v view ≡ record { outputs = flat_map (act_outputs p) (refused_release p (setting_of p view) view.exchange v); view = view }
+  call_uncut : (view : View State Exchange) (v : NumberedEvent Packet) → cuts p (setting_of p view) v ≡ false → call p v view ≡ record { outputs = flat_map (act_outputs p) (refused_release p (setting_of p view) view.exchange v); view = view }
   call_uncut view v e = by_what v.input (p.held_lease view.state) refl e
     where
       by_refuse : (lease : Lease) (refuse : Bool) → cuts_by {Packet = Packet} Release refuse true ≡ false →
@@ -54,20 +54,20 @@ module _ {PublicState Packet Message State Exchange Answer Lease : Type 0} (p : 
       by_what Release (Some lease) e h = rw e (by_refuse lease v.refuse h)
 
   -- an event that cuts a stay
-  rest_cut : (fuel steps : ℕ) (view : View State Exchange) (v : Event Packet) (vs : List (Event Packet)) → cuts p (setting_of p view) v ≡ true →
+  rest_cut : (fuel steps : ℕ) (view : View State Exchange) (v : NumberedEvent Packet) (vs : List (NumberedEvent Packet)) → cuts p (setting_of p view) v ≡ true →
       rest p fuel steps view (v ∷ vs) ≡ cut_outputs (setting_of p view) view.exchange v ++ cut_stays fuel view.timeout_sec view.exchange view.words v vs
   rest_cut fuel steps view v vs e =
       let setting : Setting State = setting_of p view in
       let over : closes p setting v ≡ true = rw e in
       rw (before_hit (closes p setting) v vs over, from_hit (closes p setting) v vs over, none_left p steps setting (progress_of p view), e)
 
-  broken_cut : (fuel : ℕ) (view : View State Exchange) (v : Event Packet) (vs : List (Event Packet)) → cuts p (setting_of p view) v ≡ true →
+  broken_cut : (fuel : ℕ) (view : View State Exchange) (v : NumberedEvent Packet) (vs : List (NumberedEvent Packet)) → cuts p (setting_of p view) v ≡ true →
       stopped_rest p fuel view (v ∷ vs) ≡ cut_outputs (setting_of p view) view.exchange v ++ cut_stays fuel view.timeout_sec view.exchange view.words v vs
   broken_cut fuel view v vs e =
       let setting : Setting State = setting_of p view in
       rw (before_hit (cuts p setting) v vs e, from_hit (cuts p setting) v vs e)
 
-  cut_reported : (fuel steps : ℕ) (setting : Setting State) (progress : Progress Exchange) (v : Event Packet) (vs : List (Event Packet)) → cuts p setting v ≡ true →
+  cut_reported : (fuel steps : ℕ) (setting : Setting State) (progress : Progress Exchange) (v : NumberedEvent Packet) (vs : List (NumberedEvent Packet)) → cuts p setting v ≡ true →
       reported p fuel setting (course p steps setting progress (before (closes p setting) (v ∷ vs))) (from (closes p setting) (v ∷ vs)) ≡
       cut_outputs setting progress.exchange v ++ cut_stays fuel setting.timeout_sec progress.exchange progress.words v vs
   cut_reported fuel steps setting progress v vs e =
@@ -75,7 +75,7 @@ module _ {PublicState Packet Message State Exchange Answer Lease : Type 0} (p : 
       rw (before_hit (closes p setting) v vs over, from_hit (closes p setting) v vs over, none_left p steps setting progress, e)
 
   -- a client that is cut before its first poll
-  fresh_cut : (fuel : ℕ) (view : View State Exchange) (v : Event Packet) (vs : List (Event Packet)) → cuts p (setting_of p view) v ≡ true →
+  fresh_cut : (fuel : ℕ) (view : View State Exchange) (v : NumberedEvent Packet) (vs : List (NumberedEvent Packet)) → cuts p (setting_of p view) v ≡ true →
       outputs p (stays p (suc fuel) view.timeout_sec (entry_of p view) (v ∷ vs)) ≡ cut_outputs (setting_of p view) view.exchange v ++ cut_stays fuel view.timeout_sec view.exchange view.words v vs
   fresh_cut fuel view v vs e =
       let setting : Setting State = setting_at view.timeout_sec (entry_of p view) v.moment in
@@ -87,11 +87,11 @@ module _ {PublicState Packet Message State Exchange Answer Lease : Type 0} (p : 
       cut_reported fuel (suc (length (v ∷ vs))) setting progress v vs e
 
   -- an event with a release that cuts nothing: what is refused comes first
-  module _ (fuel steps : ℕ) (view : View State Exchange) (number moment : ℕ) (refuse : Bool) (vs : List (Event Packet)) where
-    abbrev release_at : Event Packet
+  module _ (fuel steps : ℕ) (view : View State Exchange) (number moment : ℕ) (refuse : Bool) (vs : List (NumberedEvent Packet)) where
+    abbrev release_at : NumberedEvent Packet
     release_at = record { number = number; moment = moment; refuse = refuse; input = Release }
 
-    abbrev quiet_at : Event Packet
+    abbrev quiet_at : NumberedEvent Packet
     quiet_at = record { number = number; moment = moment; refuse = refuse; input = Nothing }
 
     abbrev the_setting : Setting State
@@ -101,17 +101,17 @@ module _ {PublicState Packet Message State Exchange Answer Lease : Type 0} (p : 
     quiet = (called_plain p release_at).undenied the_setting view.exchange
 
     -- acts that come first are reported first
-    first_deeds : (acts more : List (Act Message)) (outs : List (Output PublicState Message)) → flat_map (act_outputs p) (acts ++ more) ++ outs ≡ flat_map (act_outputs p) acts ++ (flat_map (act_outputs p) more ++ outs)
+    first_deeds : (acts more : List (Act Message)) (outs : List (NumberedReport PublicState Message)) → flat_map (act_outputs p) (acts ++ more) ++ outs ≡ flat_map (act_outputs p) acts ++ (flat_map (act_outputs p) more ++ outs)
     first_deeds acts more outs = rw (flat_map-append (act_outputs p) acts more) (append_assoc (flat_map (act_outputs p) acts) (flat_map (act_outputs p) more) outs)
 
-    overdue_deeds : (acts : List (Act Message)) (act : Act Message) (more : List (Act Message)) (outs : List (Output PublicState Message)) →
+    overdue_deeds : (acts : List (Act Message)) (act : Act Message) (more : List (Act Message)) (outs : List (NumberedReport PublicState Message)) →
         flat_map (act_outputs p) ((acts ++ act ∷ []) ++ more) ++ outs ≡ flat_map (act_outputs p) acts ++ (flat_map (act_outputs p) (act ∷ more) ++ outs)
     overdue_deeds acts act more outs = rw (append_assoc acts (act ∷ []) more) (first_deeds acts (act ∷ more) outs)
 
     abbrev later_deeds : List (Act Message)
     later_deeds = flat_map (limit_acts p the_setting view.exchange) (before (cuts p the_setting) vs)
 
-    abbrev cut_later : Finish Packet Exchange Answer → List (Output PublicState Message)
+    abbrev cut_later : Finish Packet Exchange Answer → List (NumberedReport PublicState Message)
     cut_later finish =
         let next : Transition Packet Message State Exchange = cut p the_setting finish (from (cuts p the_setting) vs) in
         closing_outputs p next.closing ++ outputs p (stays p fuel the_setting.timeout_sec next.entry next.events)
@@ -173,7 +173,7 @@ module _ {PublicState Packet Message State Exchange Answer Lease : Type 0} (p : 
         by_limit false f = by_end f (ends p the_setting release_at) refl
 
   -- an event that cuts nothing: what is refused comes first, and then the event goes on without its call
-  rest_uncut : (fuel steps : ℕ) (view : View State Exchange) (v : Event Packet) (vs : List (Event Packet)) → cuts p (setting_of p view) v ≡ false →
+  rest_uncut : (fuel steps : ℕ) (view : View State Exchange) (v : NumberedEvent Packet) (vs : List (NumberedEvent Packet)) → cuts p (setting_of p view) v ≡ false →
       rest p fuel (suc steps) view (v ∷ vs) ≡ flat_map (act_outputs p) (refused_release p (setting_of p view) view.exchange v) ++ rest p fuel (suc steps) view (after_call v ∷ vs)
   rest_uncut fuel steps view v vs e = go v.input e
     where
@@ -184,7 +184,7 @@ module _ {PublicState Packet Message State Exchange Answer Lease : Type 0} (p : 
       go CleanUp h = absurd (cc h)
       go Release h = rest_uncut_in fuel steps view v.number v.moment v.refuse vs h
 
-  broken_uncut : (fuel : ℕ) (view : View State Exchange) (v : Event Packet) (vs : List (Event Packet)) → cuts p (setting_of p view) v ≡ false →
+  broken_uncut : (fuel : ℕ) (view : View State Exchange) (v : NumberedEvent Packet) (vs : List (NumberedEvent Packet)) → cuts p (setting_of p view) v ≡ false →
       stopped_rest p fuel view (v ∷ vs) ≡ flat_map (act_outputs p) (refused_release p (setting_of p view) view.exchange v) ++ stopped_rest p fuel view (after_call v ∷ vs)
   broken_uncut fuel view v vs e = go v.input e
     where
@@ -195,7 +195,7 @@ module _ {PublicState Packet Message State Exchange Answer Lease : Type 0} (p : 
       go CleanUp h = absurd (cc h)
       go Release h = broken_uncut_in fuel zero view v.number v.moment v.refuse vs h
 
-  denied_begun : (now : ℕ) (view : View State Exchange) (v : Event Packet) → refused_release p (setting_of p (begin_stay p now view)) (begin_stay p now view).exchange v ≡ refused_release p (setting_of p view) view.exchange v
+  denied_begun : (now : ℕ) (view : View State Exchange) (v : NumberedEvent Packet) → refused_release p (setting_of p (begin_stay p now view)) (begin_stay p now view).exchange v ≡ refused_release p (setting_of p view) view.exchange v
   denied_begun now view v = go view.phase (p.held_lease view.state) refl
     where
       go : (phase : Phase) (held : Option Lease) → p.held_lease view.state ≡ held → refused_release p (setting_of p (begin_in p phase now view)) (begin_in p phase now view).exchange v ≡ refused_release p (setting_of p view) view.exchange v
@@ -207,14 +207,14 @@ module _ {PublicState Packet Message State Exchange Answer Lease : Type 0} (p : 
       go Stopped held e = refl
 
   -- from any event on, what is still to be reported is reported
-  module _ (lawful : Lawful p) (v : Event Packet) (vs : List (Event Packet)) (later : Follows p vs) where
+  module _ (lawful : Lawful p) (v : NumberedEvent Packet) (vs : List (NumberedEvent Packet)) (later : Follows p vs) where
     few_changes : (state : State) (input : Input Packet) → rank p lawful state input ≤ 6
     few_changes state input = lawful.rank_bound state (has_packet input)
 
     cut_follows : (fuel : ℕ) (view : View State Exchange) → 8 * suc (length vs) ≤ suc fuel → cuts p (setting_of p view) v ≡ true →
         cut_outputs (setting_of p view) view.exchange v ++ cut_stays (suc fuel) view.timeout_sec view.exchange view.words v vs ≡ replay_from p view (v ∷ vs)
     cut_follows fuel view enough_fuel e =
-        rw (call_cut view v e) (ap (λ (more : List (Output PublicState Message)). cut_outputs (setting_of p view) view.exchange v ++ more)
+        rw (call_cut view v e) (ap (λ (more : List (NumberedReport PublicState Message)). cut_outputs (setting_of p view) view.exchange v ++ more)
         (fresh_follows p lawful vs later 7 fuel (after_call v) (clean_up p view) (called_calm v.input) refl
         (omega (arith, few_changes (clean_up p view).state (after_call v).input)) (omega (arith, few_changes (clean_up p view).state (after_call v).input))))
 
@@ -225,7 +225,7 @@ module _ {PublicState Packet Message State Exchange Answer Lease : Type 0} (p : 
         go : (b : Bool) → cuts p (setting_of p view) v ≡ b → rest p (suc fuel) (suc (suc steps)) view (v ∷ vs) ≡ replay_from p view (v ∷ vs)
         go true e = rest_cut (suc fuel) (suc (suc steps)) view v vs e ∙ cut_follows fuel view enough_fuel e
         go false e =
-            rw (call_uncut view v e, rest_uncut (suc fuel) (suc steps) view v vs e) (ap (λ (more : List (Output PublicState Message)). flat_map (act_outputs p) (refused_release p (setting_of p view) view.exchange v) ++ more)
+            rw (call_uncut view v e, rest_uncut (suc fuel) (suc steps) view v vs e) (ap (λ (more : List (NumberedReport PublicState Message)). flat_map (act_outputs p) (refused_release p (setting_of p view) view.exchange v) ++ more)
             (begun_follows_all p lawful vs later 6 (suc fuel) steps (after_call v) view (called_calm v.input) is_begun
             (omega (arith, few_changes view.state (after_call v).input)) (omega (arith, few_changes view.state (after_call v).input)) (omega arith)))
 
@@ -235,7 +235,7 @@ module _ {PublicState Packet Message State Exchange Answer Lease : Type 0} (p : 
         go : (c : Bool) → cuts p (setting_of p view) v ≡ c → stopped_rest p (suc fuel) view (v ∷ vs) ≡ replay_from p view (v ∷ vs)
         go true e = broken_cut (suc fuel) view v vs e ∙ cut_follows fuel view enough_fuel e
         go false e =
-            rw (call_uncut view v e, broken_uncut (suc fuel) view v vs e) (ap (λ (more : List (Output PublicState Message)). flat_map (act_outputs p) (refused_release p (setting_of p view) view.exchange v) ++ more)
+            rw (call_uncut view v e, broken_uncut (suc fuel) view v vs e) (ap (λ (more : List (NumberedReport PublicState Message)). flat_map (act_outputs p) (refused_release p (setting_of p view) view.exchange v) ++ more)
             (broken_follows p lawful vs later 6 (suc fuel) (after_call v) view (called_calm v.input) b (omega arith)))
 
     fresh_event : (fuel : ℕ) (view : View State Exchange) → view.phase ≡ Unpolled → 8 * suc (length vs) ≤ suc fuel →
@@ -256,11 +256,11 @@ module _ {PublicState Packet Message State Exchange Answer Lease : Type 0} (p : 
             fresh_rest p (suc fuel) view v vs fresh e ∙
             rest_uncut (suc fuel) (suc (length vs)) begun_view v vs uncut ∙
             ap (λ (acts : List (Act Message)). flat_map (act_outputs p) acts ++ rest p (suc fuel) (suc (suc (length vs))) begun_view (after_call v ∷ vs)) (denied_begun v.moment view v) ∙
-            ap (λ (more : List (Output PublicState Message)). flat_map (act_outputs p) (refused_release p (setting_of p view) view.exchange v) ++ more) (polled ∙ same) ∙
+            ap (λ (more : List (NumberedReport PublicState Message)). flat_map (act_outputs p) (refused_release p (setting_of p view) view.exchange v) ++ more) (polled ∙ same) ∙
             sym (ap (λ (first : EventEffect PublicState Message State Exchange). first.outputs ++ told p lawful vs later 7 (after_call v) first.view) (call_uncut view v e))
 
   module _ (lawful : Lawful p) where
-    events_follow : (vs : List (Event Packet)) → Follows p vs
+    events_follow : (vs : List (NumberedEvent Packet)) → Follows p vs
     events_follow [] = record { begun = λ fuel steps view is_begun enough enough_fuel. rest_none p fuel steps view; broken = λ fuel view b enough_fuel. broken_none p fuel view }
     events_follow (v ∷ vs) = record {
       begun = begun_by (events_follow vs);
@@ -284,7 +284,7 @@ module _ {PublicState Packet Message State Exchange Answer Lease : Type 0} (p : 
         first : Entry State Exchange
         first = record { state = script.state; exchange = script.exchange; words = script.words }
 
-        go : (events : List (Event Packet)) (fuel : ℕ) → 8 * (length events + 1) ≡ fuel → replay_from p (first_view script) events ≡ outputs p (stays p fuel script.timeout_sec first events)
+        go : (events : List (NumberedEvent Packet)) (fuel : ℕ) → 8 * (length events + 1) ≡ fuel → replay_from p (first_view script) events ≡ outputs p (stays p fuel script.timeout_sec first events)
         go [] fuel e = refl
         go (v ∷ vs) zero e = absurd (omega arith)
         go (v ∷ vs) (suc zero) e = absurd (omega arith)

@@ -2,7 +2,7 @@
 use Rattle.std.proofs.Common.{subst, ◌≡◌, ℕ, suc, zero, ◌+◌, ◌≤◌, ◌<◌, List, [], ◌∷◌, ◌++◌, refl, ap, Bool, true, false, arith, ◌∙◌, sym, ◌⊎◌, inl, inr}
 use Rattle.std.specs.Prelude.{Option, Some, None, ◌&&◌, ◌||◌}
 use Rattle.dhcp_history.specs.Protocol.{Protocol, Lawful, has_come}
-use Rattle.dhcp_history.specs.Script.{Input, Nothing, Arrival, Release, CleanUp, Event, Output, Changed}
+use Rattle.dhcp_history.specs.Script.{Input, Nothing, Arrival, Release, CleanUp, NumberedEvent, NumberedReport, Changed}
 use Rattle.dhcp_history.specs.History.{limit_moment, reading_of}
 use Rattle.dhcp_history.specs.Machine.{View, PollEffect, EventEffect, is_listening, is_pausing, is_stopped, begin_stay, is_wait_over, exchange_at, has_ended, end_state, stop, attempt_now, transmit, receive, transmit_and_receive, poll, polls, after_poll, handed_output, failed_output}
 use Rattle.dhcp_history.specs.Bounds.{count_of, is_change, is_send, poll_count, count_again}
@@ -23,25 +23,25 @@ module _ {PublicState Packet Message State Exchange Answer Lease : Type 0} (p : 
       (poll_moves p lawful now refuse input (begin_stay p now view) next change))
 
   -- polls that go on until an answer None come to an end
-  polls_fall : (fuel : ℕ) (v : Event Packet) (view : View State Exchange) → poll_count p fuel v view ≤ suc (rank p lawful view.state v.input)
+  polls_fall : (fuel : ℕ) (v : NumberedEvent Packet) (view : View State Exchange) → poll_count p fuel v view ≤ suc (rank p lawful view.state v.input)
   polls_fall zero v view = omega arith
   polls_fall (suc fuel) v view = go once.change refl (λ left next. polls_fall fuel left next)
     where
       once : PollEffect Packet Message State Exchange
       once = poll p v.moment v.refuse v.input view
 
-      go : (change : Option State) → once.change ≡ change → ((left : Event Packet) (next : View State Exchange) → poll_count p fuel left next ≤ suc (rank p lawful next.state left.input)) →
+      go : (change : Option State) → once.change ≡ change → ((left : NumberedEvent Packet) (next : View State Exchange) → poll_count p fuel left next ≤ suc (rank p lawful next.state left.input)) →
           count_again p (poll_count p fuel) v change once ≤ suc (rank p lawful view.state v.input)
       go None e ih = omega arith
       go (Some next) e ih =
           let falls : suc (rank p lawful once.view.state once.left) ≤ rank p lawful view.state v.input = (moves v.moment v.refuse v.input view next e).falls in
           omega (arith, falls, ih (record v { input = once.left }) once.view)
 
-  pub few_polls : (fuel : ℕ) (v : Event Packet) (view : View State Exchange) → poll_count p fuel v view ≤ 7
+  pub few_polls : (fuel : ℕ) (v : NumberedEvent Packet) (view : View State Exchange) → poll_count p fuel v view ≤ 7
   few_polls fuel v view = omega (arith, polls_fall fuel v view, lawful.rank_bound view.state (has_packet v.input))
 
   -- more polls than changes that are left change nothing
-  polls_enough : (few all : ℕ) (v : Event Packet) (view : View State Exchange) → rank p lawful view.state v.input < few → few ≤ all → polls p all v view ≡ polls p few v view
+  polls_enough : (few all : ℕ) (v : NumberedEvent Packet) (view : View State Exchange) → rank p lawful view.state v.input < few → few ≤ all → polls p all v view ≡ polls p few v view
   polls_enough zero all v view h g = absurd (omega arith)
   polls_enough (suc few) zero v view h g = absurd (omega arith)
   polls_enough (suc few) (suc all) v view h g = go once.change refl (λ left next h'. polls_enough few all left next h' (omega arith))
@@ -49,7 +49,7 @@ module _ {PublicState Packet Message State Exchange Answer Lease : Type 0} (p : 
       once : PollEffect Packet Message State Exchange
       once = poll p v.moment v.refuse v.input view
 
-      go : (change : Option State) → once.change ≡ change → ((left : Event Packet) (next : View State Exchange) → rank p lawful next.state left.input < few → polls p all left next ≡ polls p few left next) →
+      go : (change : Option State) → once.change ≡ change → ((left : NumberedEvent Packet) (next : View State Exchange) → rank p lawful next.state left.input < few → polls p all left next ≡ polls p few left next) →
           after_poll p (polls p all) v change once ≡ after_poll p (polls p few) v change once
       go None e ih = refl
       go (Some next) e ih =
@@ -57,11 +57,11 @@ module _ {PublicState Packet Message State Exchange Answer Lease : Type 0} (p : 
           ap (λ (rest : EventEffect PublicState Message State Exchange). record { outputs = handed_output v.number v.refuse once.handed ++ (record { event = v.number; report = Changed (p.public_state next) } ∷ rest.outputs); view = rest.view })
           (ih (record v { input = once.left }) once.view (omega (arith, falls)))
 
-  pub seven_are_enough : (seven all : ℕ) → seven ≡ 7 → seven ≤ all → (v : Event Packet) (view : View State Exchange) → polls p all v view ≡ polls p seven v view
+  pub seven_are_enough : (seven all : ℕ) → seven ≡ 7 → seven ≤ all → (v : NumberedEvent Packet) (view : View State Exchange) → polls p all v view ≡ polls p seven v view
   seven_are_enough seven all e h v view = polls_enough seven all v view (omega (arith, lawful.rank_bound view.state (has_packet v.input))) h
 
   -- what is counted among the outputs of a poll
-  no_change_handed : (v : Event Packet) (handed : Option Message) → count_of is_change (handed_output {PublicState = PublicState} v.number v.refuse handed) ≡ 0
+  no_change_handed : (v : NumberedEvent Packet) (handed : Option Message) → count_of is_change (handed_output {PublicState = PublicState} v.number v.refuse handed) ≡ 0
   no_change_handed v None = refl
   no_change_handed v (Some message) = go v.refuse refl
     where
@@ -69,15 +69,15 @@ module _ {PublicState Packet Message State Exchange Answer Lease : Type 0} (p : 
       go true e = rw e
       go false e = rw e
 
-  no_change_failed : (v : Event Packet) (failed : Bool) → count_of is_change (failed_output {PublicState = PublicState} {Message = Message} v.number failed) ≡ 0
+  no_change_failed : (v : NumberedEvent Packet) (failed : Bool) → count_of is_change (failed_output {PublicState = PublicState} {Message = Message} v.number failed) ≡ 0
   no_change_failed v true = refl
   no_change_failed v false = refl
 
-  no_send_failed : (v : Event Packet) (failed : Bool) → count_of is_send (failed_output {PublicState = PublicState} {Message = Message} v.number failed) ≡ 0
+  no_send_failed : (v : NumberedEvent Packet) (failed : Bool) → count_of is_send (failed_output {PublicState = PublicState} {Message = Message} v.number failed) ≡ 0
   no_send_failed v true = refl
   no_send_failed v false = refl
 
-  one_send : (v : Event Packet) (handed : Option Message) → count_of is_send (handed_output {PublicState = PublicState} v.number v.refuse handed) ≤ 1
+  one_send : (v : NumberedEvent Packet) (handed : Option Message) → count_of is_send (handed_output {PublicState = PublicState} v.number v.refuse handed) ≤ 1
   one_send v None = omega arith
   one_send v (Some message) = go v.refuse refl
     where
@@ -86,25 +86,25 @@ module _ {PublicState Packet Message State Exchange Answer Lease : Type 0} (p : 
       go false e = rw e (omega arith)
 
   -- each change of an event lowers the number of changes that are left
-  changes_fall : (fuel : ℕ) (v : Event Packet) (view : View State Exchange) → count_of is_change (polls p fuel v view).outputs ≤ rank p lawful view.state v.input
+  changes_fall : (fuel : ℕ) (v : NumberedEvent Packet) (view : View State Exchange) → count_of is_change (polls p fuel v view).outputs ≤ rank p lawful view.state v.input
   changes_fall zero v view = omega arith
   changes_fall (suc fuel) v view = go once.change refl (λ left next. changes_fall fuel left next)
     where
       once : PollEffect Packet Message State Exchange
       once = poll p v.moment v.refuse v.input view
 
-      go : (change : Option State) → once.change ≡ change → ((left : Event Packet) (next : View State Exchange) → count_of is_change (polls p fuel left next).outputs ≤ rank p lawful next.state left.input) →
+      go : (change : Option State) → once.change ≡ change → ((left : NumberedEvent Packet) (next : View State Exchange) → count_of is_change (polls p fuel left next).outputs ≤ rank p lawful next.state left.input) →
           count_of is_change (after_poll p (polls p fuel) v change once).outputs ≤ rank p lawful view.state v.input
       go None e ih =
           rw (count_of-append is_change (handed_output v.number v.refuse once.handed) (failed_output v.number once.failed), no_change_handed v once.handed, no_change_failed v once.failed) (omega arith)
       go (Some next) e ih =
           let falls : suc (rank p lawful once.view.state once.left) ≤ rank p lawful view.state v.input = (moves v.moment v.refuse v.input view next e).falls in
-          let rest : List (Output PublicState Message) = (polls p fuel (record v { input = once.left }) once.view).outputs in
+          let rest : List (NumberedReport PublicState Message) = (polls p fuel (record v { input = once.left }) once.view).outputs in
           let later : count_of is_change rest ≤ rank p lawful once.view.state once.left = ih (record v { input = once.left }) once.view in
           rw (count_of-append is_change (handed_output v.number v.refuse once.handed) (record { event = v.number; report = Changed (p.public_state next) } ∷ rest), no_change_handed v once.handed)
           (omega (arith, falls, later))
 
-  pub few_changes : (fuel : ℕ) (v : Event Packet) (view : View State Exchange) → count_of is_change (polls p fuel v view).outputs ≤ 6
+  pub few_changes : (fuel : ℕ) (v : NumberedEvent Packet) (view : View State Exchange) → count_of is_change (polls p fuel v view).outputs ≤ 6
   few_changes fuel v view = omega (arith, changes_fall fuel v view, lawful.rank_bound view.state (has_packet v.input))
 
   -- a poll that answers a change hands nothing and leaves the packet, or it has taken the packet
@@ -168,25 +168,25 @@ module _ {PublicState Packet Message State Exchange Answer Lease : Type 0} (p : 
       (λ w lasts next e. tried_hands now refuse input w next e)
       view
 
-  abbrev sends : List (Output PublicState Message) → ℕ
+  abbrev sends : List (NumberedReport PublicState Message) → ℕ
   sends outputs = count_of is_send outputs
 
-  none_handed : (v : Event Packet) (handed : Option Message) → handed ≡ None → sends (handed_output v.number v.refuse handed) ≡ 0
+  none_handed : (v : NumberedEvent Packet) (handed : Option Message) → handed ≡ None → sends (handed_output v.number v.refuse handed) ≡ 0
   none_handed v handed e = rw e
 
   -- without a packet an event has at most one message, and with one at most two
   record FewSends (fuel : ℕ) : Type 0 where
-    without : (v : Event Packet) (view : View State Exchange) → has_packet v.input ≡ false → sends (polls p fuel v view).outputs ≤ 1
-    all : (v : Event Packet) (view : View State Exchange) → sends (polls p fuel v view).outputs ≤ 2
+    without : (v : NumberedEvent Packet) (view : View State Exchange) → has_packet v.input ≡ false → sends (polls p fuel v view).outputs ≤ 1
+    all : (v : NumberedEvent Packet) (view : View State Exchange) → sends (polls p fuel v view).outputs ≤ 2
 
-  module _ (fuel : ℕ) (v : Event Packet) (view : View State Exchange) where
+  module _ (fuel : ℕ) (v : NumberedEvent Packet) (view : View State Exchange) where
     abbrev once : PollEffect Packet Message State Exchange
     once = poll p v.moment v.refuse v.input view
 
     last_sends : sends (handed_output v.number v.refuse once.handed ++ failed_output v.number once.failed) ≤ 1
     last_sends = rw (count_of-append is_send (handed_output v.number v.refuse once.handed) (failed_output v.number once.failed), no_send_failed v once.failed) (omega (arith, one_send v once.handed))
 
-    more_sends : (next : State) (handed : ℕ) → sends (handed_output v.number v.refuse once.handed) ≡ handed → (rest : List (Output PublicState Message)) (bound : ℕ) → sends rest + handed ≤ bound →
+    more_sends : (next : State) (handed : ℕ) → sends (handed_output v.number v.refuse once.handed) ≡ handed → (rest : List (NumberedReport PublicState Message)) (bound : ℕ) → sends rest + handed ≤ bound →
         sends (handed_output v.number v.refuse once.handed ++ (record { event = v.number; report = Changed (p.public_state next) } ∷ rest)) ≤ bound
     more_sends next handed h rest bound few =
         rw (count_of-append is_send (handed_output v.number v.refuse once.handed) (record { event = v.number; report = Changed (p.public_state next) } ∷ rest), h) (omega (arith, few))
@@ -195,14 +195,14 @@ module _ {PublicState Packet Message State Exchange Answer Lease : Type 0} (p : 
     sends_without h ih None e = last_sends
     sends_without h ih (Some next) e =
         let hands : Hands v.input once = poll_hands v.moment v.refuse v.input view next e in
-        let left : Event Packet = record v { input = once.left } in
+        let left : NumberedEvent Packet = record v { input = once.left } in
         more_sends next 0 (none_handed v once.handed (hands.quiet h)) (polls p fuel left once.view).outputs 1 (omega (arith, ih.without left once.view (hands.less h)))
 
     sends_all : FewSends fuel → (change : Option State) → once.change ≡ change → sends (after_poll p (polls p fuel) v change once).outputs ≤ 2
     sends_all ih None e = omega (arith, last_sends)
     sends_all ih (Some next) e = go (poll_hands v.moment v.refuse v.input view next e).after_packet
       where
-        left : Event Packet
+        left : NumberedEvent Packet
         left = record v { input = once.left }
 
         go : (once.handed ≡ None) ⊎ (has_packet once.left ≡ false) → sends (after_poll p (polls p fuel) v (Some next) once).outputs ≤ 2
@@ -216,7 +216,7 @@ module _ {PublicState Packet Message State Exchange Answer Lease : Type 0} (p : 
     all = λ v view. sends_all fuel v view (few_sends fuel) (poll p v.moment v.refuse v.input view).change refl;
   }
 
-  pub two_sends : (fuel : ℕ) (v : Event Packet) (view : View State Exchange) → count_of is_send (polls p fuel v view).outputs ≤ 2
+  pub two_sends : (fuel : ℕ) (v : NumberedEvent Packet) (view : View State Exchange) → count_of is_send (polls p fuel v view).outputs ≤ 2
   two_sends fuel v view = (few_sends fuel).all v view
 
   first_false : (a b : Bool) → (a || b) ≡ false → a ≡ false
@@ -257,14 +257,14 @@ module _ {PublicState Packet Message State Exchange Answer Lease : Type 0} (p : 
       (λ w lasts e works. tried_settles now refuse input w lasts e)
       view
 
-  polls_settle : (few : ℕ) (v : Event Packet) (view : View State Exchange) → rank p lawful view.state v.input < few → IsSettled v.moment (polls p few v view).view
+  polls_settle : (few : ℕ) (v : NumberedEvent Packet) (view : View State Exchange) → rank p lawful view.state v.input < few → IsSettled v.moment (polls p few v view).view
   polls_settle zero v view h = absurd (omega arith)
   polls_settle (suc few) v view h = go once.change refl (λ left next h'. polls_settle few left next h')
     where
       once : PollEffect Packet Message State Exchange
       once = poll p v.moment v.refuse v.input view
 
-      go : (change : Option State) → once.change ≡ change → ((left : Event Packet) (next : View State Exchange) → rank p lawful next.state left.input < few → IsSettled left.moment (polls p few left next).view) →
+      go : (change : Option State) → once.change ≡ change → ((left : NumberedEvent Packet) (next : View State Exchange) → rank p lawful next.state left.input < few → IsSettled left.moment (polls p few left next).view) →
           IsSettled v.moment (after_poll p (polls p few) v change once).view
       go None e ih = poll_settles v.moment v.refuse v.input view e
       go (Some next) e ih =
@@ -272,5 +272,5 @@ module _ {PublicState Packet Message State Exchange Answer Lease : Type 0} (p : 
           ih (record v { input = once.left }) once.view (omega (arith, falls))
 
   -- after the polls of an event a client without an error isn't past the end of its state
-  pub events_settle : (seven : ℕ) → seven ≡ 7 → (v : Event Packet) (view : View State Exchange) → is_stopped (polls p seven v view).view.phase ≡ false → has_ended p v.moment (polls p seven v view).view ≡ false
+  pub events_settle : (seven : ℕ) → seven ≡ 7 → (v : NumberedEvent Packet) (view : View State Exchange) → is_stopped (polls p seven v view).view.phase ≡ false → has_ended p v.moment (polls p seven v view).view ≡ false
   events_settle seven e v view works = polls_settle seven v view (omega (arith, lawful.rank_bound view.state (has_packet v.input))) works

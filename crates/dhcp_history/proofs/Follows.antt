@@ -3,7 +3,7 @@ use Rattle.std.proofs.Common.{subst, ◌≡◌, ℕ, suc, zero, ◌+◌, ◌*◌
 use Rattle.std.specs.Prelude.{Option, Some, None, flat_map, if◌then◌else◌, ◌&&◌, ◌||◌}
 use Rattle.std.proofs.lemmas.Bool.{lt-leb}
 use Rattle.dhcp_history.specs.Protocol.{Protocol, Lawful, has_come, pause_of}
-use Rattle.dhcp_history.specs.Script.{Input, Nothing, Arrival, Release, CleanUp, Event, Output}
+use Rattle.dhcp_history.specs.Script.{Input, Nothing, Arrival, Release, CleanUp, NumberedEvent, NumberedReport}
 use Rattle.dhcp_history.specs.History.{before, from, ends, overruns, closes, cuts, Progress, exchange_after, Course, course, Transition, transition, first_progress, entry_progress, entry_pause, setting_at, first_due, limit_moment, limit_after, act_outputs, stays, outputs, Setting, reading_of}
 use Rattle.dhcp_history.specs.Script.{input_after_call}
 use Rattle.dhcp_history.specs.Machine.{View, Phase, Unpolled, Pausing, Listening, Resting, Stopped, PollEffect, is_listening, is_unpolled, is_stopped, begin_stay, begin_in, is_wait_over, exchange_at, has_ended, end_state, attempt_now, transmit, receive, transmit_and_receive, stop, poll, enter, polls, after_poll, handed_output, failed_output, replay_from}
@@ -125,13 +125,13 @@ module _ {PublicState Packet Message State Exchange Answer Lease : Type 0} (p : 
   ended_as now input view exchange e = rw e
 
   -- a poll that finds the state at its end goes on with the next state
-  moved_on : (fuel : ℕ) (view : View State Exchange) (v : Event Packet) (vs : List (Event Packet)) (exchange : Exchange) (all : List (Output PublicState Message)) →
+  moved_on : (fuel : ℕ) (view : View State Exchange) (v : NumberedEvent Packet) (vs : List (NumberedEvent Packet)) (exchange : Exchange) (all : List (NumberedReport PublicState Message)) →
       exchange_at p v.moment view ≡ exchange → all ≡ moved p fuel view.timeout_sec v (p.after_end view.state exchange) view.words (v ∷ vs) →
       Reports p fuel v vs all (end_state p v.moment v.input view)
   moved_on fuel view v vs exchange all e h = subst (λ (once : PollEffect Packet Message State Exchange). Reports p fuel v vs all once) (sym (ended_as v.moment v.input view exchange e)) h
 
   -- one poll in the midst of a stay reports the first of what is to be reported
-  poll_follows : Lawful p → (fuel steps : ℕ) (view : View State Exchange) (v : Event Packet) (vs : List (Event Packet)) → IsPlain p v → IsBegun p view → Follows p vs → suc (length vs) ≤ suc steps → 8 * length vs ≤ fuel →
+  poll_follows : Lawful p → (fuel steps : ℕ) (view : View State Exchange) (v : NumberedEvent Packet) (vs : List (NumberedEvent Packet)) → IsPlain p v → IsBegun p view → Follows p vs → suc (length vs) ≤ suc steps → 8 * length vs ≤ fuel →
       Reports p fuel v vs (rest p fuel (suc (suc steps)) view (v ∷ vs)) (poll_on v.moment v.refuse v.input view)
   poll_follows lawful fuel steps view v vs plain is_begun later enough enough_fuel = by_limit (overruns p (setting_of p view) v) refl
     where
@@ -161,15 +161,15 @@ module _ {PublicState Packet Message State Exchange Answer Lease : Type 0} (p : 
       by_limit : (b : Bool) → overruns p (setting_of p view) v ≡ b → Reports p fuel v vs (rest p fuel (suc (suc steps)) view (v ∷ vs)) (poll_on v.moment v.refuse v.input view)
       by_limit true f =
           rw (poll_failed v.moment v.refuse v.input view is_begun.works f, rest_failed p fuel (suc (suc steps)) view v vs plain f)
-          (ap (λ (more : List (Output PublicState Message)). timed_out p v ∷ more) (later.broken fuel (record view { phase = Stopped }) refl enough_fuel))
+          (ap (λ (more : List (NumberedReport PublicState Message)). timed_out p v ∷ more) (later.broken fuel (record view { phase = Stopped }) refl enough_fuel))
       by_limit false f = by_end f (ends p (setting_of p view) v) refl
 
   -- and so does one poll of a client whose time limit is over
-  poll_broken_follows : (fuel : ℕ) (view : View State Exchange) (v : Event Packet) (vs : List (Event Packet)) → IsPlain p v → is_stopped view.phase ≡ true → Follows p vs → 8 * length vs ≤ fuel →
+  poll_broken_follows : (fuel : ℕ) (view : View State Exchange) (v : NumberedEvent Packet) (vs : List (NumberedEvent Packet)) → IsPlain p v → is_stopped view.phase ≡ true → Follows p vs → 8 * length vs ≤ fuel →
       Reports p fuel v vs (stopped_rest p fuel view (v ∷ vs)) (poll_on v.moment v.refuse v.input view)
   poll_broken_follows fuel view v vs plain b later enough_fuel =
       rw (poll_broken v.moment v.refuse v.input view b, broken_on p fuel view v vs plain)
-      (ap (λ (more : List (Output PublicState Message)). timed_out p v ∷ more) (later.broken fuel (record view { phase = Stopped }) refl enough_fuel))
+      (ap (λ (more : List (NumberedReport PublicState Message)). timed_out p v ∷ more) (later.broken fuel (record view { phase = Stopped }) refl enough_fuel))
 
   module _ (lawful : Lawful p) where
     -- how many more changes an event can bring at most
@@ -266,7 +266,7 @@ module _ {PublicState Packet Message State Exchange Answer Lease : Type 0} (p : 
       go Stopped = refl
 
   -- the stays that are entered at an event are reported by what a client in the first one's state is still to report
-  pub stay_reported : (fuel : ℕ) (setting : Setting State) (run : Course Packet Message Exchange Answer) (late : List (Event Packet)) (entry paused : ℕ) →
+  pub stay_reported : (fuel : ℕ) (setting : Setting State) (run : Course Packet Message Exchange Answer) (late : List (NumberedEvent Packet)) (entry paused : ℕ) →
       outputs p (record { setting = setting; entry = entry; pause = paused; acts = run.acts ++ (transition p setting run.finish late).acts; closing = (transition p setting run.finish late).closing }
       ∷ stays p fuel setting.timeout_sec (transition p setting run.finish late).entry (transition p setting run.finish late).events) ≡
       reported p fuel setting run late
@@ -276,7 +276,7 @@ module _ {PublicState Packet Message State Exchange Answer Lease : Type 0} (p : 
           ∷ stays p fuel setting.timeout_sec next.entry next.events) ≡ flat_map (act_outputs p) run.acts ++ turned p fuel setting next
       go next = rw (flat_map-append (act_outputs p) run.acts next.acts) (simp append_assoc)
 
-  module _ (fuel : ℕ) (state : State) (exchange : Exchange) (timeout_sec entered : ℕ) (deadline : Option ℕ) (words : List ℕ) (v : Event Packet) (vs : List (Event Packet)) where
+  module _ (fuel : ℕ) (state : State) (exchange : Exchange) (timeout_sec entered : ℕ) (deadline : Option ℕ) (words : List ℕ) (v : NumberedEvent Packet) (vs : List (NumberedEvent Packet)) where
     abbrev fresh_view : View State Exchange
     fresh_view = record { state = state; exchange = exchange; timeout_sec = timeout_sec; entered = entered; phase = Unpolled; deadline = deadline; words = words }
 
@@ -294,7 +294,7 @@ module _ {PublicState Packet Message State Exchange Answer Lease : Type 0} (p : 
       view ≡ record { state = view.state; exchange = view.exchange; timeout_sec = view.timeout_sec; entered = view.entered; phase = Unpolled; deadline = view.deadline; words = view.words }
   fresh_eta view e = rw (← e)
 
-  pub fresh_rest : (fuel : ℕ) (view : View State Exchange) (v : Event Packet) (vs : List (Event Packet)) → view.phase ≡ Unpolled → cuts p (setting_at view.timeout_sec (entry_of p view) v.moment) v ≡ false →
+  pub fresh_rest : (fuel : ℕ) (view : View State Exchange) (v : NumberedEvent Packet) (vs : List (NumberedEvent Packet)) → view.phase ≡ Unpolled → cuts p (setting_at view.timeout_sec (entry_of p view) v.moment) v ≡ false →
       outputs p (stays p (suc fuel) view.timeout_sec (entry_of p view) (v ∷ vs)) ≡ rest p fuel (suc (length (v ∷ vs))) (begin_stay p v.moment view) (v ∷ vs)
   fresh_rest fuel view v vs e uncut =
       subst (λ (w : View State Exchange). outputs p (stays p (suc fuel) view.timeout_sec (entry_of p view) (v ∷ vs)) ≡ rest p fuel (suc (length (v ∷ vs))) (begin_stay p v.moment w) (v ∷ vs)) (sym (fresh_eta view e))
@@ -312,24 +312,24 @@ module _ {PublicState Packet Message State Exchange Answer Lease : Type 0} (p : 
       go Stopped e = rw e
 
   -- an event that has no call is plain
-  plain_of : (v : Event Packet) → input_after_call v.input ≡ v.input → IsPlain p v
+  plain_of : (v : NumberedEvent Packet) → input_after_call v.input ≡ v.input → IsPlain p v
   plain_of v calm = subst (λ (input : Input Packet). IsPlain p (record v { input = input })) calm (called_plain p v)
 
   -- what all polls of an event report, and then what the later events do, is what is to be reported
-  module _ (lawful : Lawful p) (vs : List (Event Packet)) (later : Follows p vs) where
-    abbrev pub told : ℕ → Event Packet → View State Exchange → List (Output PublicState Message)
+  module _ (lawful : Lawful p) (vs : List (NumberedEvent Packet)) (later : Follows p vs) where
+    abbrev pub told : ℕ → NumberedEvent Packet → View State Exchange → List (NumberedReport PublicState Message)
     told polled v view = (polls p polled v view).outputs ++ replay_from p (polls p polled v view).view vs
 
     abbrev pub FreshFollows : ℕ → Type 0
-    FreshFollows polled = (fuel : ℕ) (v : Event Packet) (view : View State Exchange) → input_after_call v.input ≡ v.input → view.phase ≡ Unpolled → suc (rank lawful view.state v.input) ≤ polled → 8 * length vs + rank lawful view.state v.input ≤ fuel →
+    FreshFollows polled = (fuel : ℕ) (v : NumberedEvent Packet) (view : View State Exchange) → input_after_call v.input ≡ v.input → view.phase ≡ Unpolled → suc (rank lawful view.state v.input) ≤ polled → 8 * length vs + rank lawful view.state v.input ≤ fuel →
         outputs p (stays p (suc fuel) view.timeout_sec (entry_of p view) (v ∷ vs)) ≡ told polled v view
 
     abbrev pub BegunFollows : ℕ → Type 0
-    BegunFollows polled = (fuel steps : ℕ) (v : Event Packet) (view : View State Exchange) → input_after_call v.input ≡ v.input → IsBegun p view → suc (rank lawful view.state v.input) ≤ polled → 8 * length vs + rank lawful view.state v.input ≤ fuel → suc (length vs) ≤ suc steps →
+    BegunFollows polled = (fuel steps : ℕ) (v : NumberedEvent Packet) (view : View State Exchange) → input_after_call v.input ≡ v.input → IsBegun p view → suc (rank lawful view.state v.input) ≤ polled → 8 * length vs + rank lawful view.state v.input ≤ fuel → suc (length vs) ≤ suc steps →
         rest p fuel (suc (suc steps)) view (v ∷ vs) ≡ told polled v view
 
     -- one poll of a client that was polled before
-    once_on : (polled : ℕ) (v : Event Packet) (view : View State Exchange) → is_unpolled view.phase ≡ false →
+    once_on : (polled : ℕ) (v : NumberedEvent Packet) (view : View State Exchange) → is_unpolled view.phase ≡ false →
         polls p (suc polled) v view ≡ after_poll p (polls p polled) v (poll_on v.moment v.refuse v.input view).change (poll_on v.moment v.refuse v.input view)
     once_on polled v view e =
         ap (λ (once : PollEffect Packet Message State Exchange). after_poll p (polls p polled) v once.change once) (poll_begun lawful v.moment v.refuse v.input view) ∙
@@ -341,7 +341,7 @@ module _ {PublicState Packet Message State Exchange Answer Lease : Type 0} (p : 
         once : PollEffect Packet Message State Exchange
         once = poll_on v.moment v.refuse v.input view
 
-        all : List (Output PublicState Message)
+        all : List (NumberedReport PublicState Message)
         all = rest p fuel (suc (suc steps)) view (v ∷ vs)
 
         step : Reports p fuel v vs all once
@@ -355,12 +355,12 @@ module _ {PublicState Packet Message State Exchange Answer Lease : Type 0} (p : 
             absurd (omega (arith, moves.falls, f))
         go (suc fuel') f (Some next) e =
             let moves : Moves lawful view.state v.input once = poll_moves lawful v.moment v.refuse v.input view next e in
-            let left : Event Packet = record v { input = once.left } in
+            let left : NumberedEvent Packet = record v { input = once.left } in
             let more : outputs p (stays p fuel once.view.timeout_sec (entry_of p once.view) (left ∷ vs)) ≡ told polled left once.view =
             rw f (fresh fuel' left once.view (moves.calm calm) moves.fresh (omega (arith, moves.falls)) (omega (arith, moves.falls, f))) in
             step ∙ rw (e, more) (sym (append_assoc (handed_output v.number v.refuse once.handed) (changed p v next ∷ (polls p polled left once.view).outputs) (replay_from p (polls p polled left once.view).view vs)))
 
-    pub begun_polls : (polled : ℕ) (v : Event Packet) (view : View State Exchange) → polls p (suc polled) v (begin_stay p v.moment view) ≡ polls p (suc polled) v view
+    pub begun_polls : (polled : ℕ) (v : NumberedEvent Packet) (view : View State Exchange) → polls p (suc polled) v (begin_stay p v.moment view) ≡ polls p (suc polled) v view
     begun_polls polled v view =
         ap (λ (once : PollEffect Packet Message State Exchange). after_poll p (polls p polled) v once.change once) (poll_begun lawful v.moment v.refuse v.input (begin_stay p v.moment view)) ∙
         ap (λ (w : View State Exchange). after_poll p (polls p polled) v (poll_on v.moment v.refuse v.input w).change (poll_on v.moment v.refuse v.input w)) (begun_twice v.moment view) ∙
@@ -382,7 +382,7 @@ module _ {PublicState Packet Message State Exchange Answer Lease : Type 0} (p : 
     begun_follows_all polled = begun_from_fresh polled (fresh_follows polled)
 
     -- a client whose time limit is over is polled once
-    pub broken_follows : (polled fuel : ℕ) (v : Event Packet) (view : View State Exchange) → input_after_call v.input ≡ v.input → is_stopped view.phase ≡ true → 8 * length vs ≤ fuel →
+    pub broken_follows : (polled fuel : ℕ) (v : NumberedEvent Packet) (view : View State Exchange) → input_after_call v.input ≡ v.input → is_stopped view.phase ≡ true → 8 * length vs ≤ fuel →
         stopped_rest p fuel view (v ∷ vs) ≡ told (suc polled) v view
     broken_follows polled fuel v view calm b enough_fuel =
         rw (once_on polled v view (broken_polled view.phase b), poll_broken v.moment v.refuse v.input view b)

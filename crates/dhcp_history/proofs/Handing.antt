@@ -4,7 +4,7 @@ use Rattle.std.specs.Prelude.{Option, Some, None, All, ◌&&◌, flat_map, if◌
 use Rattle.std.specs.List.{AllByRecursion}
 use Rattle.std.proofs.lemmas.List.Elements.{All-from_recursion}
 use Rattle.dhcp_history.specs.Protocol.{Protocol}
-use Rattle.dhcp_history.specs.declared.script.Event.{Event}
+use Rattle.dhcp_history.specs.declared.script.NumberedEvent.{NumberedEvent}
 use Rattle.dhcp_history.specs.declared.script.Input.{Input}
 use Rattle.dhcp_history.specs.declared.script.Input.TheVariants.{Nothing, Arrival, Release, CleanUp}
 use Rattle.dhcp_history.specs.Script.{Script, after_call}
@@ -20,7 +20,7 @@ module _ {PublicState Packet Message State Exchange Answer Lease : Type 0} (p : 
   own-append state (x ∷ xs) ys hx hy = (hx.0, own-append state xs ys hx.1 hy)
 
   module _ (setting : Setting State) where
-    denied_own : (exchange : Exchange) (v : Event Packet) → AllOwn setting.state (refused_release p setting exchange v)
+    denied_own : (exchange : Exchange) (v : NumberedEvent Packet) → AllOwn setting.state (refused_release p setting exchange v)
     denied_own exchange v = go (p.held_lease setting.state) refl
       where
         go : (held : Option Lease) → p.held_lease setting.state ≡ held → AllOwn setting.state (refused_release_of p held exchange v)
@@ -31,7 +31,7 @@ module _ {PublicState Packet Message State Exchange Answer Lease : Type 0} (p : 
             by true = (record { lease = lease; held = is; exchange = exchange; is = refl }, tt)
             by false = tt
 
-    heard_own : (exchange : Exchange) (listens : Bool) (words : List ℕ) (events : List (Event Packet)) → AllOwn setting.state (hear p setting exchange listens words events).acts
+    heard_own : (exchange : Exchange) (listens : Bool) (words : List ℕ) (events : List (NumberedEvent Packet)) → AllOwn setting.state (hear p setting exchange listens words events).acts
     heard_own exchange listens words [] = tt
     heard_own exchange listens words (v ∷ vs) = go (reading_if p listens setting exchange words v.input).value (heard_own exchange listens (reading_if p listens setting exchange words v.input).left vs)
       where
@@ -42,14 +42,14 @@ module _ {PublicState Packet Message State Exchange Answer Lease : Type 0} (p : 
         go None ih = own-append setting.state (refused_release p setting exchange v) later.acts (denied_own exchange v) ih
         go (Some answer) ih = denied_own exchange v
 
-    overdue_own : (exchange : Exchange) (events : List (Event Packet)) → AllOwn setting.state (flat_map (limit_acts p setting exchange) events)
+    overdue_own : (exchange : Exchange) (events : List (NumberedEvent Packet)) → AllOwn setting.state (flat_map (limit_acts p setting exchange) events)
     overdue_own exchange [] = tt
     overdue_own exchange (v ∷ vs) =
         own-append setting.state (limit_acts p setting exchange v) (flat_map (limit_acts p setting exchange) vs)
         (own-append setting.state (refused_release p setting exchange v) (LimitOver v.number ∷ []) (denied_own exchange v) (tt, tt))
         (overdue_own exchange vs)
 
-    course_own : (fuel : ℕ) (progress : Progress Exchange) (events : List (Event Packet)) → AllOwn setting.state (course p fuel setting progress events).acts
+    course_own : (fuel : ℕ) (progress : Progress Exchange) (events : List (NumberedEvent Packet)) → AllOwn setting.state (course p fuel setting progress events).acts
     course_own zero progress events = tt
     course_own (suc fuel) progress events = go last.answer (from (is_at_or_past progress.due) events) (λ next xs. course_own fuel next xs)
       where
@@ -62,7 +62,7 @@ module _ {PublicState Packet Message State Exchange Answer Lease : Type 0} (p : 
         heard : AllOwn setting.state last.acts
         heard = heard_own progress.exchange (is_open progress.last) progress.words (before (is_at_or_past progress.due) events)
 
-        by_end : (b : Bool) (v : Event Packet) (vs : List (Event Packet)) → ((next : Progress Exchange) (xs : List (Event Packet)) → AllOwn setting.state (course p fuel setting next xs).acts) →
+        by_end : (b : Bool) (v : NumberedEvent Packet) (vs : List (NumberedEvent Packet)) → ((next : Progress Exchange) (xs : List (NumberedEvent Packet)) → AllOwn setting.state (course p fuel setting next xs).acts) →
             AllOwn setting.state (attempt_or_end p b (course p fuel setting) setting now last.acts v vs).acts
         by_end true v vs ih = own-append setting.state last.acts (refused_release p setting progress.exchange v) heard (denied_own progress.exchange v)
         by_end false v vs ih =
@@ -83,7 +83,7 @@ module _ {PublicState Packet Message State Exchange Answer Lease : Type 0} (p : 
             )))
             (ih (progress_after p setting now v) (after_call v ∷ vs))
 
-        go : (answer : Option Answer) (xs : List (Event Packet)) → ((next : Progress Exchange) (ys : List (Event Packet)) → AllOwn setting.state (course p fuel setting next ys).acts) →
+        go : (answer : Option Answer) (xs : List (NumberedEvent Packet)) → ((next : Progress Exchange) (ys : List (NumberedEvent Packet)) → AllOwn setting.state (course p fuel setting next ys).acts) →
             AllOwn setting.state (next_attempt p (course p fuel setting) setting now answer last xs).acts
         go (Some answer) xs ih = heard
         go None [] ih = heard
@@ -93,7 +93,7 @@ module _ {PublicState Packet Message State Exchange Answer Lease : Type 0} (p : 
       acts : AllOwn setting.state turn.acts
       closing : IsOwnClosing p setting.state turn.closing
 
-    turn_own : (finish : Finish Packet Exchange Answer) (late : List (Event Packet)) → TurnsOwn (transition p setting finish late)
+    turn_own : (finish : Finish Packet Exchange Answer) (late : List (NumberedEvent Packet)) → TurnsOwn (transition p setting finish late)
     turn_own finish late = go finish.outcome late
       where
         released : (number : ℕ) (held : Option Lease) → p.held_lease setting.state ≡ held → IsOwnClosing p setting.state (Cut number (option_map (λ lease. p.release_message lease finish.exchange) held))
@@ -106,26 +106,26 @@ module _ {PublicState Packet Message State Exchange Answer Lease : Type 0} (p : 
         cut_own number (Arrival packet) = tt
         cut_own number CleanUp = tt
 
-        by_cut : (events : List (Event Packet)) → TurnsOwn (cut p setting finish events)
+        by_cut : (events : List (NumberedEvent Packet)) → TurnsOwn (cut p setting finish events)
         by_cut [] = record { acts = tt; closing = tt }
         by_cut (v ∷ vs) = record { acts = tt; closing = cut_own v.number v.input }
 
-        by_ending : (events : List (Event Packet)) → TurnsOwn (end_at p setting finish events)
+        by_ending : (events : List (NumberedEvent Packet)) → TurnsOwn (end_at p setting finish events)
         by_ending [] = by_cut []
         by_ending (v ∷ vs) = record { acts = denied_own finish.exchange v; closing = tt }
 
-        by_close : (v : Event Packet) (vs : List (Event Packet)) (cut_now over : Bool) → TurnsOwn (close p cut_now over setting finish v vs)
+        by_close : (v : NumberedEvent Packet) (vs : List (NumberedEvent Packet)) (cut_now over : Bool) → TurnsOwn (close p cut_now over setting finish v vs)
         by_close v vs true over = by_cut (v ∷ vs)
         by_close v vs false true = record { acts = overdue_own finish.exchange (before (cuts p setting) (v ∷ vs)); closing = (by_cut (from (cuts p setting) (v ∷ vs))).closing }
         by_close v vs false false = by_ending (v ∷ vs)
 
-        go : (outcome : Outcome Answer) (events : List (Event Packet)) → TurnsOwn (transition_by p outcome setting finish events)
+        go : (outcome : Outcome Answer) (events : List (NumberedEvent Packet)) → TurnsOwn (transition_by p outcome setting finish events)
         go (AnsweredBy answer) events = record { acts = tt; closing = tt }
         go RanOut events = by_ending (finish.rest ++ events)
         go Unanswered [] = by_cut []
         go Unanswered (v ∷ vs) = by_close v vs (cuts p setting v) (overruns p setting v)
 
-  stays_own : (fuel timeout_sec : ℕ) (entry : Entry State Exchange) (events : List (Event Packet)) → AllByRecursion (HandsItsOwn p) (stays p fuel timeout_sec entry events)
+  stays_own : (fuel timeout_sec : ℕ) (entry : Entry State Exchange) (events : List (NumberedEvent Packet)) → AllByRecursion (HandsItsOwn p) (stays p fuel timeout_sec entry events)
   stays_own fuel timeout_sec entry [] = tt
   stays_own zero timeout_sec entry (v ∷ vs) = tt
   stays_own (suc fuel) timeout_sec entry (v ∷ vs) =

@@ -6,7 +6,7 @@ use Rattle.std.proofs.lemmas.List.Elements.{All-cons, All-nil}
 use Rattle.dhcp_history.specs.declared.rules.AttemptStart.{AttemptStart}
 use Rattle.dhcp_history.specs.Bounds.{attempts_of}
 use Rattle.dhcp_history.specs.Protocol.{Protocol}
-use Rattle.dhcp_history.specs.declared.script.Event.{Event}
+use Rattle.dhcp_history.specs.declared.script.NumberedEvent.{NumberedEvent}
 use Rattle.dhcp_history.specs.declared.script.Input.{Input}
 use Rattle.dhcp_history.specs.declared.script.Input.TheVariants.{Nothing, Arrival, Release, CleanUp}
 use Rattle.dhcp_history.specs.Script.{Script, after_call, input_after_call}
@@ -65,12 +65,12 @@ module _ {PublicState Packet Message State Exchange Answer Lease : Type 0} (p : 
   ComesIn number CleanUp = Unit {0}
 
   -- an event with this number or a later one, whose packet comes
-  pub record ComesFrom (least : ℕ) (event : Event Packet) : Type 0 where
+  pub record ComesFrom (least : ℕ) (event : NumberedEvent Packet) : Type 0 where
     pub reached : least ≤ event.number
     pub comes : ComesIn event.number event.input
 
   -- the packets of these events come; the numbers of the events never fall, and are this one at least
-  abbrev pub AllCome : ℕ → List (Event Packet) → Type 0
+  abbrev pub AllCome : ℕ → List (NumberedEvent Packet) → Type 0
   AllCome least [] = Unit {0}
   AllCome least (event ∷ events) = ComesFrom least event × AllCome event.number events
 
@@ -80,23 +80,23 @@ module _ {PublicState Packet Message State Exchange Answer Lease : Type 0} (p : 
   called_comes number Release h = tt
   called_comes number CleanUp h = tt
 
-  after_call_come : (least : ℕ) (v : Event Packet) (vs : List (Event Packet)) → AllCome least (v ∷ vs) → AllCome least (after_call v ∷ vs)
+  after_call_come : (least : ℕ) (v : NumberedEvent Packet) (vs : List (NumberedEvent Packet)) → AllCome least (v ∷ vs) → AllCome least (after_call v ∷ vs)
   after_call_come least v vs h = (record { reached = h.0.reached; comes = called_comes v.number v.input h.0.comes }, h.1)
 
   -- events come that are at or past a later number, that follow the first of these, that follow some of them
-  fewer_come : (least more : ℕ) (events : List (Event Packet)) → least ≤ more → AllCome more events → AllCome least events
+  fewer_come : (least more : ℕ) (events : List (NumberedEvent Packet)) → least ≤ more → AllCome more events → AllCome least events
   fewer_come least more [] le h = tt
   fewer_come least more (v ∷ vs) le h = (record { reached = omega (arith, le, h.0.reached); comes = h.0.comes }, h.1)
 
-  rest_come : (least : ℕ) (v : Event Packet) (vs : List (Event Packet)) → AllCome least (v ∷ vs) → AllCome least vs
+  rest_come : (least : ℕ) (v : NumberedEvent Packet) (vs : List (NumberedEvent Packet)) → AllCome least (v ∷ vs) → AllCome least vs
   rest_come least v vs h = fewer_come least v.number vs h.0.reached h.1
 
-  late_come : (least : ℕ) (events late : List (Event Packet)) → AllCome least (events ++ late) → AllCome least late
+  late_come : (least : ℕ) (events late : List (NumberedEvent Packet)) → AllCome least (events ++ late) → AllCome least late
   late_come least [] late h = h
   late_come least (v ∷ vs) late h = late_come least vs late (rest_come least v (vs ++ late) h)
 
   -- events that are cut at the first that passes a test come, with others after them and with none
-  parts_come : (test : Event Packet → Bool) (least : ℕ) (events late : List (Event Packet)) → AllCome least (events ++ late) → AllCome least (before test events ++ (from test events ++ late))
+  parts_come : (test : NumberedEvent Packet → Bool) (least : ℕ) (events late : List (NumberedEvent Packet)) → AllCome least (events ++ late) → AllCome least (before test events ++ (from test events ++ late))
   parts_come test least [] late h = h
   parts_come test least (v ∷ vs) late h = go (test v) (parts_come test v.number vs late h.1)
     where
@@ -105,24 +105,24 @@ module _ {PublicState Packet Message State Exchange Answer Lease : Type 0} (p : 
       go true ih = h
       go false ih = (h.0, ih)
 
-  cut_come : (test : Event Packet → Bool) (least : ℕ) (events : List (Event Packet)) → AllCome least events → AllCome least (before test events ++ from test events)
+  cut_come : (test : NumberedEvent Packet → Bool) (least : ℕ) (events : List (NumberedEvent Packet)) → AllCome least events → AllCome least (before test events ++ from test events)
   cut_come test least events h =
-      subst (λ (rest : List (Event Packet)). AllCome least (before test events ++ rest)) (append-nil (from test events))
+      subst (λ (rest : List (NumberedEvent Packet)). AllCome least (before test events ++ rest)) (append-nil (from test events))
       (parts_come test least events [] (subst (AllCome least) (sym (append-nil events)) h))
 
-  from_come : (test : Event Packet → Bool) (least : ℕ) (events : List (Event Packet)) → AllCome least events → AllCome least (from test events)
+  from_come : (test : NumberedEvent Packet → Bool) (least : ℕ) (events : List (NumberedEvent Packet)) → AllCome least events → AllCome least (from test events)
   from_come test least events h = late_come least (before test events) (from test events) (cut_come test least events h)
 
   -- events come from the number of the first of them on
-  own_come : (least : ℕ) (v : Event Packet) (vs : List (Event Packet)) → AllCome least (v ∷ vs) → AllCome v.number (v ∷ vs)
+  own_come : (least : ℕ) (v : NumberedEvent Packet) (vs : List (NumberedEvent Packet)) → AllCome least (v ∷ vs) → AllCome v.number (v ∷ vs)
   own_come least v vs h = (record { reached = omega arith; comes = h.0.comes }, h.1)
 
   -- what is left once the packet of the first event has answered comes, from the number of that event on
-  packet_come : (least : ℕ) (events : List (Event Packet)) → AllCome least events → AllCome (number_of events) (after_packet events)
+  packet_come : (least : ℕ) (events : List (NumberedEvent Packet)) → AllCome least events → AllCome (number_of events) (after_packet events)
   packet_come least [] h = tt
   packet_come least (v ∷ vs) h = (record { reached = omega arith; comes = tt }, h.1)
 
-  denied : (least : ℕ) (setting : Setting State) (exchange : Exchange) (v : Event Packet) → Says least setting.state (refused_release p setting exchange v)
+  denied : (least : ℕ) (setting : Setting State) (exchange : Exchange) (v : NumberedEvent Packet) → Says least setting.state (refused_release p setting exchange v)
   denied least setting exchange v = go (p.held_lease setting.state)
     where
       go : (held : Option Lease) → Says least setting.state (refused_release_of p held exchange v)
@@ -133,7 +133,7 @@ module _ {PublicState Packet Message State Exchange Answer Lease : Type 0} (p : 
           by_test true = tt
           by_test false = tt
 
-  overdue : (least : ℕ) (setting : Setting State) (exchange : Exchange) (events : List (Event Packet)) → Says least setting.state (flat_map (limit_acts p setting exchange) events)
+  overdue : (least : ℕ) (setting : Setting State) (exchange : Exchange) (events : List (NumberedEvent Packet)) → Says least setting.state (flat_map (limit_acts p setting exchange) events)
   overdue least setting exchange [] = tt
   overdue least setting exchange (v ∷ vs) =
       says-append least setting.state (limit_acts p setting exchange v) (flat_map (limit_acts p setting exchange) vs)
@@ -142,7 +142,7 @@ module _ {PublicState Packet Message State Exchange Answer Lease : Type 0} (p : 
 
   module _ (keeps : Keeps) where
     -- what is heard of these events between two attempts, before the late ones
-    record Hears (state : State) (least : ℕ) (late : List (Event Packet)) (heard : Heard Packet Message Answer) : Type 0 where
+    record Hears (state : State) (least : ℕ) (late : List (NumberedEvent Packet)) (heard : Heard Packet Message Answer) : Type 0 where
       acts : Says least state heard.acts
       answer : ReadIf (number_of (heard.rest ++ late)) state heard.answer
       rest : AllCome least (heard.rest ++ late)
@@ -155,7 +155,7 @@ module _ {PublicState Packet Message State Exchange Answer Lease : Type 0} (p : 
     input_read number setting exchange true words CleanUp g h = tt
     input_read number setting exchange false words input g h = tt
 
-    hears : (setting : Setting State) (exchange : Exchange) (listens : Bool) (words : List ℕ) (least : ℕ) (events late : List (Event Packet)) → Good exchange → AllCome least (events ++ late) →
+    hears : (setting : Setting State) (exchange : Exchange) (listens : Bool) (words : List ℕ) (least : ℕ) (events late : List (NumberedEvent Packet)) → Good exchange → AllCome least (events ++ late) →
         Hears setting.state least late (hear p setting exchange listens words events)
     hears setting exchange listens words least [] late g h = record { acts = tt; answer = tt; rest = h }
     hears setting exchange listens words least (v ∷ vs) late g h =
@@ -180,13 +180,13 @@ module _ {PublicState Packet Message State Exchange Answer Lease : Type 0} (p : 
     ReadBy number state (AnsweredBy answer) = Read number state answer
     ReadBy number state RanOut = Unit {0}
 
-    record Ends (state : State) (least : ℕ) (late : List (Event Packet)) (finish : Finish Packet Exchange Answer) : Type 0 where
+    record Ends (state : State) (least : ℕ) (late : List (NumberedEvent Packet)) (finish : Finish Packet Exchange Answer) : Type 0 where
       outcome : ReadBy (number_of (finish.rest ++ late)) state finish.outcome
       rest : AllCome least (finish.rest ++ late)
       exchange : Good finish.exchange
       after_wait : Good finish.after_wait
 
-    record Goes (state : State) (least : ℕ) (late : List (Event Packet)) (run : Course Packet Message Exchange Answer) : Type 0 where
+    record Goes (state : State) (least : ℕ) (late : List (NumberedEvent Packet)) (run : Course Packet Message Exchange Answer) : Type 0 where
       acts : Says least state run.acts
       ends : Ends state least late run.finish
 
@@ -197,7 +197,7 @@ module _ {PublicState Packet Message State Exchange Answer Lease : Type 0} (p : 
         go true = keeps.waited progress.exchange g
         go false = g
 
-    course_goes : (setting : Setting State) (fuel : ℕ) (progress : Progress Exchange) (least : ℕ) (events late : List (Event Packet)) → Good progress.exchange → AllCome least (events ++ late) →
+    course_goes : (setting : Setting State) (fuel : ℕ) (progress : Progress Exchange) (least : ℕ) (events late : List (NumberedEvent Packet)) → Good progress.exchange → AllCome least (events ++ late) →
         Goes setting.state least late (course p fuel setting progress events)
     course_goes setting zero progress least events late g h = record {
       acts = tt;
@@ -219,8 +219,8 @@ module _ {PublicState Packet Message State Exchange Answer Lease : Type 0} (p : 
         now : Progress Exchange
         now = record progress { words = last.words }
 
-        by_end : (b : Bool) (v : Event Packet) (vs : List (Event Packet)) → AllCome least (v ∷ (vs ++ late)) →
-            ((next : Progress Exchange) (xs : List (Event Packet)) → Good next.exchange → AllCome least (xs ++ late) → Goes setting.state least late (course p fuel setting next xs)) →
+        by_end : (b : Bool) (v : NumberedEvent Packet) (vs : List (NumberedEvent Packet)) → AllCome least (v ∷ (vs ++ late)) →
+            ((next : Progress Exchange) (xs : List (NumberedEvent Packet)) → Good next.exchange → AllCome least (xs ++ late) → Goes setting.state least late (course p fuel setting next xs)) →
             Goes setting.state least late (attempt_or_end p b (course p fuel setting) setting now last.acts v vs)
         by_end true v vs come ih = record {
           acts = says-append least setting.state last.acts (refused_release p setting progress.exchange v) heard.acts (denied least setting progress.exchange v);
@@ -239,13 +239,13 @@ module _ {PublicState Packet Message State Exchange Answer Lease : Type 0} (p : 
               ends = next.ends;
             }
 
-        go : (answer : Option Answer) (xs : List (Event Packet)) → ReadIf (number_of (last.rest ++ (xs ++ late))) setting.state answer → AllCome least (last.rest ++ (xs ++ late)) → AllCome least (xs ++ late) →
-            ((next : Progress Exchange) (xs : List (Event Packet)) → Good next.exchange → AllCome least (xs ++ late) → Goes setting.state least late (course p fuel setting next xs)) →
+        go : (answer : Option Answer) (xs : List (NumberedEvent Packet)) → ReadIf (number_of (last.rest ++ (xs ++ late))) setting.state answer → AllCome least (last.rest ++ (xs ++ late)) → AllCome least (xs ++ late) →
+            ((next : Progress Exchange) (xs : List (NumberedEvent Packet)) → Good next.exchange → AllCome least (xs ++ late) → Goes setting.state least late (course p fuel setting next xs)) →
             Goes setting.state least late (next_attempt p (course p fuel setting) setting now answer last xs)
         go (Some answer) xs read rest come ih = record {
           acts = heard.acts;
           ends = record {
-            outcome = subst (λ (all : List (Event Packet)). Read (number_of all) setting.state answer) (sym (append_assoc last.rest xs late)) read;
+            outcome = subst (λ (all : List (NumberedEvent Packet)). Read (number_of all) setting.state answer) (sym (append_assoc last.rest xs late)) read;
             rest = subst (AllCome least) (sym (append_assoc last.rest xs late)) rest;
             exchange = g;
             after_wait = g;
@@ -263,7 +263,7 @@ module _ {PublicState Packet Message State Exchange Answer Lease : Type 0} (p : 
       events : AllCome next turn.events
 
     module _ (setting : Setting State) (finish : Finish Packet Exchange Answer) (least : ℕ) (held : Held least setting.state) (exchange : Good finish.exchange) (after_wait : Good finish.after_wait) where
-      cut_turns : (events : List (Event Packet)) → AllCome least events → Turns least setting.state (cut p setting finish events)
+      cut_turns : (events : List (NumberedEvent Packet)) → AllCome least events → Turns least setting.state (cut p setting finish events)
       cut_turns [] h = record { acts = tt; next = least; held = held; exchange = exchange; events = tt }
       cut_turns (v ∷ vs) h = record {
         acts = tt;
@@ -273,7 +273,7 @@ module _ {PublicState Packet Message State Exchange Answer Lease : Type 0} (p : 
         events = after_call_come least v vs h;
       }
 
-      end_turns : (events : List (Event Packet)) → AllCome least events → Turns least setting.state (end_at p setting finish events)
+      end_turns : (events : List (NumberedEvent Packet)) → AllCome least events → Turns least setting.state (end_at p setting finish events)
       end_turns [] h = cut_turns [] h
       end_turns (v ∷ vs) h = record {
         acts = denied least setting finish.exchange v;
@@ -283,18 +283,18 @@ module _ {PublicState Packet Message State Exchange Answer Lease : Type 0} (p : 
         events = after_call_come least v vs h;
       }
 
-      close_turns : (v : Event Packet) (vs : List (Event Packet)) (cut_now over : Bool) → AllCome least (v ∷ vs) → Turns least setting.state (close p cut_now over setting finish v vs)
+      close_turns : (v : NumberedEvent Packet) (vs : List (NumberedEvent Packet)) (cut_now over : Bool) → AllCome least (v ∷ vs) → Turns least setting.state (close p cut_now over setting finish v vs)
       close_turns v vs true over h = cut_turns (v ∷ vs) h
       close_turns v vs false true h =
           let turn : Turns least setting.state (cut p setting finish (from (cuts p setting) (v ∷ vs))) = cut_turns (from (cuts p setting) (v ∷ vs)) (from_come (cuts p setting) least (v ∷ vs) h) in
           record { acts = overdue least setting finish.exchange (before (cuts p setting) (v ∷ vs)); next = turn.next; held = turn.held; exchange = turn.exchange; events = turn.events }
       close_turns v vs false false h = end_turns (v ∷ vs) h
 
-    turns : (setting : Setting State) (finish : Finish Packet Exchange Answer) (least : ℕ) (late : List (Event Packet)) → Held least setting.state → Ends setting.state least late finish → AllCome least late →
+    turns : (setting : Setting State) (finish : Finish Packet Exchange Answer) (least : ℕ) (late : List (NumberedEvent Packet)) → Held least setting.state → Ends setting.state least late finish → AllCome least late →
         Turns least setting.state (transition p setting finish late)
     turns setting finish least late held ends h = go finish.outcome late ends.outcome ends.rest h
       where
-        go : (outcome : Outcome Answer) (events : List (Event Packet)) → ReadBy (number_of (finish.rest ++ events)) setting.state outcome → AllCome least (finish.rest ++ events) → AllCome least events →
+        go : (outcome : Outcome Answer) (events : List (NumberedEvent Packet)) → ReadBy (number_of (finish.rest ++ events)) setting.state outcome → AllCome least (finish.rest ++ events) → AllCome least events →
             Turns least setting.state (transition_by p outcome setting finish events)
         go (AnsweredBy answer) events read rest come = record {
           acts = tt;
@@ -312,21 +312,21 @@ module _ {PublicState Packet Message State Exchange Answer Lease : Type 0} (p : 
       pub held : Held stay.entry stay.setting.state
       pub attempts : All (IsFrom stay.entry stay.setting.state) (attempts_of stay.acts)
 
-    entry_good : (setting : Setting State) (entry : Entry State Exchange) (v : Event Packet) → Good entry.exchange → Good (entry_progress p setting entry v).exchange
+    entry_good : (setting : Setting State) (entry : Entry State Exchange) (v : NumberedEvent Packet) → Good entry.exchange → Good (entry_progress p setting entry v).exchange
     entry_good setting entry v g = go (cuts p setting v)
       where
         go : (b : Bool) → Good (if b then record { last = NoneYet; due = None; exchange = entry.exchange; words = entry.words } else first_progress p entry v.moment).exchange
         go true = g
         go false = g
 
-    stays_hold : (fuel timeout_sec : ℕ) (entry : Entry State Exchange) (least : ℕ) (events : List (Event Packet)) → Held least entry.state → Good entry.exchange → AllCome least events →
+    stays_hold : (fuel timeout_sec : ℕ) (entry : Entry State Exchange) (least : ℕ) (events : List (NumberedEvent Packet)) → Held least entry.state → Good entry.exchange → AllCome least events →
         AllByRecursion HoldsIn (stays p fuel timeout_sec entry events)
     stays_hold fuel timeout_sec entry least [] held g h = tt
     stays_hold zero timeout_sec entry least (v ∷ vs) held g h = tt
     stays_hold (suc fuel) timeout_sec entry least (v ∷ vs) held g h =
         let setting : Setting State = setting_at timeout_sec entry v.moment in
         let here : AllCome v.number (v ∷ vs) = own_come least v vs h in
-        let late : List (Event Packet) = from (closes p setting) (v ∷ vs) in
+        let late : List (NumberedEvent Packet) = from (closes p setting) (v ∷ vs) in
         let run : Course Packet Message Exchange Answer = course p (suc (length (v ∷ vs))) setting (entry_progress p setting entry v) (before (closes p setting) (v ∷ vs)) in
         let goes : Goes entry.state v.number late run =
         course_goes setting (suc (length (v ∷ vs))) (entry_progress p setting entry v) v.number (before (closes p setting) (v ∷ vs)) late (entry_good setting entry v g) (cut_come (closes p setting) v.number (v ∷ vs) here) in

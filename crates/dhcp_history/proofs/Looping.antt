@@ -11,7 +11,7 @@ use Rattle.dhcp_history.specs.declared.machine.RunError.TheVariants as run
 use Rattle.dhcp_history.specs.declared.release.ReleaseError.{ReleaseError}
 use Rattle.dhcp_history.specs.declared.release.ReleaseError.TheVariants as release
 use Rattle.dhcp_history.specs.Protocol.{Protocol, Lawful, has_come}
-use Rattle.dhcp_history.specs.Script.{Input, Nothing, Arrival, Release, CleanUp, Event, Output, Changed, Script, after_call}
+use Rattle.dhcp_history.specs.Script.{Input, Nothing, Arrival, Release, CleanUp, NumberedEvent, NumberedReport, Changed, Script, after_call}
 use Rattle.dhcp_history.specs.History.{history, outputs, reading_of}
 use Rattle.dhcp_history.specs.Machine.{View, PollEffect, EventEffect, is_listening, is_stopped, limit_is_over, has_ended, begin_stay, attempt_now, transmit, take_answer, receive, transmit_and_receive, poll, after_poll, clean_up, release_of, replay_from, first_view, handed_output}
 use Rattle.dhcp_history.specs.Run.{input_of, waiting_of, handed_by, shown_after, UnlessNoMemory, answer_by, answer_of, HasPolled}
@@ -54,7 +54,7 @@ module _ {PublicState State Exchange Answer Lease : Type 0} (p : Protocol Public
 
   -- one poll of the loop, over a link that lists no message before
   pub polled_once : (number : ℕ) (refuse : Bool) (shown after : Shown) (once : PollEffect Packet Handed State Exchange) (result : Result (Option PublicState) RunError) (view : List ℕ → View State Exchange)
-      (left : Option (List ℕ)) (handed : Option Handed) (packet : Option Packet) (again : Bool) (outs outs' : List (Output PublicState Handed)) →
+      (left : Option (List ℕ)) (handed : Option Handed) (packet : Option Packet) (again : Bool) (outs outs' : List (NumberedReport PublicState Handed)) →
       shown.handed ≡ [] → HasPolled p once result view left shown (Some after) → handed ≡ option_map (λ (listed : Handed × Sent). listed.0) (slice_get after.handed 0) → packet ≡ after.waiting →
       again ≡ is_again result → outs' ≡ outs ++ poll_outputs number refuse handed result → HasPolledOnce p number refuse once again outs outs' view left packet
   polled_once number refuse shown after once result view left handed packet again outs outs' empty polled takes waits says adds =
@@ -64,7 +64,7 @@ module _ {PublicState State Exchange Answer Lease : Type 0} (p : Protocol Public
       (ap (λ (listed : List (Handed × Sent)). option_map (λ (l : Handed × Sent). l.0) (slice_get listed 0)) none ∙ handed_same shown.refuses once.handed) in
       record {
         again = says ∙ (ap (λ (r : Result (Option PublicState) RunError). is_again r) polled.answer ∙ again_same once.change once.failed);
-        outputs = adds ∙ ap (λ (more : List (Output PublicState Handed)). outs ++ more)
+        outputs = adds ∙ ap (λ (more : List (NumberedReport PublicState Handed)). outs ++ more)
             (ap (λ (h : Option Handed). poll_outputs number refuse h result) same ∙ (ap (λ (r : Result (Option PublicState) RunError). poll_outputs number refuse once.handed r) polled.answer ∙ outputs_same number refuse once));
         client = polled.client;
         words = polled.words;
@@ -72,7 +72,7 @@ module _ {PublicState State Exchange Answer Lease : Type 0} (p : Protocol Public
       }
 
   pub one_poll : (number : ℕ) (refuse : Bool) (now : ℕ) (shown after : Shown) (first view : List ℕ → View State Exchange) (drawn left : Option (List ℕ)) (result : Result (Option PublicState) RunError)
-      (reported : Result Bool AllocError) (handed : Option Handed) (packet : Option Packet) (outs outs' : List (Output PublicState Handed)) → shown.handed ≡ [] →
+      (reported : Result Bool AllocError) (handed : Option Handed) (packet : Option Packet) (outs outs' : List (NumberedReport PublicState Handed)) → shown.handed ≡ [] →
       UnlessNoMemory result (IfSome drawn (λ words. HasPolled p (poll p now shown.refuses (input_of shown.waiting) (first words)) result view left shown (Some after))) →
       handed ≡ option_map (λ (listed : Handed × Sent). listed.0) (slice_get after.handed 0) → packet ≡ after.waiting →
       OnOk reported (has_memory result ≡ true) → IfOk reported (λ again. again ≡ is_again result) → OnOk reported (outs' ≡ outs ++ poll_outputs number refuse handed result) →
@@ -119,17 +119,17 @@ module _ {PublicState State Exchange Answer Lease : Type 0} (p : Protocol Public
         go false e false f false g = rw (e, f, g) (work_left (begin_stay p now view))
 
   -- no poll is left
-  polls_zero : (left : ℕ) (event : Event Packet) (view : View State Exchange) → left ≡ 0 → polls_at p left event view ≡ record { outputs = []; view = view }
+  polls_zero : (left : ℕ) (event : NumberedEvent Packet) (view : View State Exchange) → left ≡ 0 → polls_at p left event view ≡ record { outputs = []; view = view }
   unfolding polls_at
   polls_zero left event view e = rw e
 
-  polls_next : (left : ℕ) (event : Event Packet) (view : View State Exchange) → 0 < left →
+  polls_next : (left : ℕ) (event : NumberedEvent Packet) (view : View State Exchange) → 0 < left →
       polls_at p left event view ≡ after_poll p (polls_at p (left - 1)) event (poll p event.moment event.refuse event.input view).change (poll p event.moment event.refuse event.input view)
   unfolding polls_at
   polls_next zero event view h = absurd (omega arith)
   polls_next (suc left) event view h = let less : suc left - 1 ≡ left = omega arith in rw less
 
-  module _ (left : ℕ) (event : Event Packet) (view : View State Exchange) (some_left : 0 < left) where
+  module _ (left : ℕ) (event : NumberedEvent Packet) (view : View State Exchange) (some_left : 0 < left) where
     abbrev once : PollEffect Packet Handed State Exchange
     once = poll p event.moment event.refuse event.input view
 
@@ -154,16 +154,16 @@ module _ {PublicState State Exchange Answer Lease : Type 0} (p : Protocol Public
         go None c = absurd (cc (rw c at again))
         go (Some next) c =
             rw (polls_next left event view some_left, c)
-            (ap (λ (outputs : List (Output PublicState Handed)). record { outputs = outputs; view = more.view })
+            (ap (λ (outputs : List (NumberedReport PublicState Handed)). record { outputs = outputs; view = more.view })
             (sym (append_assoc (handed_output event.number event.refuse once.handed) (record { event = event.number; report = Changed (p.public_state next) } ∷ []) more.outputs)))
 
   -- a poll in the loop, of an event with this packet left
-  module _ (event : Event Packet) (first now next : Option (List ℕ)) (first_view view later : List ℕ → View State Exchange) (left : ℕ) (packet packet' : Option Packet) (refuse : Bool)
-      (before so_far after : List (Output PublicState Handed)) (again : Bool) where
+  module _ (event : NumberedEvent Packet) (first now next : Option (List ℕ)) (first_view view later : List ℕ → View State Exchange) (left : ℕ) (packet packet' : Option Packet) (refuse : Bool)
+      (before so_far after : List (NumberedReport PublicState Handed)) (again : Bool) where
     abbrev all : List ℕ → EventEffect PublicState Handed State Exchange
     all words = polls_at p 7 event (first_view words)
 
-    abbrev at : Event Packet
+    abbrev at : NumberedEvent Packet
     at = record event { input = input_of packet }
 
     abbrev this : List ℕ → PollEffect Packet Handed State Exchange
@@ -185,7 +185,7 @@ module _ {PublicState State Exchange Answer Lease : Type 0} (p : Protocol Public
         step more_polls =
             let once' : PollEffect Packet Handed State Exchange = this drawn in
             let more : EventEffect PublicState Handed State Exchange = polls_at p (left - 1) (record at { input = once'.left }) once'.view in
-            let outs : List (Output PublicState Handed) = once_outputs p event.number event.refuse once'.change once' in
+            let outs : List (NumberedReport PublicState Handed) = once_outputs p event.number event.refuse once'.change once' in
             let goes : polls_at p left at (view drawn) ≡ record { outputs = outs ++ more.outputs; view = more.view } = next_poll left at (view drawn) some_left (sym really.again ∙ more_polls) in
             let waits : input_of packet' ≡ once'.left = ap (λ (w : Option Packet). input_of w) really.waiting ∙ poll_left event.moment event.refuse packet (view drawn) in
             rw (waits, really.client, really.outputs) (record {
@@ -226,12 +226,12 @@ module _ {PublicState State Exchange Answer Lease : Type 0} (p : Protocol Public
           by_first (Some words) (Some drawn) h r = stop words drawn h r quiet
 
   -- the loop at its beginning, and after its last poll; where it ends there, the client reports no more
-  pub loop_begins : (event : Event Packet) (first : Option (List ℕ)) (view : List ℕ → View State Exchange) (so_far : List (Output PublicState Handed)) →
+  pub loop_begins : (event : NumberedEvent Packet) (first : Option (List ℕ)) (view : List ℕ → View State Exchange) (so_far : List (NumberedReport PublicState Handed)) →
       IfSome first (λ words. IsSomeAnd first (λ drawn. MakesUp (polls_at p 7 event (view drawn)) (polls_at p 7 event (view words)) so_far so_far))
   loop_begins event None view so_far = tt
   loop_begins event (Some words) view so_far = record { outputs = refl; view = refl }
 
-  pub loop_ends : (event : Event Packet) (first now : Option (List ℕ)) (first_view view : List ℕ → View State Exchange) (left : ℕ) (packet : Option Packet) (before so_far : List (Output PublicState Handed)) → left ≡ 0 →
+  pub loop_ends : (event : NumberedEvent Packet) (first now : Option (List ℕ)) (first_view view : List ℕ → View State Exchange) (left : ℕ) (packet : Option Packet) (before so_far : List (NumberedReport PublicState Handed)) → left ≡ 0 →
       (words_kept : (drawn : List ℕ) → (view drawn).words ≡ drawn) →
       IfSome first (λ words. IsSomeAnd now (λ drawn. MakesUp (polls_at p left (record event { input = input_of packet }) (view drawn)) (polls_at p 7 event (first_view words)) so_far before)) →
       IfSome first (λ words. HasReported (polls_at p 7 event (first_view words)) before so_far view now)
@@ -254,24 +254,24 @@ module _ {PublicState State Exchange Answer Lease : Type 0} (p : Protocol Public
   release_reports number moment true (Some lease) view = refl
   release_reports number moment false (Some lease) view = refl
 
-  call_released : (event : Event Packet) (view : View State Exchange) → event.input ≡ Release → call_at p event view ≡ release_of p (p.held_lease view.state) event view
+  call_released : (event : NumberedEvent Packet) (view : View State Exchange) → event.input ≡ Release → call_at p event view ≡ release_of p (p.held_lease view.state) event view
   unfolding call_at
   call_released event view e = rw e
 
-  pub call_cleaned : (event : Event Packet) (view : View State Exchange) → event.input ≡ CleanUp → call_at p event view ≡ record { outputs = []; view = clean_up p view }
+  pub call_cleaned : (event : NumberedEvent Packet) (view : View State Exchange) → event.input ≡ CleanUp → call_at p event view ≡ record { outputs = []; view = clean_up p view }
   unfolding call_at
   call_cleaned event view e = rw e
 
-  pub call_nothing : (event : Event Packet) (view : View State Exchange) → event.input ≡ Nothing → call_at p event view ≡ record { outputs = []; view = view }
+  pub call_nothing : (event : NumberedEvent Packet) (view : View State Exchange) → event.input ≡ Nothing → call_at p event view ≡ record { outputs = []; view = view }
   unfolding call_at
   call_nothing event view e = rw e
 
-  pub call_arrival : (event : Event Packet) (view : View State Exchange) (packet : Packet) → event.input ≡ Arrival packet → call_at p event view ≡ record { outputs = []; view = view }
+  pub call_arrival : (event : NumberedEvent Packet) (view : View State Exchange) (packet : Packet) → event.input ≡ Arrival packet → call_at p event view ≡ record { outputs = []; view = view }
   unfolding call_at
   call_arrival event view packet e = rw e
 
   -- a release over a link that lists no message before, as it was reported
-  pub release_called : (number moment : ℕ) (refuse : Bool) (shown after : Shown) (old new : View State Exchange) (result : Result Bool ReleaseError) (handed : Option Handed) (outs outs' : List (Output PublicState Handed)) →
+  pub release_called : (number moment : ℕ) (refuse : Bool) (shown after : Shown) (old new : View State Exchange) (result : Result Bool ReleaseError) (handed : Option Handed) (outs outs' : List (NumberedReport PublicState Handed)) →
       shown.handed ≡ [] → shown.refuses ≡ refuse → HasReleased (release_held p shown.refuses old) result new shown (Some after) →
       handed ≡ option_map (λ (listed : Handed × Sent). listed.0) (slice_get after.handed 0) → outs' ≡ outs ++ release_outputs number refuse handed result →
       HasCalled (call_at p (record { number = number; moment = moment; refuse = refuse; input = Release }) old) outs outs' new
@@ -282,7 +282,7 @@ module _ {PublicState State Exchange Answer Lease : Type 0} (p : Protocol Public
       let none : handed_by shown.refuses once.handed shown.handed ≡ handed_by shown.refuses once.handed [] = ap (λ (listed : List (Handed × Sent)). handed_by shown.refuses once.handed listed) empty in
       let one : handed ≡ once.handed = takes ∙ ap (λ (s : Shown). option_map (λ (listed : Handed × Sent). listed.0) (slice_get s.handed 0)) is ∙
       (ap (λ (listed : List (Handed × Sent)). option_map (λ (l : Handed × Sent). l.0) (slice_get listed 0)) none ∙ handed_same shown.refuses once.handed) in
-      let event : Event Packet = record { number = number; moment = moment; refuse = refuse; input = Release } in
+      let event : NumberedEvent Packet = record { number = number; moment = moment; refuse = refuse; input = Release } in
       let called : call_at p event old ≡ record { outputs = release_outputs number refuse once.handed once.answer; view = once.view } =
       call_released event old refl ∙ release_reports number moment refuse (p.held_lease old.state) old in
       rw called (record { outputs = adds ∙ rw (one, really.answer); client = really.client })
@@ -301,7 +301,7 @@ module _ {PublicState State Exchange Answer Lease : Type 0} (p : Protocol Public
       go (Some message) = refl
 
   -- an event: its call, and then its polls
-  pub event_reported : {T E : Type 0} (result : Result T E) (event : Event Packet) (input : Input Packet) (drawn left : Option (List ℕ)) (first mid view : List ℕ → View State Exchange) (before told after : List (Output PublicState Handed)) →
+  pub event_reported : {T E : Type 0} (result : Result T E) (event : NumberedEvent Packet) (input : Input Packet) (drawn left : Option (List ℕ)) (first mid view : List ℕ → View State Exchange) (before told after : List (NumberedReport PublicState Handed)) →
       ((words : List ℕ) → HasCalled (call_at p event (first words)) before told (mid words)) → input ≡ (after_call event).input →
       OnOk result (IfSome drawn (λ words. HasReported (polls_at p 7 (record event { input = input }) (mid words)) told after view left)) →
       OnOk result (IfSome drawn (λ words. HasReported (event_at p event (first words)) before after view left))
@@ -314,13 +314,13 @@ module _ {PublicState State Exchange Answer Lease : Type 0} (p : Protocol Public
       subst (λ (v : View State Exchange). HasReported (polls_at p 7 (after_call event) v) told after view left) (called words).client
       (subst (λ (i : Input Packet). HasReported (polls_at p 7 (record event { input = i }) (mid words)) told after view left) e polled) in
       record {
-        outputs = is.outputs ∙ (ap (λ (outs : List (Output PublicState Handed)). outs ++ once.outputs) (called words).outputs ∙ append_assoc before call'.outputs once.outputs);
+        outputs = is.outputs ∙ (ap (λ (outs : List (NumberedReport PublicState Handed)). outs ++ once.outputs) (called words).outputs ∙ append_assoc before call'.outputs once.outputs);
         client = is.client;
         words = is.words;
       }
 
   -- an event in the loop over events
-  module _ (first now next : Option (List ℕ)) (first_view view later : List ℕ → View State Exchange) (event : Event Packet) (rest events : List (Event Packet)) (before so_far after : List (Output PublicState Handed)) where
+  module _ (first now next : Option (List ℕ)) (first_view view later : List ℕ → View State Exchange) (event : NumberedEvent Packet) (rest events : List (NumberedEvent Packet)) (before so_far after : List (NumberedReport PublicState Handed)) where
     abbrev whole : List ℕ → EventEffect PublicState Handed State Exchange
     whole words = events_at p (first_view words) events
 
@@ -345,12 +345,12 @@ module _ {PublicState State Exchange Answer Lease : Type 0} (p : Protocol Public
         go (Some words) None h r = absurd h
         go (Some words) (Some drawn) h r = next_event words drawn h r
 
-  pub events_begin : (first : Option (List ℕ)) (view : List ℕ → View State Exchange) (events : List (Event Packet)) (so_far : List (Output PublicState Handed)) →
+  pub events_begin : (first : Option (List ℕ)) (view : List ℕ → View State Exchange) (events : List (NumberedEvent Packet)) (so_far : List (NumberedReport PublicState Handed)) →
       IfSome first (λ words. IsSomeAnd first (λ drawn. MakesUp (events_at p (view drawn) events) (events_at p (view words) events) so_far so_far))
   events_begin None view events so_far = tt
   events_begin (Some words) view events so_far = record { outputs = refl; view = refl }
 
-  pub events_end : (first now : Option (List ℕ)) (first_view view : List ℕ → View State Exchange) (rest events : List (Event Packet)) (before so_far : List (Output PublicState Handed)) → rest ≡ [] →
+  pub events_end : (first now : Option (List ℕ)) (first_view view : List ℕ → View State Exchange) (rest events : List (NumberedEvent Packet)) (before so_far : List (NumberedReport PublicState Handed)) → rest ≡ [] →
       ((drawn : List ℕ) → (view drawn).words ≡ drawn) →
       IfSome first (λ words. IsSomeAnd now (λ drawn. MakesUp (events_at p (view drawn) rest) (events_at p (first_view words) events) so_far before)) →
       IfSome first (λ words. HasReported (events_at p (first_view words) events) before so_far view now)
@@ -366,20 +366,20 @@ module _ {PublicState State Exchange Answer Lease : Type 0} (p : Protocol Public
       }
 
   -- the loop over events reports what the replay reports
-  events_replay : (view : View State Exchange) (events : List (Event Packet)) → (events_at p view events).outputs ≡ replay_from p view events
+  events_replay : (view : View State Exchange) (events : List (NumberedEvent Packet)) → (events_at p view events).outputs ≡ replay_from p view events
   unfolding polls_at call_at
   events_replay view [] = refl
   events_replay view (event ∷ events) =
       let first : EventEffect PublicState Handed State Exchange = call_at p event view in
       let then' : EventEffect PublicState Handed State Exchange = polls_at p 7 (after_call event) first.view in
       append_assoc first.outputs then'.outputs (events_at p then'.view events).outputs ∙
-      ap (λ (more : List (Output PublicState Handed)). first.outputs ++ (then'.outputs ++ more)) (events_replay then'.view events)
+      ap (λ (more : List (NumberedReport PublicState Handed)). first.outputs ++ (then'.outputs ++ more)) (events_replay then'.view events)
 
   -- what the loop reports is what the history of a script reports, where the client begins as the script says
-  pub loop_history : (first now : Option (List ℕ)) (first_view' view : List ℕ → View State Exchange) (events : List (Event Packet)) (reported : List (Output PublicState Handed)) →
+  pub loop_history : (first now : Option (List ℕ)) (first_view' view : List ℕ → View State Exchange) (events : List (NumberedEvent Packet)) (reported : List (NumberedReport PublicState Handed)) →
       IfSome first (λ drawn. HasReported (events_at p (first_view' drawn) events) [] reported view now) → Lawful p →
       IfSome first (λ drawn. (script : Script Packet State Exchange) → first_view' drawn ≡ first_view script → script.events ≡ events → reported ≡ outputs p (history p script))
   loop_history None now first_view' view events reported h lawful = tt
   loop_history (Some drawn) now first_view' view events reported h lawful = λ script begins same.
       h.outputs ∙ (events_replay (first_view' drawn) events ∙
-      (ap (λ (v : View State Exchange). replay_from p v events) begins ∙ (ap (λ (vs : List (Event Packet)). replay_from p (first_view script) vs) (sym same) ∙ replay_history p lawful script)))
+      (ap (λ (v : View State Exchange). replay_from p v events) begins ∙ (ap (λ (vs : List (NumberedEvent Packet)). replay_from p (first_view script) vs) (sym same) ∙ replay_history p lawful script)))

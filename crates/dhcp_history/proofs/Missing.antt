@@ -6,7 +6,7 @@ use Rattle.std.proofs.lemmas.Bool.{leb-true, le-leb}
 use Rattle.std.proofs.lemmas.List.Elements.{All-from_recursion, recursion_from_All}
 use Rattle.dhcp_clock.specs.Words.{Drawn}
 use Rattle.dhcp_history.specs.Protocol.{Protocol, Lawful, has_come}
-use Rattle.dhcp_history.specs.declared.script.Event.{Event}
+use Rattle.dhcp_history.specs.declared.script.NumberedEvent.{NumberedEvent}
 use Rattle.dhcp_history.specs.declared.script.Input.{Input}
 use Rattle.dhcp_history.specs.declared.script.Input.TheVariants.{Nothing, Arrival, Release, CleanUp}
 use Rattle.dhcp_history.specs.Script.{Script, after_call}
@@ -43,21 +43,21 @@ come_later earlier later (Some moment) le h =
 
 -- 1. An event that is followed, and the events that are left.
 
-module _ {Packet : Type 0} (e : Event Packet) (packet : Packet) (brings : e.input ≡ Arrival packet) where
+module _ {Packet : Type 0} (e : NumberedEvent Packet) (packet : Packet) (brings : e.input ≡ Arrival packet) where
   -- all of these events come after it
-  abbrev pub Past : List (Event Packet) → Type 0
-  Past events = AllByRecursion (λ (event : Event Packet). e.number < event.number) events
+  abbrev pub Past : List (NumberedEvent Packet) → Type 0
+  Past events = AllByRecursion (λ (event : NumberedEvent Packet). e.number < event.number) events
 
   -- it is among these events, behind those before it
-  abbrev pub Ahead : List (Event Packet) → Type 0
+  abbrev pub Ahead : List (NumberedEvent Packet) → Type 0
   Ahead [] = ⊥
   Ahead (v ∷ vs) = ((v ≡ e) × Past vs) ⊎ ((v.number < e.number) × (v.moment ≤ e.moment) × Ahead vs)
 
-  abbrev pub Stands : List (Event Packet) → Type 0
+  abbrev pub Stands : List (NumberedEvent Packet) → Type 0
   Stands events = Ahead events ⊎ Past events
 
-  called : (v : Event Packet) → v ≡ e → after_call v ≡ e
-  called v same = ap (λ (x : Event Packet). after_call x) same ∙ go e.input refl brings
+  called : (v : NumberedEvent Packet) → v ≡ e → after_call v ≡ e
+  called v same = ap (λ (x : NumberedEvent Packet). after_call x) same ∙ go e.input refl brings
     where
       go : (input : Input Packet) → e.input ≡ input → input ≡ Arrival packet → after_call e ≡ e
       go (Arrival other) is same = rw is refl
@@ -65,42 +65,42 @@ module _ {Packet : Type 0} (e : Event Packet) (packet : Packet) (brings : e.inpu
       go Release is same = absurd cc
       go CleanUp is same = absurd cc
 
-  stands_tail : (v : Event Packet) (vs : List (Event Packet)) → Stands (v ∷ vs) → Stands vs
+  stands_tail : (v : NumberedEvent Packet) (vs : List (NumberedEvent Packet)) → Stands (v ∷ vs) → Stands vs
   stands_tail v vs (inl (inl here)) = inr here.1
   stands_tail v vs (inl (inr later)) = inl later.2
   stands_tail v vs (inr past) = inr past.1
 
-  ahead_called : (v : Event Packet) (vs : List (Event Packet)) → Ahead (v ∷ vs) → Ahead (after_call v ∷ vs)
+  ahead_called : (v : NumberedEvent Packet) (vs : List (NumberedEvent Packet)) → Ahead (v ∷ vs) → Ahead (after_call v ∷ vs)
   ahead_called v vs (inl here) = inl (called v here.0, here.1)
   ahead_called v vs (inr later) = inr later
 
-  stands_called : (v : Event Packet) (vs : List (Event Packet)) → Stands (v ∷ vs) → Stands (after_call v ∷ vs)
+  stands_called : (v : NumberedEvent Packet) (vs : List (NumberedEvent Packet)) → Stands (v ∷ vs) → Stands (after_call v ∷ vs)
   stands_called v vs (inl ahead) = inl (ahead_called v vs ahead)
   stands_called v vs (inr past) = inr past
 
   -- events that rise stand so, if it is among them
-  rises_past : (number moment : ℕ) (events : List (Event Packet)) → e.number ≤ number → Rises number moment events → Past events
+  rises_past : (number moment : ℕ) (events : List (NumberedEvent Packet)) → e.number ≤ number → Rises number moment events → Past events
   rises_past number moment [] le rises = tt
   rises_past number moment (v ∷ vs) le rises = (omega (arith, le, rises.0), rises_past v.number v.moment vs (omega (arith, le, rises.0)) rises.2)
 
-  rises_bound : (number moment k : ℕ) (events : List (Event Packet)) → Rises number moment events → k < length events → slice_index_or events k e ≡ e → (number < e.number) × (moment ≤ e.moment)
+  rises_bound : (number moment k : ℕ) (events : List (NumberedEvent Packet)) → Rises number moment events → k < length events → slice_index_or events k e ≡ e → (number < e.number) × (moment ≤ e.moment)
   rises_bound number moment k [] rises lt is = absurd (omega (arith, lt))
-  rises_bound number moment zero (v ∷ vs) rises lt is = (subst (λ (x : Event Packet). number < x.number) is rises.0, subst (λ (x : Event Packet). moment ≤ x.moment) is rises.1)
+  rises_bound number moment zero (v ∷ vs) rises lt is = (subst (λ (x : NumberedEvent Packet). number < x.number) is rises.0, subst (λ (x : NumberedEvent Packet). moment ≤ x.moment) is rises.1)
   rises_bound number moment (suc k) (v ∷ vs) rises lt is =
       let more : (v.number < e.number) × (v.moment ≤ e.moment) = rises_bound v.number v.moment k vs rises.2 (omega (arith, lt)) is in
       (omega (arith, rises.0, more.0), omega (arith, rises.1, more.1))
 
-  rises_ahead : (number moment k : ℕ) (events : List (Event Packet)) → Rises number moment events → k < length events → slice_index_or events k e ≡ e → Ahead events
+  rises_ahead : (number moment k : ℕ) (events : List (NumberedEvent Packet)) → Rises number moment events → k < length events → slice_index_or events k e ≡ e → Ahead events
   rises_ahead number moment k [] rises lt is = absurd (omega (arith, lt))
-  rises_ahead number moment zero (v ∷ vs) rises lt is = inl (is, rises_past v.number v.moment vs (subst (λ (x : Event Packet). e.number ≤ x.number) (sym is) (omega arith)) rises.2)
+  rises_ahead number moment zero (v ∷ vs) rises lt is = inl (is, rises_past v.number v.moment vs (subst (λ (x : NumberedEvent Packet). e.number ≤ x.number) (sym is) (omega arith)) rises.2)
   rises_ahead number moment (suc k) (v ∷ vs) rises lt is =
       let more : (v.number < e.number) × (v.moment ≤ e.moment) = rises_bound v.number v.moment k vs rises.2 (omega (arith, lt)) is in
       inr (more.0, more.1, rises_ahead v.number v.moment k vs rises.2 (omega (arith, lt)) is)
 
-  pub among_stands : (events : List (Event Packet)) → Rises 0 0 events → Contains events e → Stands events
+  pub among_stands : (events : List (NumberedEvent Packet)) → Rises 0 0 events → Contains events e → Stands events
   among_stands events rises among = inl (rises_ahead 0 0 among.0 events rises among.1 among.2)
 
-  past_before : (test : Event Packet → Bool) (events : List (Event Packet)) → Past events → Past (before test events)
+  past_before : (test : NumberedEvent Packet → Bool) (events : List (NumberedEvent Packet)) → Past events → Past (before test events)
   past_before test [] past = tt
   past_before test (v ∷ vs) past = go (test v) refl (past_before test vs past.1)
     where
@@ -108,33 +108,33 @@ module _ {Packet : Type 0} (e : Event Packet) (packet : Packet) (brings : e.inpu
       go true h ih = rw (before_hit test v vs h) tt
       go false h ih = rw (before_miss test v vs h) (past.0, ih)
 
-  past_late : (ws late : List (Event Packet)) → Past (ws ++ late) → Past late
+  past_late : (ws late : List (NumberedEvent Packet)) → Past (ws ++ late) → Past late
   past_late [] late past = past
   past_late (v ∷ vs) late past = past_late vs late past.1
 
-  past_from : (test : Event Packet → Bool) (events : List (Event Packet)) → Past events → Past (from test events)
+  past_from : (test : NumberedEvent Packet → Bool) (events : List (NumberedEvent Packet)) → Past events → Past (from test events)
   past_from test events past = past_late (before test events) (from test events) (subst Past (sym (before-from test events)) past)
 
   -- it is before the first event that passes a test which it does not pass, nor any event before it
-  ahead_before : (test : Event Packet → Bool) → ((v : Event Packet) → v.moment ≤ e.moment → test v ≡ true → test e ≡ true) → test e ≡ false → (events : List (Event Packet)) → Ahead events → Ahead (before test events)
+  ahead_before : (test : NumberedEvent Packet → Bool) → ((v : NumberedEvent Packet) → v.moment ≤ e.moment → test v ≡ true → test e ≡ true) → test e ≡ false → (events : List (NumberedEvent Packet)) → Ahead events → Ahead (before test events)
   ahead_before test up fails [] ahead = ahead
   ahead_before test up fails (v ∷ vs) ahead = go (test v) refl ahead (λ h. ahead_before test up fails vs h)
     where
       go : (b : Bool) → test v ≡ b → Ahead (v ∷ vs) → (Ahead vs → Ahead (before test vs)) → Ahead (before test (v ∷ vs))
-      go true h (inl here) ih = true_false (test e) (subst (λ (x : Event Packet). test x ≡ true) here.0 h) fails
+      go true h (inl here) ih = true_false (test e) (subst (λ (x : NumberedEvent Packet). test x ≡ true) here.0 h) fails
       go true h (inr later) ih = true_false (test e) (up v later.1 h) fails
       go false h (inl here) ih = rw (before_miss test v vs h) (inl (here.0, past_before test vs here.1))
       go false h (inr later) ih = rw (before_miss test v vs h) (inr (later.0, later.1, ih later.2))
 
   -- it is before the first event that passes a test which it does not pass, or that event is before it
-  record After (test : Event Packet → Bool) (events : List (Event Packet)) : Type 0 where
-    first : Event Packet
-    rest : List (Event Packet)
+  record After (test : NumberedEvent Packet → Bool) (events : List (NumberedEvent Packet)) : Type 0 where
+    first : NumberedEvent Packet
+    rest : List (NumberedEvent Packet)
     is : from test events ≡ first ∷ rest
     number : first.number < e.number
     moment : first.moment ≤ e.moment
 
-  ahead_split : (test : Event Packet → Bool) → test e ≡ false → (events : List (Event Packet)) → Ahead events → Ahead (before test events) ⊎ After test events
+  ahead_split : (test : NumberedEvent Packet → Bool) → test e ≡ false → (events : List (NumberedEvent Packet)) → Ahead events → Ahead (before test events) ⊎ After test events
   ahead_split test fails [] ahead = absurd ahead
   ahead_split test fails (v ∷ vs) ahead = go (test v) refl ahead (λ h. ahead_split test fails vs h)
     where
@@ -143,20 +143,20 @@ module _ {Packet : Type 0} (e : Event Packet) (packet : Packet) (brings : e.inpu
       by_rest h bounds (inr found) = inr (record { first = found.first; rest = found.rest; is = from_miss test v vs h ∙ found.is; number = found.number; moment = found.moment })
 
       go : (b : Bool) → test v ≡ b → Ahead (v ∷ vs) → (Ahead vs → Ahead (before test vs) ⊎ After test vs) → Ahead (before test (v ∷ vs)) ⊎ After test (v ∷ vs)
-      go true h (inl here) ih = true_false (test e) (subst (λ (x : Event Packet). test x ≡ true) here.0 h) fails
+      go true h (inl here) ih = true_false (test e) (subst (λ (x : NumberedEvent Packet). test x ≡ true) here.0 h) fails
       go true h (inr later) ih = inr (record { first = v; rest = vs; is = from_hit test v vs h; number = later.0; moment = later.1 })
       go false h (inl here) ih = inl (rw (before_miss test v vs h) (inl (here.0, past_before test vs here.1)))
       go false h (inr later) ih = by_rest h (later.0, later.1) (ih later.2)
 
   -- the first event of a list in which it stands ahead has no greater number
-  first_number : (v : Event Packet) (vs : List (Event Packet)) → Ahead (v ∷ vs) → v.number ≤ e.number
-  first_number v vs (inl here) = subst (λ (x : Event Packet). v.number ≤ x.number) here.0 (omega arith)
+  first_number : (v : NumberedEvent Packet) (vs : List (NumberedEvent Packet)) → Ahead (v ∷ vs) → v.number ≤ e.number
+  first_number v vs (inl here) = subst (λ (x : NumberedEvent Packet). v.number ≤ x.number) here.0 (omega arith)
   first_number v vs (inr later) = omega (arith, later.0)
 
 -- 2. What is heard.
 
-module _ {PublicState Packet Message State Exchange Answer Lease : Type 0} (p : Protocol PublicState Packet Message State Exchange Answer Lease) (e : Event Packet) (packet : Packet) (brings : e.input ≡ Arrival packet) where
-  stands_from : (test : Event Packet → Bool) (events : List (Event Packet)) → Stands e packet brings events → Stands e packet brings (from test events)
+module _ {PublicState Packet Message State Exchange Answer Lease : Type 0} (p : Protocol PublicState Packet Message State Exchange Answer Lease) (e : NumberedEvent Packet) (packet : Packet) (brings : e.input ≡ Arrival packet) where
+  stands_from : (test : NumberedEvent Packet → Bool) (events : List (NumberedEvent Packet)) → Stands e packet brings events → Stands e packet brings (from test events)
   stands_from = from_holds (Stands e packet brings) (stands_tail e packet brings) (stands_called e packet brings)
 
   -- with these words the packet is read as no answer
@@ -167,12 +167,12 @@ module _ {PublicState Packet Message State Exchange Answer Lease : Type 0} (p : 
   record Early (heard : Heard Packet Message Answer) : Type 0 where
     answer : Answer
     is : heard.answer ≡ Some answer
-    first : Event Packet
-    later : List (Event Packet)
+    first : NumberedEvent Packet
+    later : List (NumberedEvent Packet)
     rest : heard.rest ≡ first ∷ later
     by : first.number ≤ e.number
 
-  hears : (setting : Setting State) (exchange : Exchange) (words : List ℕ) (events : List (Event Packet)) → Ahead e packet brings events → Unread setting.state exchange ⊎ Early (hear p setting exchange true words events)
+  hears : (setting : Setting State) (exchange : Exchange) (words : List ℕ) (events : List (NumberedEvent Packet)) → Ahead e packet brings events → Unread setting.state exchange ⊎ Early (hear p setting exchange true words events)
   hears setting exchange words [] ahead = absurd ahead
   hears setting exchange words (v ∷ vs) ahead = go read.value refl ahead (λ h. hears setting exchange read.left vs h)
     where
@@ -182,7 +182,7 @@ module _ {PublicState Packet Message State Exchange Answer Lease : Type 0} (p : 
       go : (answer : Option Answer) → read.value ≡ answer → Ahead e packet brings (v ∷ vs) → (Ahead e packet brings vs → Unread setting.state exchange ⊎ Early (hear p setting exchange true read.left vs)) →
           Unread setting.state exchange ⊎ Early (hear p setting exchange true words (v ∷ vs))
       go (Some answer) is ahead' ih = inr (record { answer = answer; is = rw is refl; first = v; later = vs; rest = rw is refl; by = first_number e packet brings v vs ahead' })
-      go None is (inl here) ih = inl (words, subst (λ (input : Input Packet). (reading_of p setting.state exchange words input).value ≡ None) (ap (λ (x : Event Packet). x.input) here.0 ∙ brings) is)
+      go None is (inl here) ih = inl (words, subst (λ (input : Input Packet). (reading_of p setting.state exchange words input).value ≡ None) (ap (λ (x : NumberedEvent Packet). x.input) here.0 ∙ brings) is)
       go None is (inr later) ih = by_rest (ih later.2)
         where
           by_rest : Unread setting.state exchange ⊎ Early (hear p setting exchange true read.left vs) → Unread setting.state exchange ⊎ Early (hear p setting exchange true words (v ∷ vs))
@@ -190,12 +190,12 @@ module _ {PublicState Packet Message State Exchange Answer Lease : Type 0} (p : 
           by_rest (inr early) = inr (record { answer = early.answer; is = rw is early.is; first = early.first; later = early.later; rest = rw is early.rest; by = early.by })
 
   -- the first of these events, if there is one, comes after it
-  abbrev FirstPast : List (Event Packet) → Type 0
+  abbrev FirstPast : List (NumberedEvent Packet) → Type 0
   FirstPast [] = Unit {0}
   FirstPast (v ∷ vs) = e.number < v.number
 
   -- the stay lasts beyond it, as its attempts end
-  abbrev EndsPast : Outcome Answer → List (Event Packet) → Type 0
+  abbrev EndsPast : Outcome Answer → List (NumberedEvent Packet) → Type 0
   EndsPast Unanswered events = Unit {0}
   EndsPast (AnsweredBy answer) events = FirstPast events
   EndsPast RanOut events = FirstPast events
@@ -205,7 +205,7 @@ module _ {PublicState Packet Message State Exchange Answer Lease : Type 0} (p : 
   Later attempts = AllByRecursion (λ (attempt : Attempt Message). e.number < attempt.event) attempts
 
   -- while the last attempt is open, its packet is read, if it comes before the next one is due
-  hears_last : (fuel : ℕ) (setting : Setting State) (progress : Progress Exchange) (events late : List (Event Packet)) (due : ℕ) → is_open progress.last ≡ true → progress.due ≡ Some due → e.moment < due → Ahead e packet brings events →
+  hears_last : (fuel : ℕ) (setting : Setting State) (progress : Progress Exchange) (events late : List (NumberedEvent Packet)) (due : ℕ) → is_open progress.last ≡ true → progress.due ≡ Some due → e.moment < due → Ahead e packet brings events →
       EndsPast (course p (suc fuel) setting progress events).finish.outcome ((course p (suc fuel) setting progress events).finish.rest ++ late) → Unread setting.state progress.exchange
   hears_last fuel setting progress events late due listens is_due in_time ahead past =
       by_heard (subst (λ (b : Bool). Unread setting.state progress.exchange ⊎ Early (hear p setting progress.exchange b progress.words (before (is_at_or_past progress.due) events))) (sym listens)
@@ -229,19 +229,19 @@ module _ {PublicState Packet Message State Exchange Answer Lease : Type 0} (p : 
           too_late : FirstPast ((last.rest ++ from (is_at_or_past progress.due) events) ++ late) → e.number < found.first.number
           too_late h = rw found.rest at h
 
-  hears_next : (fuel : ℕ) (setting : Setting State) (progress : Progress Exchange) (events late : List (Event Packet)) (due : ℕ) → 0 < fuel → is_open progress.last ≡ true → progress.due ≡ Some due → e.moment < due → Ahead e packet brings events →
+  hears_next : (fuel : ℕ) (setting : Setting State) (progress : Progress Exchange) (events late : List (NumberedEvent Packet)) (due : ℕ) → 0 < fuel → is_open progress.last ≡ true → progress.due ≡ Some due → e.moment < due → Ahead e packet brings events →
       EndsPast (course p fuel setting progress events).finish.outcome ((course p fuel setting progress events).finish.rest ++ late) → Unread setting.state progress.exchange
   hears_next zero setting progress events late due enough = absurd (omega (arith, enough))
   hears_next (suc fuel) setting progress events late due enough = hears_last fuel setting progress events late due
 
   -- the attempts of a stay whose events come after it are made after it
-  attempts_later : (setting : Setting State) (fuel : ℕ) (progress : Progress Exchange) (events : List (Event Packet)) → Past e packet brings events → Later (attempts_of (course p fuel setting progress events).acts)
+  attempts_later : (setting : Setting State) (fuel : ℕ) (progress : Progress Exchange) (events : List (NumberedEvent Packet)) → Past e packet brings events → Later (attempts_of (course p fuel setting progress events).acts)
   attempts_later setting fuel progress events past =
       course_holds p setting (λ place' events'. Past e packet brings events') (λ place' attempts. Later attempts)
       (λ place'. tt)
       (λ place' words attempts h. h)
-      (λ place' words events' v vs fits is. subst (λ (xs : List (Event Packet)). Past e packet brings xs) is (past_from e packet brings (is_at_or_past place'.due) events' fits))
-      (λ place' events' v vs attempts fits is more words h. ((subst (λ (xs : List (Event Packet)). Past e packet brings xs) is (past_from e packet brings (is_at_or_past place'.due) events' fits)).0, h))
+      (λ place' words events' v vs fits is. subst (λ (xs : List (NumberedEvent Packet)). Past e packet brings xs) is (past_from e packet brings (is_at_or_past place'.due) events' fits))
+      (λ place' events' v vs attempts fits is more words h. ((subst (λ (xs : List (NumberedEvent Packet)). Past e packet brings xs) is (past_from e packet brings (is_at_or_past place'.due) events' fits)).0, h))
       fuel progress events past
 
   no_attempt : {A : Type 0} (xs : List (Attempt Message)) (x : Attempt Message) (ys : List (Attempt Message)) → [] ≡ xs ++ x ∷ ys → A
@@ -249,17 +249,17 @@ module _ {PublicState Packet Message State Exchange Answer Lease : Type 0} (p : 
   no_attempt (z ∷ xs) x ys h = absurd cc
 
   -- Of an attempt of these that is open at it: its packet is read as no answer.
-  abbrev Unanswering : Setting State → Course Packet Message Exchange Answer → List (Event Packet) → Type 0
+  abbrev Unanswering : Setting State → Course Packet Message Exchange Answer → List (NumberedEvent Packet) → Type 0
   Unanswering setting run late = (earlier later : List (Attempt Message)) (attempt : Attempt Message) →
       attempts_of run.acts ≡ earlier ++ attempt ∷ later → attempt.event ≤ e.number → attempt.refused ≡ false → e.moment < attempt.moment + attempt.wait →
       EndsPast run.finish.outcome (run.finish.rest ++ late) → IsNoAnswer p packet setting.state attempt
 
   module _ (lawful : Lawful p) (setting : Setting State) where
     -- no event of a window is past the end of the state
-    abbrev Within : List (Event Packet) → Type 0
-    Within events = AllByRecursion (λ (event : Event Packet). ends p setting event ≡ false) events
+    abbrev Within : List (NumberedEvent Packet) → Type 0
+    Within events = AllByRecursion (λ (event : NumberedEvent Packet). ends p setting event ≡ false) events
 
-    within_from : (test : Event Packet → Bool) (events : List (Event Packet)) → Within events → Within (from test events)
+    within_from : (test : NumberedEvent Packet → Bool) (events : List (NumberedEvent Packet)) → Within events → Within (from test events)
     within_from test [] all = tt
     within_from test (v ∷ vs) all = go (test v) refl (within_from test vs all.1)
       where
@@ -267,7 +267,7 @@ module _ {PublicState Packet Message State Exchange Answer Lease : Type 0} (p : 
         go true h ih = rw (from_hit test v vs h) all
         go false h ih = rw (from_miss test v vs h) ih
 
-    fewer : (test : Event Packet → Bool) (events : List (Event Packet)) → length (from test events) ≤ length events
+    fewer : (test : NumberedEvent Packet → Bool) (events : List (NumberedEvent Packet)) → length (from test events) ≤ length events
     fewer test [] = omega arith
     fewer test (v ∷ vs) = go (test v) refl (fewer test vs)
       where
@@ -276,7 +276,7 @@ module _ {PublicState Packet Message State Exchange Answer Lease : Type 0} (p : 
         go false h ih = rw (from_miss test v vs h) (omega (arith, ih))
 
     -- after an attempt at an event that event is not due again
-    fewer_due : (progress : Progress Exchange) (v : Event Packet) (vs : List (Event Packet)) → ends p setting v ≡ false →
+    fewer_due : (progress : Progress Exchange) (v : NumberedEvent Packet) (vs : List (NumberedEvent Packet)) → ends p setting v ≡ false →
         length (from (is_at_or_past (progress_after p setting progress v).due) (after_call v ∷ vs)) ≤ length vs
     fewer_due progress v vs lasts =
         let waits : 0 < (progress_wait) = lawful.wait_positive setting.state (exchange_after p progress) (record { is_first = is_none_yet progress.last; entered = setting.entered; now = v.moment }) progress.words lasts in
@@ -289,7 +289,7 @@ module _ {PublicState Packet Message State Exchange Answer Lease : Type 0} (p : 
         go true h waits = let le : v.moment + progress_wait ≤ v.moment = leb-true (v.moment + progress_wait) v.moment h in absurd (omega (arith, le, waits))
         go false h waits = rw (from_miss (is_at_or_past (progress_after p setting progress v).due) (after_call v) vs h) (fewer (is_at_or_past (progress_after p setting progress v).due) vs)
 
-    course_unanswering : (fuel : ℕ) (progress : Progress Exchange) (events late : List (Event Packet)) → length (from (is_at_or_past progress.due) events) < fuel → Within events → Ahead e packet brings events →
+    course_unanswering : (fuel : ℕ) (progress : Progress Exchange) (events late : List (NumberedEvent Packet)) → length (from (is_at_or_past progress.due) events) < fuel → Within events → Ahead e packet brings events →
         Unanswering setting (course p fuel setting progress events) late
     course_unanswering zero progress events late enough within ahead = absurd (omega (arith, enough))
     course_unanswering (suc fuel) progress events late enough within ahead =
@@ -304,8 +304,8 @@ module _ {PublicState Packet Message State Exchange Answer Lease : Type 0} (p : 
         quiet : attempts_of last.acts ≡ []
         quiet = none_heard p setting progress.exchange (is_open progress.last) progress.words (before (is_at_or_past progress.due) events)
 
-        by_end : (b : Bool) (v : Event Packet) (vs : List (Event Packet)) → from (is_at_or_past progress.due) events ≡ v ∷ vs →
-            ((next : Progress Exchange) (x : Event Packet) (xs : List (Event Packet)) → length (from (is_at_or_past next.due) (x ∷ xs)) < fuel → Within (x ∷ xs) → Ahead e packet brings (x ∷ xs) → Unanswering setting (course p fuel setting next (x ∷ xs)) late) →
+        by_end : (b : Bool) (v : NumberedEvent Packet) (vs : List (NumberedEvent Packet)) → from (is_at_or_past progress.due) events ≡ v ∷ vs →
+            ((next : Progress Exchange) (x : NumberedEvent Packet) (xs : List (NumberedEvent Packet)) → length (from (is_at_or_past next.due) (x ∷ xs)) < fuel → Within (x ∷ xs) → Ahead e packet brings (x ∷ xs) → Unanswering setting (course p fuel setting next (x ∷ xs)) late) →
             Unanswering setting (attempt_or_end p b (course p fuel setting) setting now last.acts v vs) late
         by_end true v vs is ih earlier later attempt split by taken awaited past =
             no_attempt earlier attempt later (sym (attempts-append last.acts (refused_release p setting progress.exchange v) ∙ rw (quiet, none_denied p setting progress.exchange v) refl) ∙ split)
@@ -327,15 +327,15 @@ module _ {PublicState Packet Message State Exchange Answer Lease : Type 0} (p : 
             ) refl
 
             there : Stands e packet brings (v ∷ vs)
-            there = subst (λ (xs : List (Event Packet)). Stands e packet brings xs) is (stands_from (is_at_or_past progress.due) events (inl ahead))
+            there = subst (λ (xs : List (NumberedEvent Packet)). Stands e packet brings xs) is (stands_from (is_at_or_past progress.due) events (inl ahead))
 
             inside : Within (v ∷ vs)
-            inside = subst (λ (xs : List (Event Packet)). Within xs) is (within_from (is_at_or_past progress.due) events within)
+            inside = subst (λ (xs : List (NumberedEvent Packet)). Within xs) is (within_from (is_at_or_past progress.due) events within)
 
             few : length (from (is_at_or_past next.due) (after_call v ∷ vs)) < fuel
             few =
                 let less : length (from (is_at_or_past next.due) (after_call v ∷ vs)) ≤ length vs = fewer_due now v vs inside.0 in
-                let was : length (v ∷ vs) < suc fuel = subst (λ (xs : List (Event Packet)). length xs < suc fuel) is enough in
+                let was : length (v ∷ vs) < suc fuel = subst (λ (xs : List (NumberedEvent Packet)). length xs < suc fuel) is enough in
                 omega (arith, less, was)
 
             first : attempt_at p setting now v ≡ attempt → Ahead e packet brings (v ∷ vs) → IsNoAnswer p packet setting.state attempt
@@ -371,8 +371,8 @@ module _ {PublicState Packet Message State Exchange Answer Lease : Type 0} (p : 
                 (subst Later (tail_of (attempt_at p setting now v) x (attempts_of run.acts) (xs ++ attempt ∷ later) h) (attempts_later setting fuel next (after_call v ∷ vs) gone)) in
                 absurd (omega (arith, more, by))
 
-        go : (answer : Option Answer) (xs : List (Event Packet)) → from (is_at_or_past progress.due) events ≡ xs →
-            ((next : Progress Exchange) (x : Event Packet) (xs : List (Event Packet)) → length (from (is_at_or_past next.due) (x ∷ xs)) < fuel → Within (x ∷ xs) → Ahead e packet brings (x ∷ xs) → Unanswering setting (course p fuel setting next (x ∷ xs)) late) →
+        go : (answer : Option Answer) (xs : List (NumberedEvent Packet)) → from (is_at_or_past progress.due) events ≡ xs →
+            ((next : Progress Exchange) (x : NumberedEvent Packet) (xs : List (NumberedEvent Packet)) → length (from (is_at_or_past next.due) (x ∷ xs)) < fuel → Within (x ∷ xs) → Ahead e packet brings (x ∷ xs) → Unanswering setting (course p fuel setting next (x ∷ xs)) late) →
             Unanswering setting (next_attempt p (course p fuel setting) setting now answer last xs) late
         go (Some answer) xs is ih earlier later attempt split by taken awaited past = no_attempt earlier attempt later (sym quiet ∙ split)
         go None [] is ih earlier later attempt split by taken awaited past = no_attempt earlier attempt later (sym quiet ∙ split)
@@ -381,14 +381,14 @@ module _ {PublicState Packet Message State Exchange Answer Lease : Type 0} (p : 
   -- 3. What is left of the events after a stay.
 
   -- the stay lasts beyond the event if it closes after it
-  ends_past : (setting : Setting State) (finish : Finish Packet Exchange Answer) (late : List (Event Packet)) → LastsPast e.number (transition p setting finish late).closing → EndsPast finish.outcome (finish.rest ++ late)
+  ends_past : (setting : Setting State) (finish : Finish Packet Exchange Answer) (late : List (NumberedEvent Packet)) → LastsPast e.number (transition p setting finish late).closing → EndsPast finish.outcome (finish.rest ++ late)
   ends_past setting finish late lasts = go finish.outcome lasts
     where
-      answered : (events : List (Event Packet)) → e.number < number_of events → FirstPast events
+      answered : (events : List (NumberedEvent Packet)) → e.number < number_of events → FirstPast events
       answered [] h = tt
       answered (v ∷ vs) h = h
 
-      ended : (events : List (Event Packet)) → LastsPast e.number (end_at p setting finish events).closing → FirstPast events
+      ended : (events : List (NumberedEvent Packet)) → LastsPast e.number (end_at p setting finish events).closing → FirstPast events
       ended [] h = tt
       ended (v ∷ vs) h = h
 
@@ -398,14 +398,14 @@ module _ {PublicState Packet Message State Exchange Answer Lease : Type 0} (p : 
       go RanOut h = ended (finish.rest ++ late) h
 
   -- what is left for the next stay
-  turn_stands : (setting : Setting State) (finish : Finish Packet Exchange Answer) (late : List (Event Packet)) → Stands e packet brings (finish.rest ++ late) → Stands e packet brings late →
+  turn_stands : (setting : Setting State) (finish : Finish Packet Exchange Answer) (late : List (NumberedEvent Packet)) → Stands e packet brings (finish.rest ++ late) → Stands e packet brings late →
       is_answered_at e.number (transition p setting finish late).closing ≡ false → Stands e packet brings (transition p setting finish late).events
   turn_stands setting finish late all there unanswered =
       turn_holds (Stands e packet brings) (stands_tail e packet brings) (stands_called e packet brings) p setting finish late (inr tt) all there (λ answer is stands. used (finish.rest ++ late) (other answer is) stands)
     where
-      used : (events : List (Event Packet)) → (number_of events == e.number) ≡ false → Stands e packet brings events → Stands e packet brings (after_packet events)
+      used : (events : List (NumberedEvent Packet)) → (number_of events == e.number) ≡ false → Stands e packet brings events → Stands e packet brings (after_packet events)
       used [] other stands = inr tt
-      used (v ∷ vs) other (inl (inl here)) = true_false (v.number == e.number) (subst (λ (x : Event Packet). (v.number == x.number) ≡ true) here.0 (own_number v.number)) other
+      used (v ∷ vs) other (inl (inl here)) = true_false (v.number == e.number) (subst (λ (x : NumberedEvent Packet). (v.number == x.number) ≡ true) here.0 (own_number v.number)) other
       used (v ∷ vs) other (inl (inr later)) = inl (inr later)
       used (v ∷ vs) other (inr past) = inr past
 
@@ -416,20 +416,20 @@ module _ {PublicState Packet Message State Exchange Answer Lease : Type 0} (p : 
           by_outcome h = h
 
   -- a stay that is cut, answered or ended at an event before it does not last beyond it
-  cut_before : {A : Type 0} (setting : Setting State) (finish : Finish Packet Exchange Answer) (v : Event Packet) (vs : List (Event Packet)) → cuts p setting v ≡ true → v.number < e.number → Stands e packet brings (finish.rest ++ v ∷ vs) →
+  cut_before : {A : Type 0} (setting : Setting State) (finish : Finish Packet Exchange Answer) (v : NumberedEvent Packet) (vs : List (NumberedEvent Packet)) → cuts p setting v ≡ true → v.number < e.number → Stands e packet brings (finish.rest ++ v ∷ vs) →
       LastsPast e.number (transition p setting finish (v ∷ vs)).closing → A
   cut_before {A = A} setting finish v vs is_cut before_it all lasts = go finish.outcome lasts
     where
-      no_first : (rest : List (Event Packet)) → Stands e packet brings (rest ++ v ∷ vs) → FirstPast (rest ++ v ∷ vs) → A
+      no_first : (rest : List (NumberedEvent Packet)) → Stands e packet brings (rest ++ v ∷ vs) → FirstPast (rest ++ v ∷ vs) → A
       no_first rest (inr past) h = absurd (omega (arith, (past_late e packet brings rest (v ∷ vs) past).0, before_it))
       no_first [] (inl ahead) h = absurd (omega (arith, h, before_it))
       no_first (w ∷ ws) (inl ahead) h = absurd (omega (arith, h, first_number e packet brings w (ws ++ v ∷ vs) ahead))
 
-      answered : (events : List (Event Packet)) → e.number < number_of events → FirstPast events
+      answered : (events : List (NumberedEvent Packet)) → e.number < number_of events → FirstPast events
       answered [] h = tt
       answered (w ∷ ws) h = h
 
-      ended : (events : List (Event Packet)) → LastsPast e.number (end_at p setting finish events).closing → FirstPast events
+      ended : (events : List (NumberedEvent Packet)) → LastsPast e.number (end_at p setting finish events).closing → FirstPast events
       ended [] h = tt
       ended (w ∷ ws) h = h
 
@@ -452,7 +452,7 @@ module _ {PublicState Packet Message State Exchange Answer Lease : Type 0} (p : 
       go Release is same = absurd cc
       go CleanUp is same = absurd cc
 
-  shorter : (test : Event Packet → Bool) (events : List (Event Packet)) → length (before test events) ≤ length events
+  shorter : (test : NumberedEvent Packet → Bool) (events : List (NumberedEvent Packet)) → length (before test events) ≤ length events
   shorter test [] = omega arith
   shorter test (v ∷ vs) = go (test v) refl (shorter test vs)
     where
@@ -461,7 +461,7 @@ module _ {PublicState Packet Message State Exchange Answer Lease : Type 0} (p : 
       go false h ih = rw (before_miss test v vs h) (omega (arith, ih))
 
   module _ (lawful : Lawful p) where
-    window_within : (setting : Setting State) (events : List (Event Packet)) → Within lawful setting (before (closes p setting) events)
+    window_within : (setting : Setting State) (events : List (NumberedEvent Packet)) → Within lawful setting (before (closes p setting) events)
     window_within setting [] = tt
     window_within setting (v ∷ vs) = go (closes p setting v) refl (window_within setting vs)
       where
@@ -477,11 +477,11 @@ module _ {PublicState Packet Message State Exchange Answer Lease : Type 0} (p : 
         go true h ih = rw (before_hit (closes p setting) v vs h) tt
         go false h ih = rw (before_miss (closes p setting) v vs h) (lasts h, ih)
 
-    module _ (setting : Setting State) (progress : Progress Exchange) (events : List (Event Packet)) where
-      abbrev window : List (Event Packet)
+    module _ (setting : Setting State) (progress : Progress Exchange) (events : List (NumberedEvent Packet)) where
+      abbrev window : List (NumberedEvent Packet)
       window = before (closes p setting) events
 
-      abbrev late : List (Event Packet)
+      abbrev late : List (NumberedEvent Packet)
       late = from (closes p setting) events
 
       abbrev run : Course Packet Message Exchange Answer
@@ -491,7 +491,7 @@ module _ {PublicState Packet Message State Exchange Answer Lease : Type 0} (p : 
       next = transition p setting run.finish late
 
       rest_stands : Stands e packet brings events → Stands e packet brings (run.finish.rest ++ late)
-      rest_stands stands = course_rest (Stands e packet brings) (stands_tail e packet brings) (stands_called e packet brings) p setting (suc (length events)) progress window late (subst (λ (xs : List (Event Packet)). Stands e packet brings xs) (sym (before-from (closes p setting) events)) stands)
+      rest_stands stands = course_rest (Stands e packet brings) (stands_tail e packet brings) (stands_called e packet brings) p setting (suc (length events)) progress window late (subst (λ (xs : List (NumberedEvent Packet)). Stands e packet brings xs) (sym (before-from (closes p setting) events)) stands)
 
       -- an attempt that is open at the event
       of_attempt : Stands e packet brings events → (earlier later : List (Attempt Message)) (attempt : Attempt Message) → attempts_of run.acts ≡ earlier ++ attempt ∷ later → attempt.event ≤ e.number → attempt.refused ≡ false →
@@ -507,8 +507,8 @@ module _ {PublicState Packet Message State Exchange Answer Lease : Type 0} (p : 
 
           closed : (found : After e packet brings (closes p setting) events) → (a b c : Bool) → cuts p setting found.first ≡ a → overruns p setting found.first ≡ b → ends p setting found.first ≡ c → closes p setting found.first ≡ true → IsNoAnswer p packet setting.state attempt
           closed found true b c f g h is = cut_before setting run.finish found.first found.rest f found.number
-              (subst (λ (xs : List (Event Packet)). Stands e packet brings (run.finish.rest ++ xs)) found.is (rest_stands (inl ahead)))
-              (subst (λ (xs : List (Event Packet)). LastsPast e.number (transition p setting run.finish xs).closing) found.is lasts)
+              (subst (λ (xs : List (NumberedEvent Packet)). Stands e packet brings (run.finish.rest ++ xs)) found.is (rest_stands (inl ahead)))
+              (subst (λ (xs : List (NumberedEvent Packet)). LastsPast e.number (transition p setting run.finish xs).closing) found.is lasts)
           closed found false true c f g h is = true_false (overruns p setting e) (come_later found.first.moment e.moment (limit_moment p setting.timeout_sec setting.entered setting.state) found.moment g) in_time
           closed found false false true f g h is = true_false (ends p setting e) (come_later found.first.moment e.moment (p.ending_moment setting.state) found.moment h) in_state
           closed found false false false f g h is = true_false (closes p setting found.first) is (rw (f, g, h) refl)
@@ -521,7 +521,7 @@ module _ {PublicState Packet Message State Exchange Answer Lease : Type 0} (p : 
           by_place (inr found) =
               closed found (cuts p setting found.first) (overruns p setting found.first) (ends p setting found.first) refl refl refl (from_passes (closes p setting) events found.first found.rest found.is)
 
-    stays_hear : (fuel timeout_sec : ℕ) (entry : Entry State Exchange) (events : List (Event Packet)) → Stands e packet brings events →
+    stays_hear : (fuel timeout_sec : ℕ) (entry : Entry State Exchange) (events : List (NumberedEvent Packet)) → Stands e packet brings events →
         AllByRecursion (λ (stay : Stay State Message). is_answered_at e.number stay.closing ≡ false) (stays p fuel timeout_sec entry events) →
         AllByRecursion (HearsNoAnswer p e packet) (stays p fuel timeout_sec entry events)
     stays_hear fuel timeout_sec entry [] stands unanswered = tt

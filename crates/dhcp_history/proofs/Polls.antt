@@ -6,7 +6,7 @@ use Rattle.dhcp_history.specs.declared.rules.AttemptStart.{AttemptStart}
 use Rattle.dhcp_history.specs.declared.rules.NewAttempt.{NewAttempt}
 use Rattle.dhcp_clock.specs.Words.{Drawn}
 use Rattle.dhcp_history.specs.Protocol.{Protocol, Lawful, NextState, has_come}
-use Rattle.dhcp_history.specs.Script.{Input, Event, Output, Changed, Handed, Refused, Failed, TimedOut}
+use Rattle.dhcp_history.specs.Script.{Input, NumberedEvent, NumberedReport, Changed, Handed, Refused, Failed, TimedOut}
 use Rattle.dhcp_history.specs.History.{before, from, is_at_or_past, ends, overruns, closes, cuts, LastAttempt, NoneYet, Open, Unsent, is_open, last_by, Progress, exchange_after, runs_out, Course, course, Entry, entry_of_next, Transition, transition, stays, after_packet, outputs, act_outputs, attempt_at, progress_after, closing_outputs, Setting, Finish, Unanswered, cut, limit_acts, Attempted, reading_of}
 use Rattle.dhcp_history.specs.Machine.{View, Phase, Unpolled, Pausing, Listening, Resting, Stopped, phase_by, PollEffect, is_listening, is_pausing, is_unpolled, is_stopped, is_wait_over, exchange_at, attempt_now, transmit, take_answer, receive, transmit_and_receive, handed_output, failed_output, replay_from}
 use Rattle.dhcp_history.proofs.Steps.{IsPlain, before_hit, before_miss, from_hit, from_miss, before-from, none_left, attempt_stands, attempts_run_out, nothing_stands, goes_on, is_answered}
@@ -33,16 +33,16 @@ module _ {PublicState Packet Message State Exchange Answer Lease : Type 0} (p : 
   entry_of view = record { state = view.state; exchange = view.exchange; words = view.words }
 
   -- what is still to be reported after a transition: its acts, the change, and the stays that follow
-  abbrev pub turned : ℕ → Setting State → Transition Packet Message State Exchange → List (Output PublicState Message)
+  abbrev pub turned : ℕ → Setting State → Transition Packet Message State Exchange → List (NumberedReport PublicState Message)
   turned fuel setting next =
       flat_map (act_outputs p) next.acts ++ (closing_outputs p next.closing ++ outputs p (stays p fuel setting.timeout_sec next.entry next.events))
 
   -- what is still to be reported where a stay runs so, and these are the events from its end on
-  abbrev pub reported : ℕ → Setting State → Course Packet Message Exchange Answer → List (Event Packet) → List (Output PublicState Message)
+  abbrev pub reported : ℕ → Setting State → Course Packet Message Exchange Answer → List (NumberedEvent Packet) → List (NumberedReport PublicState Message)
   reported fuel setting run late = flat_map (act_outputs p) run.acts ++ turned fuel setting (transition p setting run.finish late)
 
   -- what is still to be reported from a view in the midst of a stay
-  abbrev pub rest : ℕ → ℕ → View State Exchange → List (Event Packet) → List (Output PublicState Message)
+  abbrev pub rest : ℕ → ℕ → View State Exchange → List (NumberedEvent Packet) → List (NumberedReport PublicState Message)
   rest fuel steps view events =
       reported fuel (setting_of view) (course p steps (setting_of view) (progress_of view) (before (closes p (setting_of view)) events)) (from (closes p (setting_of view)) events)
 
@@ -50,20 +50,20 @@ module _ {PublicState Packet Message State Exchange Answer Lease : Type 0} (p : 
   finish_of view = record { outcome = Unanswered; rest = []; exchange = view.exchange; after_wait = exchange_after p (progress_of view); words = view.words }
 
   -- what is still to be reported from a view whose time limit is over
-  abbrev pub stopped_rest : ℕ → View State Exchange → List (Event Packet) → List (Output PublicState Message)
+  abbrev pub stopped_rest : ℕ → View State Exchange → List (NumberedEvent Packet) → List (NumberedReport PublicState Message)
   stopped_rest fuel view events =
       turned fuel (setting_of view) (record (cut p (setting_of view) (finish_of view) (from (cuts p (setting_of view)) events)) {
         acts = flat_map (limit_acts p (setting_of view) view.exchange) (before (cuts p (setting_of view)) events);
       })
 
-  abbrev pub changed : Event Packet → State → Output PublicState Message
+  abbrev pub changed : NumberedEvent Packet → State → NumberedReport PublicState Message
   changed event next = record { event = event.number; report = Changed (p.public_state next) }
 
-  abbrev pub timed_out : Event Packet → Output PublicState Message
+  abbrev pub timed_out : NumberedEvent Packet → NumberedReport PublicState Message
   timed_out event = record { event = event.number; report = Failed TimedOut }
 
   -- the change to the next state, and then what the stays report from there on
-  abbrev pub moved : ℕ → ℕ → Event Packet → NextState State Exchange → List ℕ → List (Event Packet) → List (Output PublicState Message)
+  abbrev pub moved : ℕ → ℕ → NumberedEvent Packet → NextState State Exchange → List ℕ → List (NumberedEvent Packet) → List (NumberedReport PublicState Message)
   moved fuel timeout_sec event next words events = changed event next.state ∷ outputs p (stays p fuel timeout_sec (entry_of_next next words) events)
 
   -- with no event left nothing is reported
@@ -73,7 +73,7 @@ module _ {PublicState Packet Message State Exchange Answer Lease : Type 0} (p : 
   pub broken_none : (fuel : ℕ) (view : View State Exchange) → stopped_rest fuel view [] ≡ []
   broken_none fuel view = refl
 
-  module _ (setting : Setting State) (v : Event Packet) (vs : List (Event Packet)) (plain : IsPlain p v) where
+  module _ (setting : Setting State) (v : NumberedEvent Packet) (vs : List (NumberedEvent Packet)) (plain : IsPlain p v) where
     pub closes_failed : overruns p setting v ≡ true → closes p setting v ≡ true
     closes_failed e = rw (plain.uncut setting, e)
 
@@ -81,7 +81,7 @@ module _ {PublicState Packet Message State Exchange Answer Lease : Type 0} (p : 
     closes_ended e = rw (plain.uncut setting, e)
 
   -- a stay whose time limit is over at this event reports so
-  pub rest_failed : (fuel steps : ℕ) (view : View State Exchange) (v : Event Packet) (vs : List (Event Packet)) → IsPlain p v → overruns p (setting_of view) v ≡ true →
+  pub rest_failed : (fuel steps : ℕ) (view : View State Exchange) (v : NumberedEvent Packet) (vs : List (NumberedEvent Packet)) → IsPlain p v → overruns p (setting_of view) v ≡ true →
       rest fuel steps view (v ∷ vs) ≡ timed_out v ∷ stopped_rest fuel view vs
   rest_failed fuel steps view v vs plain e =
       let setting : Setting State = setting_of view in
@@ -98,20 +98,20 @@ module _ {PublicState Packet Message State Exchange Answer Lease : Type 0} (p : 
       )
 
   -- a stay whose time limit is over reports so at each event that doesn't cut it
-  pub broken_on : (fuel : ℕ) (view : View State Exchange) (v : Event Packet) (vs : List (Event Packet)) → IsPlain p v → stopped_rest fuel view (v ∷ vs) ≡ timed_out v ∷ stopped_rest fuel view vs
+  pub broken_on : (fuel : ℕ) (view : View State Exchange) (v : NumberedEvent Packet) (vs : List (NumberedEvent Packet)) → IsPlain p v → stopped_rest fuel view (v ∷ vs) ≡ timed_out v ∷ stopped_rest fuel view vs
   broken_on fuel view v vs plain =
       let setting : Setting State = setting_of view in
       rw (before_miss (cuts p setting) v vs (plain.uncut setting), from_miss (cuts p setting) v vs (plain.uncut setting), plain.undenied setting view.exchange)
 
   -- a stay that ends at this event reports the change
-  pub rest_ended : (fuel steps : ℕ) (view : View State Exchange) (v : Event Packet) (vs : List (Event Packet)) → IsPlain p v → overruns p (setting_of view) v ≡ false → ends p (setting_of view) v ≡ true →
+  pub rest_ended : (fuel steps : ℕ) (view : View State Exchange) (v : NumberedEvent Packet) (vs : List (NumberedEvent Packet)) → IsPlain p v → overruns p (setting_of view) v ≡ false → ends p (setting_of view) v ≡ true →
       rest fuel steps view (v ∷ vs) ≡ moved fuel view.timeout_sec v (p.after_end view.state (exchange_after p (progress_of view))) view.words (v ∷ vs)
   rest_ended fuel steps view v vs plain f e =
       let setting : Setting State = setting_of view in
       let over : closes p setting v ≡ true = closes_ended setting v vs plain f ∙ e in
       rw (before_hit (closes p setting) v vs over, from_hit (closes p setting) v vs over, none_left p steps setting (progress_of view), plain.uncut setting, f, plain.undenied setting view.exchange, plain.same)
 
-  module _ (fuel steps : ℕ) (state : State) (exchange : Exchange) (timeout_sec entered : ℕ) (due : Option ℕ) (words : List ℕ) (v : Event Packet) (vs : List (Event Packet)) (plain : IsPlain p v) where
+  module _ (fuel steps : ℕ) (state : State) (exchange : Exchange) (timeout_sec entered : ℕ) (due : Option ℕ) (words : List ℕ) (v : NumberedEvent Packet) (vs : List (NumberedEvent Packet)) (plain : IsPlain p v) where
     abbrev view_in : Phase → View State Exchange
     view_in phase = record { state = state; exchange = exchange; timeout_sec = timeout_sec; entered = entered; phase = phase; deadline = due; words = words }
 
@@ -169,18 +169,18 @@ module _ {PublicState Packet Message State Exchange Answer Lease : Type 0} (p : 
     pub armed : (now : ℕ) → has_come now view.deadline ≡ true → p.has_attempts view.state ≡ true
 
   -- the polls of these events report what is still to be reported
-  pub record Follows (vs : List (Event Packet)) : Type 0 where
+  pub record Follows (vs : List (NumberedEvent Packet)) : Type 0 where
     pub begun : (fuel steps : ℕ) (view : View State Exchange) → IsBegun view → suc (length vs) ≤ steps → 8 * length vs ≤ fuel → rest fuel steps view vs ≡ replay_from p view vs
     pub broken : (fuel : ℕ) (view : View State Exchange) → is_stopped view.phase ≡ true → 8 * length vs ≤ fuel → stopped_rest fuel view vs ≡ replay_from p view vs
 
   -- what is to be reported after a poll: by the polls of the next events, or as the stays that are entered at this event
-  abbrev pub followed : ℕ → Event Packet → List (Event Packet) → Option State → PollEffect Packet Message State Exchange → List (Output PublicState Message)
+  abbrev pub followed : ℕ → NumberedEvent Packet → List (NumberedEvent Packet) → Option State → PollEffect Packet Message State Exchange → List (NumberedReport PublicState Message)
   followed fuel v vs None once = failed_output v.number once.failed ++ replay_from p once.view vs
   followed fuel v vs (Some next) once =
       changed v next ∷ outputs p (stays p fuel once.view.timeout_sec (entry_of once.view) (record v { input = once.left } ∷ vs))
 
   -- what is to be reported is what this poll reports, and what follows
-  abbrev pub Reports : ℕ → Event Packet → List (Event Packet) → List (Output PublicState Message) → PollEffect Packet Message State Exchange → Type 0
+  abbrev pub Reports : ℕ → NumberedEvent Packet → List (NumberedEvent Packet) → List (NumberedReport PublicState Message) → PollEffect Packet Message State Exchange → Type 0
   Reports fuel v vs all once = all ≡ handed_output v.number v.refuse once.handed ++ followed fuel v vs once.change once
 
   pub tried_due : (now : ℕ) (refuse : Bool) (input : Input Packet) (view : View State Exchange) → has_come now view.deadline ≡ true →
@@ -227,7 +227,7 @@ module _ {PublicState Packet Message State Exchange Answer Lease : Type 0} (p : 
             let soon : start.now < moment = leb-false moment start.now (rw e at lasts) in
             le-leb (start.now + (p.attempt state exchange start words).value.wait) later (omega (arith, lawful.wait_within state exchange start words moment tries e soon))
 
-    module _ (fuel steps : ℕ) (state : State) (timeout_sec entered : ℕ) (v : Event Packet) (vs : List (Event Packet)) (plain : IsPlain p v)
+    module _ (fuel steps : ℕ) (state : State) (timeout_sec entered : ℕ) (v : NumberedEvent Packet) (vs : List (NumberedEvent Packet)) (plain : IsPlain p v)
         (later : Follows vs) (enough : suc (length vs) ≤ suc steps) (enough_fuel : 8 * length vs ≤ fuel) where
       abbrev the_setting : Setting State
       the_setting = record { state = state; entered = entered; timeout_sec = timeout_sec }
@@ -285,10 +285,10 @@ module _ {PublicState Packet Message State Exchange Answer Lease : Type 0} (p : 
         handed_follows tries exchange first words =
             let attempt : Drawn (NewAttempt Exchange Message) = p.attempt state exchange (record { is_first = first; entered = entered; now = v.moment }) words in
             rw (taken_handed v.moment v.input (Some attempt.value.message) (view_at attempt.value.exchange (Some (v.moment + attempt.value.wait)) attempt.left (phase_by v.refuse)))
-            (ap (λ (more : List (Output PublicState Message)). record { event = v.number; report = if v.refuse then Refused attempt.value.message else Handed attempt.value.message } ∷ more)
+            (ap (λ (more : List (NumberedReport PublicState Message)). record { event = v.number; report = if v.refuse then Refused attempt.value.message else Handed attempt.value.message } ∷ more)
             (begins tries (Some attempt.value.message) exchange first words v.refuse))
 
-    module _ (fuel steps : ℕ) (state : State) (timeout_sec entered : ℕ) (v : Event Packet) (vs : List (Event Packet)) (plain : IsPlain p v)
+    module _ (fuel steps : ℕ) (state : State) (timeout_sec entered : ℕ) (v : NumberedEvent Packet) (vs : List (NumberedEvent Packet)) (plain : IsPlain p v)
         (later : Follows vs) (enough : suc (length vs) ≤ suc steps) (enough_fuel : 8 * length vs ≤ fuel)
         (exchange : Exchange) (due : Option ℕ) (words : List ℕ) where
       abbrev the_set : Setting State

@@ -4,7 +4,7 @@ use Rattle.std.specs.Prelude.{Option, Some, None}
 use Rattle.dhcp_clock.specs.declared.link.Packet.{Packet}
 use Rattle.dhcp_clock.specs.declared.link.Handed.{Handed}
 use Rattle.dhcp_history.specs.Protocol.{Protocol, Lawful, has_come}
-use Rattle.dhcp_history.specs.Script.{Input, Nothing, Arrival, Event, Output, Script}
+use Rattle.dhcp_history.specs.Script.{Input, Nothing, Arrival, NumberedEvent, NumberedReport, Script}
 use Rattle.dhcp_history.specs.History.{limit_moment, reading_of, history, outputs}
 use Rattle.dhcp_history.specs.Machine.{View, Phase, Unpolled, Pausing, Listening, Resting, Stopped, PollEffect, EventEffect, is_listening, is_unpolled, is_stopped, is_pausing, has_ended, exchange_at, attempt_now, begin_stay, transmit, take_answer, receive, poll, polls, after_poll, stop, end_state, replay_from, first_view}
 use Rattle.dhcp_history.specs.Run.{input_of}
@@ -17,9 +17,9 @@ use Rattle.dhcp_history.proofs.Running.{taken_with, taken_succeeds}
 use Rattle.dhcp_history.proofs.Calls.{replay_history}
 
 -- the first event of these is at this moment, with no input
-abbrev Good : ℕ → List (Event Packet) → Type 0
+abbrev Good : ℕ → List (NumberedEvent Packet) → Type 0
 Good moment events =
-    (refuse : Bool) × ((later : List (Event Packet)) × (events ≡ record { number = moment; moment = moment; refuse = refuse; input = Nothing } ∷ later))
+    (refuse : Bool) × ((later : List (NumberedEvent Packet)) × (events ≡ record { number = moment; moment = moment; refuse = refuse; input = Nothing } ∷ later))
 
 begun_deaf : (phase : Phase) → is_unpolled phase ≡ true → phase ≡ Unpolled
 begun_deaf Unpolled e = refl
@@ -37,7 +37,7 @@ module _ {PublicState State Exchange Answer Lease : Type 0} (p : Protocol Public
   -- it answers no change, and is one event
   record Rests (q : Polled) (once : PollEffect Packet Handed State Exchange) : Type 0 where
     change : once.change ≡ None
-    single : (events : List (Event Packet)) → sent_first once.handed q.packet q events ≡ events
+    single : (events : List (NumberedEvent Packet)) → sent_first once.handed q.packet q events ≡ events
 
   -- it hands nothing, so that it is the same over every link
   record Frees (q : Polled) (view : View State Exchange) (once : PollEffect Packet Handed State Exchange) : Type 0 where
@@ -228,28 +228,28 @@ module _ {PublicState State Exchange Answer Lease : Type 0} (p : Protocol Public
 
   -- 3. One poll, and the events that follow.
 
-  module _ (later : List (Event Packet)) where
-    abbrev then_later : EventEffect PublicState Handed State Exchange → List (Output PublicState Handed)
+  module _ (later : List (NumberedEvent Packet)) where
+    abbrev then_later : EventEffect PublicState Handed State Exchange → List (NumberedReport PublicState Handed)
     then_later effect = effect.outputs ++ replay_from p effect.view later
 
     -- an event whose input is a packet or none begins with its polls
     opens_with : (now : ℕ) (refuse : Bool) (packet : Option Packet) (view : View State Exchange) →
-        let event : Event Packet = record { number = now; moment = now; refuse = refuse; input = input_of packet } in
+        let event : NumberedEvent Packet = record { number = now; moment = now; refuse = refuse; input = input_of packet } in
         replay_from p view (event ∷ later) ≡ then_later (polls p 7 event view)
     opens_with now refuse None view = refl
     opens_with now refuse (Some packet) view = refl
 
     -- the first of them, after which as many may follow
-    first_poll : (event : Event Packet) (view : View State Exchange) →
+    first_poll : (event : NumberedEvent Packet) (view : View State Exchange) →
         let once = poll p event.moment event.refuse event.input view in
         polls p 7 event view ≡ after_poll p (polls p 7) event once.change once
     first_poll event view = sym (seven_are_enough p lawful 7 8 refl (omega arith) event view)
 
     one : (now : ℕ) (refuse : Bool) (packet : Option Packet) (view : View State Exchange) (once : PollEffect Packet Handed State Exchange) → poll p now refuse (input_of packet) view ≡ once →
-        let event : Event Packet = record { number = now; moment = now; refuse = refuse; input = input_of packet } in
+        let event : NumberedEvent Packet = record { number = now; moment = now; refuse = refuse; input = input_of packet } in
         replay_from p view (event ∷ later) ≡ then_later (after_poll p (polls p 7) event once.change once)
     one now refuse packet view once is =
-        let event : Event Packet = record { number = now; moment = now; refuse = refuse; input = input_of packet } in
+        let event : NumberedEvent Packet = record { number = now; moment = now; refuse = refuse; input = input_of packet } in
         opens_with now refuse packet view
         ∙ (ap then_later (first_poll event view)
         ∙ ap (λ (o : PollEffect Packet Handed State Exchange). then_later (after_poll p (polls p 7) event o.change o)) is)
@@ -261,7 +261,7 @@ module _ {PublicState State Exchange Answer Lease : Type 0} (p : Protocol Public
     event_rests now refuse packet view once is same = one now refuse packet view once is ∙ rw same
 
   -- it answers a change: the event goes on
-  event_goes_on : (now : ℕ) (refuse refuse' : Bool) (packet : Option Packet) (view : View State Exchange) (once : PollEffect Packet Handed State Exchange) (next : State) (later : List (Event Packet)) →
+  event_goes_on : (now : ℕ) (refuse refuse' : Bool) (packet : Option Packet) (view : View State Exchange) (once : PollEffect Packet Handed State Exchange) (next : State) (later : List (NumberedEvent Packet)) →
       poll p now refuse' (input_of packet) view ≡ once → once.change ≡ Some next → once.handed ≡ None → once.left ≡ Nothing →
       replay_from p view (record { number = now; moment = now; refuse = refuse'; input = input_of packet } ∷ later) ≡
       once_outputs p now refuse once.change once ++ replay_from p once.view (record { number = now; moment = now; refuse = refuse'; input = Nothing } ∷ later)
@@ -269,7 +269,7 @@ module _ {PublicState State Exchange Answer Lease : Type 0} (p : Protocol Public
       one later now refuse' packet view once is ∙ rw (changes, handed, left)
 
   -- what follows a poll, where no message comes before it
-  goes_on : (now : ℕ) (refuse : Bool) (packet : Option Packet) (view : View State Exchange) (once : PollEffect Packet Handed State Exchange) (later : List (Event Packet)) →
+  goes_on : (now : ℕ) (refuse : Bool) (packet : Option Packet) (view : View State Exchange) (once : PollEffect Packet Handed State Exchange) (later : List (NumberedEvent Packet)) →
       ((r : Bool) → poll p now r (input_of packet) view ≡ once) → once.handed ≡ None → once.left ≡ Nothing →
       ((next : State) → once.change ≡ Some next → Good now later) → (change : Option State) → once.change ≡ change →
       replay_from p view (joined change (record { moment = now; refuse = refuse; packet = packet }) later) ≡ once_outputs p now refuse once.change once ++ replay_from p once.view later
@@ -279,7 +279,7 @@ module _ {PublicState State Exchange Answer Lease : Type 0} (p : Protocol Public
       rw (more.1.1) (event_goes_on now refuse more.0 packet view once next more.1.0 (is more.0) e handed left)
 
   -- a poll, and what follows it
-  poll_replayed : (q : Polled) (view : View State Exchange) (later : List (Event Packet)) →
+  poll_replayed : (q : Polled) (view : View State Exchange) (later : List (NumberedEvent Packet)) →
       let once = once_of p q view in
       ((next : State) → once.change ≡ Some next → Good q.moment later) →
       Rests q once ⊎ (Frees q view once ⊎ Splits q view once) →
@@ -295,7 +295,7 @@ module _ {PublicState State Exchange Answer Lease : Type 0} (p : Protocol Public
   poll_replayed q view later good (inr (inr splits)) =
       let once : PollEffect Packet Handed State Exchange = once_of p q view in
       let rest : PollEffect Packet Handed State Exchange = record once { handed = None } in
-      let events : List (Event Packet) = joined once.change q later in
+      let events : List (NumberedEvent Packet) = joined once.change q later in
       let two : sent_first once.handed q.packet q events ≡ event_with q Nothing ∷ events =
       ap (λ (handed : Option Handed). sent_first handed q.packet q events) splits.handed ∙ ap (λ (packet : Option Packet). sent_first (Some splits.message) packet q events) splits.given in
       let of_packet : events ≡ joined once.change (record q { packet = Some splits.packet }) later = ap (λ (packet : Option Packet). joined once.change (record q { packet = packet }) later) splits.given in
@@ -303,10 +303,10 @@ module _ {PublicState State Exchange Answer Lease : Type 0} (p : Protocol Public
       ap (replay_from p splits.mid) of_packet ∙ goes_on q.moment q.refuse (Some splits.packet) splits.mid rest later splits.after refl splits.left good once.change refl in
       ap (replay_from p view) two
       ∙ (event_rests events q.moment q.refuse None view _ splits.before refl
-      ∙ (ap (λ (outs : List (Output PublicState Handed)). once_outputs p q.moment q.refuse None (record rest { handed = Some splits.message; change = None; failed = false }) ++ outs) more
+      ∙ (ap (λ (outs : List (NumberedReport PublicState Handed)). once_outputs p q.moment q.refuse None (record rest { handed = Some splits.message; change = None; failed = false }) ++ outs) more
       ∙ whole q once later splits.message splits.handed splits.succeeds once.change))
     where
-      whole : (q : Polled) (once : PollEffect Packet Handed State Exchange) (later : List (Event Packet)) (message : Handed) → once.handed ≡ Some message → once.failed ≡ false → (change : Option State) →
+      whole : (q : Polled) (once : PollEffect Packet Handed State Exchange) (later : List (NumberedEvent Packet)) (message : Handed) → once.handed ≡ Some message → once.failed ≡ false → (change : Option State) →
           once_outputs p q.moment q.refuse None (record once { handed = Some message; change = None; failed = false }) ++
           (once_outputs p q.moment q.refuse change (record once { handed = None }) ++ replay_from p once.view later) ≡
           once_outputs p q.moment q.refuse change once ++ replay_from p once.view later
@@ -326,7 +326,7 @@ module _ {PublicState State Exchange Answer Lease : Type 0} (p : Protocol Public
       once : PollEffect Packet Handed State Exchange
       once = once_of p q view
 
-      later : List (Event Packet)
+      later : List (NumberedEvent Packet)
       later = events_of p once.view qs
 
       no_packet : once.handed ≡ None → (packet : Option Packet) → q.packet ≡ packet → packet ≡ None
@@ -338,17 +338,17 @@ module _ {PublicState State Exchange Answer Lease : Type 0} (p : Protocol Public
       alone again none None e = (q.refuse, (later, ap (λ (packet : Option Packet). event_with q (input_of packet) ∷ later) none))
       alone again none (Some next) e =
           let more = again next e in
-          (more.0, (more.1.0, ap (λ (packet : Option Packet). with_input (input_of packet) later) none ∙ ap (λ (events : List (Event Packet)). with_input Nothing events) more.1.1))
+          (more.0, (more.1.0, ap (λ (packet : Option Packet). with_input (input_of packet) later) none ∙ ap (λ (events : List (NumberedEvent Packet)). with_input Nothing events) more.1.1))
 
       single_alone : (handed : Option Handed) (packet : Option Packet) → once.handed ≡ handed → q.packet ≡ packet →
-          ((events : List (Event Packet)) → sent_first handed packet q events ≡ events) → q.packet ≡ None
+          ((events : List (NumberedEvent Packet)) → sent_first handed packet q events ≡ events) → q.packet ≡ None
       single_alone None packet h e single = e ∙ no_packet h packet e
       single_alone (Some message) None h e single = e
       single_alone (Some message) (Some packet) h e single = absurd (cc (single []))
 
       go : ((next : State) → once.change ≡ Some next → Good q.moment later) → Rests q once ⊎ (Frees q view once ⊎ Splits q view once) → Good q.moment (sent_first once.handed q.packet q (joined once.change q later))
       go again (inl rests) =
-          subst (λ (events : List (Event Packet)). Good q.moment events) (sym (rests.single (joined once.change q later)))
+          subst (λ (events : List (NumberedEvent Packet)). Good q.moment events) (sym (rests.single (joined once.change q later)))
           (alone again (single_alone once.handed q.packet refl refl rests.single) once.change refl)
       go again (inr (inl frees)) =
           subst (λ (handed : Option Handed). Good q.moment (sent_first handed q.packet q (joined once.change q later))) (sym frees.handed)
@@ -370,11 +370,11 @@ module _ {PublicState State Exchange Answer Lease : Type 0} (p : Protocol Public
       poll_replayed q view (events_of p once.view qs)
       (λ next e. good_events q.moment once.view qs (polled_anew q view next e) steady.1.1 (subst (λ (change : Option State). FollowedUp change q.moment qs) e steady.1.0))
       (kind_of q view steady.0)
-      ∙ ap (λ (more : List (Output PublicState Handed)). once_outputs p q.moment q.refuse once.change once ++ more) (run_replayed once.view qs steady.1.1)
+      ∙ ap (λ (more : List (NumberedReport PublicState Handed)). once_outputs p q.moment q.refuse once.change once ++ more) (run_replayed once.view qs steady.1.1)
 
   -- and what its history reports
   pub run_history : (script : Script Packet State Exchange) (qs : List Polled) → Steady p (first_view script) qs → script.events ≡ events_of p (first_view script) qs →
       (run_from p (first_view script) qs).outputs ≡ outputs p (history p script)
   run_history script qs steady is =
       sym (run_replayed (first_view script) qs steady)
-      ∙ (ap (λ (events : List (Event Packet)). replay_from p (first_view script) events) (sym is) ∙ replay_history p lawful script)
+      ∙ (ap (λ (events : List (NumberedEvent Packet)). replay_from p (first_view script) events) (sym is) ∙ replay_history p lawful script)

@@ -3,7 +3,7 @@ use Rattle.std.proofs.Common.{subst, ◌≡◌, ℕ, suc, zero, ◌+◌, ◌*◌
 use Rattle.std.specs.Prelude.{Option, Some, None, ◌&&◌, ◌||◌}
 use Rattle.std.specs.List.{AllByRecursion}
 use Rattle.dhcp_history.specs.Protocol.{Protocol, Lawful, has_come}
-use Rattle.dhcp_history.specs.Script.{Input, Nothing, Arrival, Release, CleanUp, Event, Script}
+use Rattle.dhcp_history.specs.Script.{Input, Nothing, Arrival, Release, CleanUp, NumberedEvent, Script}
 use Rattle.dhcp_history.specs.History.{before, from, is_at_or_past, cuts, overruns, ends, closes, after_packet, is_open, Progress, runs_out, Heard, hear, reading_of, reading_if, Course, course, next_attempt, attempt_or_end, progress_after, Finish, Outcome, Unanswered, AnsweredBy, RanOut, Act, Lasts, Setting, Stay, Entry, Transition, transition, transition_by, close, cut, setting_at, entry_progress, entry_pause, stays, history}
 use Rattle.dhcp_history.specs.Script.{after_call, input_after_call}
 use Rattle.dhcp_history.specs.Bounds.{CloseInTurn}
@@ -12,7 +12,7 @@ use Rattle.dhcp_history.proofs.Follows.{has_packet}
 
 module _ {Packet : Type 0} where
   -- the event and those after it are among these events: they are fewer, or the event is the first one, or what is left of it after its call
-  abbrev pub Within : Event Packet → List (Event Packet) → List (Event Packet) → Type 0
+  abbrev pub Within : NumberedEvent Packet → List (NumberedEvent Packet) → List (NumberedEvent Packet) → Type 0
   Within v vs [] = ⊥
   Within v vs (first ∷ later) = (suc (length vs) ≤ length later) ⊎ (record { same : length vs ≡ length later; is_first : (v ≡ first) ⊎ (v ≡ after_call first) })
 
@@ -22,38 +22,38 @@ module _ {Packet : Type 0} where
   called_twice Release = refl
   called_twice CleanUp = refl
 
-  within_length : (v : Event Packet) (vs ws : List (Event Packet)) → Within v vs ws → suc (length vs) ≤ length ws
+  within_length : (v : NumberedEvent Packet) (vs ws : List (NumberedEvent Packet)) → Within v vs ws → suc (length vs) ≤ length ws
   within_length v vs [] w = absurd w
   within_length v vs (first ∷ later) (inl w) = omega (arith, w)
   within_length v vs (first ∷ later) (inr w) = omega (arith, w.same)
 
-  within_called : (v : Event Packet) (vs ws : List (Event Packet)) → Within v vs ws → Within (after_call v) vs ws
+  within_called : (v : NumberedEvent Packet) (vs ws : List (NumberedEvent Packet)) → Within v vs ws → Within (after_call v) vs ws
   within_called v vs [] w = absurd w
   within_called v vs (first ∷ later) (inl w) = inl w
   within_called v vs (first ∷ later) (inr w) = inr (record { same = w.same; is_first = inr (go w.is_first) })
     where
       go : (v ≡ first) ⊎ (v ≡ after_call first) → after_call v ≡ after_call first
-      go (inl e) = ap (λ (x : Event Packet). after_call x) e
-      go (inr e) = ap (λ (x : Event Packet). after_call x) e ∙ ap (λ (input : Input Packet). record first { input = input }) (called_twice first.input)
+      go (inl e) = ap (λ (x : NumberedEvent Packet). after_call x) e
+      go (inr e) = ap (λ (x : NumberedEvent Packet). after_call x) e ∙ ap (λ (input : Input Packet). record first { input = input }) (called_twice first.input)
 
-  within_more : (v : Event Packet) (vs ws late : List (Event Packet)) → Within v vs ws → Within v (vs ++ late) (ws ++ late)
+  within_more : (v : NumberedEvent Packet) (vs ws late : List (NumberedEvent Packet)) → Within v vs ws → Within v (vs ++ late) (ws ++ late)
   within_more v vs [] late w = absurd w
   within_more v vs (first ∷ later) late (inl w) = inl (omega (arith, w, length-append vs late, length-append later late))
   within_more v vs (first ∷ later) late (inr w) = inr (record { same = omega (arith, w.same, length-append vs late, length-append later late); is_first = w.is_first })
 
-  within_later : (v : Event Packet) (vs ws late : List (Event Packet)) → Within v vs late → Within v vs (ws ++ late)
+  within_later : (v : NumberedEvent Packet) (vs ws late : List (NumberedEvent Packet)) → Within v vs late → Within v vs (ws ++ late)
   within_later v vs [] late w = w
   within_later v vs (first ∷ later) late w = inl (omega (arith, within_length v vs late w, length-append later late))
 
   -- among what is left of events that are among these events
-  within_within : (v x : Event Packet) (vs xs ws : List (Event Packet)) → Within v vs (after_call x ∷ xs) → Within x xs ws → Within v vs ws
+  within_within : (v x : NumberedEvent Packet) (vs xs ws : List (NumberedEvent Packet)) → Within v vs (after_call x ∷ xs) → Within x xs ws → Within v vs ws
   within_within v x vs xs [] w h = absurd h
   within_within v x vs xs (first ∷ later) (inl w) (inl h) = inl (omega (arith, w, h))
   within_within v x vs xs (first ∷ later) (inl w) (inr h) = inl (omega (arith, w, h.same))
   within_within v x vs xs (first ∷ later) (inr w) (inl h) = inl (omega (arith, w.same, h))
   within_within v x vs xs (first ∷ later) (inr w) (inr h) = inr (record { same = omega (arith, w.same, h.same); is_first = inr (left w.is_first ∙ right h.is_first) })
     where
-      twice : (y : Event Packet) → after_call (after_call y) ≡ after_call y
+      twice : (y : NumberedEvent Packet) → after_call (after_call y) ≡ after_call y
       twice y = ap (λ (input : Input Packet). record y { input = input }) (called_twice y.input)
 
       left : (v ≡ after_call x) ⊎ (v ≡ after_call (after_call x)) → v ≡ after_call x
@@ -61,10 +61,10 @@ module _ {Packet : Type 0} where
       left (inr e) = e ∙ twice x
 
       right : (x ≡ first) ⊎ (x ≡ after_call first) → after_call x ≡ after_call first
-      right (inl e) = ap (λ (y : Event Packet). after_call y) e
-      right (inr e) = ap (λ (y : Event Packet). after_call y) e ∙ twice first
+      right (inl e) = ap (λ (y : NumberedEvent Packet). after_call y) e
+      right (inr e) = ap (λ (y : NumberedEvent Packet). after_call y) e ∙ twice first
 
-  within_from : (test : Event Packet → Bool) (ws : List (Event Packet)) (v : Event Packet) (vs : List (Event Packet)) → from test ws ≡ v ∷ vs → Within v vs ws
+  within_from : (test : NumberedEvent Packet → Bool) (ws : List (NumberedEvent Packet)) (v : NumberedEvent Packet) (vs : List (NumberedEvent Packet)) → from test ws ≡ v ∷ vs → Within v vs ws
   within_from test [] v vs e = absurd (cc e)
   within_from test (first ∷ later) v vs e = go (test first) refl (λ h. within_from test later v vs h)
     where
@@ -80,7 +80,7 @@ module _ {Packet : Type 0} where
           inr (record { same = tail_of first v later vs here; is_first = inl (head_of first v later vs here) })
       go false h ih = inl (within_length v vs later (ih (sym (from_miss test first later h) ∙ e)))
 
-  pub from_passes : (test : Event Packet → Bool) (ws : List (Event Packet)) (v : Event Packet) (vs : List (Event Packet)) → from test ws ≡ v ∷ vs → test v ≡ true
+  pub from_passes : (test : NumberedEvent Packet → Bool) (ws : List (NumberedEvent Packet)) (v : NumberedEvent Packet) (vs : List (NumberedEvent Packet)) → from test ws ≡ v ∷ vs → test v ≡ true
   from_passes test [] v vs e = absurd (cc e)
   from_passes test (first ∷ later) v vs e = go (test first) refl (λ h. from_passes test later v vs h)
     where
@@ -88,14 +88,14 @@ module _ {Packet : Type 0} where
       head_of a b xs ys h = cc
 
       go : (b : Bool) → test first ≡ b → (from test later ≡ v ∷ vs → test v ≡ true) → test v ≡ true
-      go true h ih = subst (λ (x : Event Packet). test x ≡ true) (head_of first v later vs (sym (from_hit test first later h) ∙ e)) h
+      go true h ih = subst (λ (x : NumberedEvent Packet). test x ≡ true) (head_of first v later vs (sym (from_hit test first later h) ∙ e)) h
       go false h ih = ih (sym (from_miss test first later h) ∙ e)
 
 module _ {PublicState Packet Message State Exchange Answer Lease : Type 0} (p : Protocol PublicState Packet Message State Exchange Answer Lease) where
   -- an answer, by the packet of an event among these
-  record Hearing (setting : Setting State) (exchange : Exchange) (answer : Answer) (ws rest : List (Event Packet)) : Type 0 where
-    event : Event Packet
-    later : List (Event Packet)
+  record Hearing (setting : Setting State) (exchange : Exchange) (answer : Answer) (ws rest : List (NumberedEvent Packet)) : Type 0 where
+    event : NumberedEvent Packet
+    later : List (NumberedEvent Packet)
     words : List ℕ
     rest_is : rest ≡ event ∷ later
     within : Within event later ws
@@ -104,7 +104,7 @@ module _ {PublicState Packet Message State Exchange Answer Lease : Type 0} (p : 
   some_inj : {A : Type 0} (a b : A) → Some a ≡ Some b → a ≡ b
   some_inj a b e = cc
 
-  hears : (setting : Setting State) (exchange : Exchange) (listens : Bool) (words : List ℕ) (answer : Answer) (ws : List (Event Packet)) →
+  hears : (setting : Setting State) (exchange : Exchange) (listens : Bool) (words : List ℕ) (answer : Answer) (ws : List (NumberedEvent Packet)) →
       (hear p setting exchange listens words ws).answer ≡ Some answer → Hearing setting exchange answer ws (hear p setting exchange listens words ws).rest
   hears setting exchange listens words answer [] e = absurd (cc e)
   hears setting exchange listens words answer (v ∷ vs) e =
@@ -127,12 +127,12 @@ module _ {PublicState Packet Message State Exchange Answer Lease : Type 0} (p : 
           record { event = heard.event; later = heard.later; words = heard.words; rest_is = rw r heard.rest_is; within = inl (within_length heard.event heard.later vs heard.within); reads = heard.reads }
 
   -- how the attempts of a stay end, over these events
-  data FinishFits (setting : Setting State) (ws : List (Event Packet)) (finish : Finish Packet Exchange Answer) : Type 0 where
+  data FinishFits (setting : Setting State) (ws : List (NumberedEvent Packet)) (finish : Finish Packet Exchange Answer) : Type 0 where
     NoMore : finish.outcome ≡ Unanswered → FinishFits setting ws finish
     Hears : (answer : Answer) → finish.outcome ≡ AnsweredBy answer → Hearing setting finish.exchange answer ws finish.rest → FinishFits setting ws finish
-    Over : (v : Event Packet) (vs : List (Event Packet)) → finish.outcome ≡ RanOut → finish.rest ≡ v ∷ vs → Within v vs ws → p.is_last_attempt setting.state finish.exchange ≡ true → FinishFits setting ws finish
+    Over : (v : NumberedEvent Packet) (vs : List (NumberedEvent Packet)) → finish.outcome ≡ RanOut → finish.rest ≡ v ∷ vs → Within v vs ws → p.is_last_attempt setting.state finish.exchange ≡ true → FinishFits setting ws finish
 
-  fits_within : (setting : Setting State) (x : Event Packet) (xs ws : List (Event Packet)) (finish : Finish Packet Exchange Answer) → FinishFits setting (after_call x ∷ xs) finish → Within x xs ws → FinishFits setting ws finish
+  fits_within : (setting : Setting State) (x : NumberedEvent Packet) (xs ws : List (NumberedEvent Packet)) (finish : Finish Packet Exchange Answer) → FinishFits setting (after_call x ∷ xs) finish → Within x xs ws → FinishFits setting ws finish
   fits_within setting x xs ws finish (NoMore e) h = NoMore e
   fits_within setting x xs ws finish (Hears answer e heard) h = Hears answer e (record {
     event = heard.event;
@@ -148,11 +148,11 @@ module _ {PublicState Packet Message State Exchange Answer Lease : Type 0} (p : 
   both true b e = e
   both false b e = absurd (cc e)
 
-  course_fits : (steps : ℕ) (setting : Setting State) (progress : Progress Exchange) (ws : List (Event Packet)) → FinishFits setting ws (course p steps setting progress ws).finish
+  course_fits : (steps : ℕ) (setting : Setting State) (progress : Progress Exchange) (ws : List (NumberedEvent Packet)) → FinishFits setting ws (course p steps setting progress ws).finish
   course_fits zero setting progress ws = NoMore refl
   course_fits (suc steps) setting progress ws = go last.answer refl (from due ws) refl (λ next vs. course_fits steps setting next vs)
     where
-      due : Event Packet → Bool
+      due : NumberedEvent Packet → Bool
       due = is_at_or_past progress.due
 
       last : Heard Packet Message Answer
@@ -161,14 +161,14 @@ module _ {PublicState Packet Message State Exchange Answer Lease : Type 0} (p : 
       now : Progress Exchange
       now = record progress { words = last.words }
 
-      by_end : (b : Bool) → runs_out p setting now ≡ b → (v : Event Packet) (vs : List (Event Packet)) → Within v vs ws →
-          ((next : Progress Exchange) (xs : List (Event Packet)) → FinishFits setting xs (course p steps setting next xs).finish) →
+      by_end : (b : Bool) → runs_out p setting now ≡ b → (v : NumberedEvent Packet) (vs : List (NumberedEvent Packet)) → Within v vs ws →
+          ((next : Progress Exchange) (xs : List (NumberedEvent Packet)) → FinishFits setting xs (course p steps setting next xs).finish) →
           FinishFits setting ws (attempt_or_end p b (course p steps setting) setting now last.acts v vs).finish
       by_end true r v vs w ih = Over (after_call v) vs refl refl (within_called v vs ws w) (both (is_open progress.last) (p.is_last_attempt setting.state progress.exchange) r)
       by_end false r v vs w ih = fits_within setting v vs ws (course p steps setting (progress_after p setting now v) (after_call v ∷ vs)).finish (ih (progress_after p setting now v) (after_call v ∷ vs)) w
 
-      go : (answer : Option Answer) → last.answer ≡ answer → (late : List (Event Packet)) → from due ws ≡ late →
-          ((next : Progress Exchange) (xs : List (Event Packet)) → FinishFits setting xs (course p steps setting next xs).finish) →
+      go : (answer : Option Answer) → last.answer ≡ answer → (late : List (NumberedEvent Packet)) → from due ws ≡ late →
+          ((next : Progress Exchange) (xs : List (NumberedEvent Packet)) → FinishFits setting xs (course p steps setting next xs).finish) →
           FinishFits setting ws (next_attempt p (course p steps setting) setting now answer last late).finish
       go (Some answer) e late l ih =
           let heard : Hearing setting progress.exchange answer (before due ws) last.rest = hears setting progress.exchange (is_open progress.last) progress.words answer (before due ws) e in
@@ -177,7 +177,7 @@ module _ {PublicState Packet Message State Exchange Answer Lease : Type 0} (p : 
             later = heard.later ++ late;
             words = heard.words;
             rest_is = rw heard.rest_is;
-            within = subst (λ (xs : List (Event Packet)). Within heard.event (heard.later ++ late) xs) (rw (← l) (before-from due ws))
+            within = subst (λ (xs : List (NumberedEvent Packet)). Within heard.event (heard.later ++ late) xs) (rw (← l) (before-from due ws))
                 (within_more heard.event heard.later (before due ws) late heard.within);
             reads = heard.reads;
           })
@@ -185,41 +185,41 @@ module _ {PublicState Packet Message State Exchange Answer Lease : Type 0} (p : 
       go None e (v ∷ vs) l ih = by_end (runs_out p setting now) refl v vs (within_from due ws v vs l) ih
 
   -- how a stay that was entered at the first of these events gives way to the next one
-  data Turning (setting : Setting State) (events : List (Event Packet)) (next : Transition Packet Message State Exchange) : Type 0 where
+  data Turning (setting : Setting State) (events : List (NumberedEvent Packet)) (next : Transition Packet Message State Exchange) : Type 0 where
     Remains : next.closing ≡ Lasts → next.events ≡ [] → Turning setting events next
-    IsCut : (v : Event Packet) (vs : List (Event Packet)) (exchange : Exchange) → (next.closing ≡ Lasts → ⊥) → next.entry.state ≡ (p.after_clean_up exchange).state → next.events ≡ after_call v ∷ vs →
+    IsCut : (v : NumberedEvent Packet) (vs : List (NumberedEvent Packet)) (exchange : Exchange) → (next.closing ≡ Lasts → ⊥) → next.entry.state ≡ (p.after_clean_up exchange).state → next.events ≡ after_call v ∷ vs →
         Within v vs events → cuts p setting v ≡ true → Turning setting events next
-    IsAnswered : (v : Event Packet) (vs : List (Event Packet)) (exchange : Exchange) (words : List ℕ) (answer : Answer) → (next.closing ≡ Lasts → ⊥) →
+    IsAnswered : (v : NumberedEvent Packet) (vs : List (NumberedEvent Packet)) (exchange : Exchange) (words : List ℕ) (answer : Answer) → (next.closing ≡ Lasts → ⊥) →
         next.entry.state ≡ (p.after_answer setting.state answer v.moment exchange).state → next.events ≡ after_packet (v ∷ vs) →
         Within v vs events → (reading_of p setting.state exchange words v.input).value ≡ Some answer → Turning setting events next
-    IsEnded : (v : Event Packet) (vs : List (Event Packet)) (exchange counts : Exchange) → (next.closing ≡ Lasts → ⊥) → next.entry.state ≡ (p.after_end setting.state counts).state → next.events ≡ after_call v ∷ vs →
+    IsEnded : (v : NumberedEvent Packet) (vs : List (NumberedEvent Packet)) (exchange counts : Exchange) → (next.closing ≡ Lasts → ⊥) → next.entry.state ≡ (p.after_end setting.state counts).state → next.events ≡ after_call v ∷ vs →
         Within v vs events → (has_come v.moment (p.ending_moment setting.state) || p.is_last_attempt setting.state exchange) ≡ true → Turning setting events next
 
   or_true : (b : Bool) → (b || true) ≡ true
   or_true true = refl
   or_true false = refl
 
-  within_itself : (v : Event Packet) (vs : List (Event Packet)) → Within v vs (v ∷ vs)
+  within_itself : (v : NumberedEvent Packet) (vs : List (NumberedEvent Packet)) → Within v vs (v ∷ vs)
   within_itself v vs = inr (record { same = refl; is_first = inl refl })
 
   -- a stay that is cut at the first of these events, if there is one
-  cut_turns : (setting : Setting State) (finish : Finish Packet Exchange Answer) (events late : List (Event Packet)) (acts : List (Act Message)) →
-      ((v : Event Packet) (vs : List (Event Packet)) → late ≡ v ∷ vs → Within v vs events) → ((v : Event Packet) (vs : List (Event Packet)) → late ≡ v ∷ vs → cuts p setting v ≡ true) →
+  cut_turns : (setting : Setting State) (finish : Finish Packet Exchange Answer) (events late : List (NumberedEvent Packet)) (acts : List (Act Message)) →
+      ((v : NumberedEvent Packet) (vs : List (NumberedEvent Packet)) → late ≡ v ∷ vs → Within v vs events) → ((v : NumberedEvent Packet) (vs : List (NumberedEvent Packet)) → late ≡ v ∷ vs → cuts p setting v ≡ true) →
       Turning setting events (record (cut p setting finish late) { acts = acts })
   cut_turns setting finish events [] acts within cuts = Remains refl refl
   cut_turns setting finish events (v ∷ vs) acts within cuts = IsCut v vs finish.exchange (λ h. cc h) refl refl (within v vs refl) (cuts v vs refl)
 
-  turns : (setting : Setting State) (finish : Finish Packet Exchange Answer) (ws late events : List (Event Packet)) → ws ++ late ≡ events → FinishFits setting ws finish →
-      ((v : Event Packet) (vs : List (Event Packet)) → late ≡ v ∷ vs → closes p setting v ≡ true) → Turning setting events (transition p setting finish late)
+  turns : (setting : Setting State) (finish : Finish Packet Exchange Answer) (ws late events : List (NumberedEvent Packet)) → ws ++ late ≡ events → FinishFits setting ws finish →
+      ((v : NumberedEvent Packet) (vs : List (NumberedEvent Packet)) → late ≡ v ∷ vs → closes p setting v ≡ true) → Turning setting events (transition p setting finish late)
   turns setting finish ws late events all fits head = go fits
     where
-      among : (v : Event Packet) (vs : List (Event Packet)) → Within v vs (ws ++ late) → Within v vs events
-      among v vs w = subst (λ (xs : List (Event Packet)). Within v vs xs) all w
+      among : (v : NumberedEvent Packet) (vs : List (NumberedEvent Packet)) → Within v vs (ws ++ late) → Within v vs events
+      among v vs w = subst (λ (xs : List (NumberedEvent Packet)). Within v vs xs) all w
 
-      comes : (v : Event Packet) → cuts p setting v ≡ false → overruns p setting v ≡ false → closes p setting v ≡ true → has_come v.moment (p.ending_moment setting.state) ≡ true
+      comes : (v : NumberedEvent Packet) → cuts p setting v ≡ false → overruns p setting v ≡ false → closes p setting v ≡ true → has_come v.moment (p.ending_moment setting.state) ≡ true
       comes v c f h = rw (c, f) at h
 
-      by_close : (v : Event Packet) (vs : List (Event Packet)) → late ≡ v ∷ vs → (cut' : Bool) → cuts p setting v ≡ cut' → (over : Bool) → overruns p setting v ≡ over → Turning setting events (close p cut' over setting finish v vs)
+      by_close : (v : NumberedEvent Packet) (vs : List (NumberedEvent Packet)) → late ≡ v ∷ vs → (cut' : Bool) → cuts p setting v ≡ cut' → (over : Bool) → overruns p setting v ≡ over → Turning setting events (close p cut' over setting finish v vs)
       by_close v vs l true c over f = IsCut v vs finish.exchange (λ h. cc h) refl refl (among v vs (rw l (within_later v vs ws (v ∷ vs) (within_itself v vs)))) c
       by_close v vs l false c true f =
           cut_turns setting finish events (from (cuts p setting) (v ∷ vs)) (close p false true setting finish v vs).acts
@@ -229,19 +229,19 @@ module _ {PublicState Packet Message State Exchange Answer Lease : Type 0} (p : 
           let over : has_come v.moment (p.ending_moment setting.state) ≡ true = comes v c f (head v vs l) in
           IsEnded v vs finish.exchange finish.after_wait (λ h. cc h) refl refl (among v vs (rw l (within_later v vs ws (v ∷ vs) (within_itself v vs)))) (rw over)
 
-      unanswered : (late' : List (Event Packet)) → late ≡ late' → Turning setting events (transition_by p Unanswered setting finish late')
+      unanswered : (late' : List (NumberedEvent Packet)) → late ≡ late' → Turning setting events (transition_by p Unanswered setting finish late')
       unanswered [] l = Remains refl refl
       unanswered (v ∷ vs) l = by_close v vs l (cuts p setting v) refl (overruns p setting v) refl
 
       answered : (answer : Answer) → Hearing setting finish.exchange answer ws finish.rest → Turning setting events (transition_by p (AnsweredBy answer) setting finish late)
       answered answer heard =
-          subst (λ (rest : List (Event Packet)). Turning setting events (transition_by p (AnsweredBy answer) setting (record finish { rest = rest }) late)) (sym heard.rest_is)
+          subst (λ (rest : List (NumberedEvent Packet)). Turning setting events (transition_by p (AnsweredBy answer) setting (record finish { rest = rest }) late)) (sym heard.rest_is)
           (IsAnswered heard.event (heard.later ++ late) finish.exchange heard.words answer (λ h. cc h) refl refl
           (among heard.event (heard.later ++ late) (within_more heard.event heard.later ws late heard.within)) heard.reads)
 
-      over : (v : Event Packet) (vs : List (Event Packet)) → finish.rest ≡ v ∷ vs → Within v vs ws → p.is_last_attempt setting.state finish.exchange ≡ true → Turning setting events (transition_by p RanOut setting finish late)
+      over : (v : NumberedEvent Packet) (vs : List (NumberedEvent Packet)) → finish.rest ≡ v ∷ vs → Within v vs ws → p.is_last_attempt setting.state finish.exchange ≡ true → Turning setting events (transition_by p RanOut setting finish late)
       over v vs r w l =
-          subst (λ (rest : List (Event Packet)). Turning setting events (transition_by p RanOut setting (record finish { rest = rest }) late)) (sym r)
+          subst (λ (rest : List (NumberedEvent Packet)). Turning setting events (transition_by p RanOut setting (record finish { rest = rest }) late)) (sym r)
           (IsEnded v (vs ++ late) finish.exchange finish.after_wait (λ h. cc h) refl refl (among v (vs ++ late) (within_more v vs ws late w)) (rw l (or_true (has_come v.moment (p.ending_moment setting.state)))))
 
       go : FinishFits setting ws finish → Turning setting events (transition p setting finish late)
@@ -250,18 +250,18 @@ module _ {PublicState Packet Message State Exchange Answer Lease : Type 0} (p : 
       go (Over v vs e r w l) = subst (λ (outcome : Outcome Answer). Turning setting events (transition_by p outcome setting finish late)) (sym e) (over v vs r w l)
 
   -- the transition of the stay that is entered at the first of these events
-  abbrev pub transition_of : ℕ → Entry State Exchange → Event Packet → List (Event Packet) → Transition Packet Message State Exchange
+  abbrev pub transition_of : ℕ → Entry State Exchange → NumberedEvent Packet → List (NumberedEvent Packet) → Transition Packet Message State Exchange
   transition_of timeout_sec entry first later =
       let setting = setting_at timeout_sec entry first.moment in
       let run = course p (suc (length (first ∷ later))) setting (entry_progress p setting entry first) (before (closes p setting) (first ∷ later)) in
       transition p setting run.finish (from (closes p setting) (first ∷ later))
 
-  stay_turns : (timeout_sec : ℕ) (entry : Entry State Exchange) (first : Event Packet) (later : List (Event Packet)) →
+  stay_turns : (timeout_sec : ℕ) (entry : Entry State Exchange) (first : NumberedEvent Packet) (later : List (NumberedEvent Packet)) →
       Turning (setting_at timeout_sec entry first.moment) (first ∷ later) (transition_of timeout_sec entry first later)
   stay_turns timeout_sec entry first later =
       let setting : Setting State = setting_at timeout_sec entry first.moment in
       let progress : Progress Exchange = entry_progress p setting entry first in
-      let window : List (Event Packet) = before (closes p setting) (first ∷ later) in
+      let window : List (NumberedEvent Packet) = before (closes p setting) (first ∷ later) in
       turns setting (course p (suc (length (first ∷ later))) setting progress window).finish window (from (closes p setting) (first ∷ later)) (first ∷ later)
       (before-from (closes p setting) (first ∷ later)) (course_fits (suc (length (first ∷ later))) setting progress window)
       (λ v vs e. from_passes (closes p setting) (first ∷ later) v vs e)
@@ -271,17 +271,17 @@ module _ {PublicState Packet Message State Exchange Answer Lease : Type 0} (p : 
       (by_cut : (exchange : Exchange) (now : ℕ) → Holds (p.after_clean_up exchange).state now)
       (by_answer : (state : State) (answer : Answer) (now : ℕ) (exchange : Exchange) → Holds (p.after_answer state answer now exchange).state now)
       (by_end : (state : State) (exchange counts : Exchange) (now : ℕ) → (has_come now (p.ending_moment state) || p.is_last_attempt state exchange) ≡ true → Holds (p.after_end state counts).state now) where
-    abbrev HoldsFirst : State → List (Event Packet) → Type 0
+    abbrev HoldsFirst : State → List (NumberedEvent Packet) → Type 0
     HoldsFirst state [] = Unit {0}
     HoldsFirst state (v ∷ vs) = Holds state v.moment
 
-    turn_holds : (setting : Setting State) (events : List (Event Packet)) (next : Transition Packet Message State Exchange) → Turning setting events next → HoldsFirst next.entry.state next.events
+    turn_holds : (setting : Setting State) (events : List (NumberedEvent Packet)) (next : Transition Packet Message State Exchange) → Turning setting events next → HoldsFirst next.entry.state next.events
     turn_holds setting events next (Remains l e) = rw e tt
     turn_holds setting events next (IsCut v vs exchange l s e w c) = rw (s, e) (by_cut exchange v.moment)
     turn_holds setting events next (IsAnswered v vs exchange words answer l s e w r) = rw (s, e) (by_answer setting.state answer v.moment exchange)
     turn_holds setting events next (IsEnded v vs exchange counts l s e w r) = rw (s, e) (by_end setting.state exchange counts v.moment r)
 
-    stays_hold : (fuel timeout_sec : ℕ) (entry : Entry State Exchange) (events : List (Event Packet)) → HoldsFirst entry.state events →
+    stays_hold : (fuel timeout_sec : ℕ) (entry : Entry State Exchange) (events : List (NumberedEvent Packet)) → HoldsFirst entry.state events →
         AllByRecursion (λ stay. Holds stay.setting.state stay.setting.entered) (stays p fuel timeout_sec entry events)
     stays_hold fuel timeout_sec entry [] h = tt
     stays_hold zero timeout_sec entry (v ∷ vs) h = tt
@@ -293,7 +293,7 @@ module _ {PublicState Packet Message State Exchange Answer Lease : Type 0} (p : 
     pub history_holds : (script : Script Packet State Exchange) → ((now : ℕ) → Holds script.state now) → AllByRecursion (λ stay. Holds stay.setting.state stay.setting.entered) (history p script)
     history_holds script h = stays_hold (8 * (length script.events + 1)) script.timeout_sec (record { state = script.state; exchange = script.exchange; words = script.words }) script.events (first script.events)
       where
-        first : (events : List (Event Packet)) → HoldsFirst script.state events
+        first : (events : List (NumberedEvent Packet)) → HoldsFirst script.state events
         first [] = tt
         first (v ∷ vs) = h v.moment
 
@@ -305,7 +305,7 @@ module _ {PublicState Packet Message State Exchange Answer Lease : Type 0} (p : 
     weight state Release = 7
     weight state CleanUp = 7
 
-    abbrev measure : State → List (Event Packet) → ℕ
+    abbrev measure : State → List (NumberedEvent Packet) → ℕ
     measure state [] = 0
     measure state (v ∷ vs) = 8 * length vs + weight state v.input
 
@@ -327,14 +327,14 @@ module _ {PublicState Packet Message State Exchange Answer Lease : Type 0} (p : 
     packet_called Release = refl
     packet_called CleanUp = refl
 
-    packet_first : (v first : Event Packet) → (v ≡ first) ⊎ (v ≡ after_call first) → has_packet v.input ≡ has_packet first.input
-    packet_first v first (inl e) = ap (λ (x : Event Packet). has_packet x.input) e
-    packet_first v first (inr e) = ap (λ (x : Event Packet). has_packet x.input) e ∙ packet_called first.input
+    packet_first : (v first : NumberedEvent Packet) → (v ≡ first) ⊎ (v ≡ after_call first) → has_packet v.input ≡ has_packet first.input
+    packet_first v first (inl e) = ap (λ (x : NumberedEvent Packet). has_packet x.input) e
+    packet_first v first (inr e) = ap (λ (x : NumberedEvent Packet). has_packet x.input) e ∙ packet_called first.input
 
     -- a state that is cut at the first event, which has a call then
-    cut_falls : (setting : Setting State) (v first : Event Packet) → (v ≡ first) ⊎ (v ≡ after_call first) → cuts p setting v ≡ true → weight setting.state first.input ≡ 7
-    cut_falls setting v first (inr e) c = absurd (cc (subst (λ (x : Event Packet). cuts p setting x ≡ true) e c, (called_plain p first).uncut setting))
-    cut_falls setting v first (inl e) c = go first.input refl (subst (λ (x : Event Packet). cuts p setting x ≡ true) e c)
+    cut_falls : (setting : Setting State) (v first : NumberedEvent Packet) → (v ≡ first) ⊎ (v ≡ after_call first) → cuts p setting v ≡ true → weight setting.state first.input ≡ 7
+    cut_falls setting v first (inr e) c = absurd (cc (subst (λ (x : NumberedEvent Packet). cuts p setting x ≡ true) e c, (called_plain p first).uncut setting))
+    cut_falls setting v first (inl e) c = go first.input refl (subst (λ (x : NumberedEvent Packet). cuts p setting x ≡ true) e c)
       where
         go : (input : Input Packet) → first.input ≡ input → cuts p setting (record first { input = input }) ≡ true → weight setting.state input ≡ 7
         go Nothing w h = absurd (cc h)
@@ -351,11 +351,11 @@ module _ {PublicState Packet Message State Exchange Answer Lease : Type 0} (p : 
     answer_falls state exchange words answer now (Arrival packet) r = (refl, lawful.rank_answered state exchange packet words answer now r)
 
     -- each transition leaves fewer stays to come
-    abbrev Falls : State → Event Packet → List (Event Packet) → Transition Packet Message State Exchange → Type 0
+    abbrev Falls : State → NumberedEvent Packet → List (NumberedEvent Packet) → Transition Packet Message State Exchange → Type 0
     Falls state first later next = (next.closing ≡ Lasts × next.events ≡ []) ⊎
         ((next.closing ≡ Lasts → ⊥) × (1 ≤ length next.events) × (measure next.entry.state next.events < measure state (first ∷ later)))
 
-    turn_falls : (setting : Setting State) (first : Event Packet) (later : List (Event Packet)) (next : Transition Packet Message State Exchange) → Turning setting (first ∷ later) next → Falls setting.state first later next
+    turn_falls : (setting : Setting State) (first : NumberedEvent Packet) (later : List (NumberedEvent Packet)) (next : Transition Packet Message State Exchange) → Turning setting (first ∷ later) next → Falls setting.state first later next
     turn_falls setting first later next (Remains l e) = inl (l, e)
     turn_falls setting first later next (IsCut v vs exchange l s e w c) = inr (l, rw e (omega arith), rw (s, e) (go w))
       where
@@ -397,12 +397,12 @@ module _ {PublicState Packet Message State Exchange Answer Lease : Type 0} (p : 
     closes_more stay [] some closes h = absurd (omega (arith, some))
     closes_more stay (next ∷ rest) some closes h = (closes, h)
 
-    stays_some : (fuel timeout_sec : ℕ) (entry : Entry State Exchange) (events : List (Event Packet)) → 1 ≤ fuel → 1 ≤ length events → 1 ≤ length (stays p fuel timeout_sec entry events)
+    stays_some : (fuel timeout_sec : ℕ) (entry : Entry State Exchange) (events : List (NumberedEvent Packet)) → 1 ≤ fuel → 1 ≤ length events → 1 ≤ length (stays p fuel timeout_sec entry events)
     stays_some fuel timeout_sec entry [] f e = absurd (omega (arith, e))
     stays_some zero timeout_sec entry (v ∷ vs) f e = absurd (omega (arith, f))
     stays_some (suc fuel) timeout_sec entry (v ∷ vs) f e = omega arith
 
-    stays_close : (fuel timeout_sec : ℕ) (entry : Entry State Exchange) (events : List (Event Packet)) → (1 ≤ length events → measure entry.state events < fuel) → CloseInTurn (stays p fuel timeout_sec entry events)
+    stays_close : (fuel timeout_sec : ℕ) (entry : Entry State Exchange) (events : List (NumberedEvent Packet)) → (1 ≤ length events → measure entry.state events < fuel) → CloseInTurn (stays p fuel timeout_sec entry events)
     stays_close fuel timeout_sec entry [] enough = tt
     stays_close zero timeout_sec entry (v ∷ vs) enough = absurd (omega (arith, enough (omega arith)))
     stays_close (suc fuel) timeout_sec entry (v ∷ vs) enough = go (turn_falls setting v vs next (stay_turns timeout_sec entry v vs)) (stays_close fuel timeout_sec next.entry next.events)
@@ -436,6 +436,6 @@ module _ {PublicState Packet Message State Exchange Answer Lease : Type 0} (p : 
     pub history_closes : (script : Script Packet State Exchange) → CloseInTurn (history p script)
     history_closes script = stays_close (8 * (length script.events + 1)) script.timeout_sec (record { state = script.state; exchange = script.exchange; words = script.words }) script.events (enough script.events)
       where
-        enough : (events : List (Event Packet)) → 1 ≤ length events → measure script.state events < 8 * (length events + 1)
+        enough : (events : List (NumberedEvent Packet)) → 1 ≤ length events → measure script.state events < 8 * (length events + 1)
         enough [] h = omega (arith, h)
         enough (v ∷ vs) h = omega (arith, weight_most script.state v.input)

@@ -2,30 +2,30 @@
 use Rattle.std.proofs.Common.{◌≡◌, ℕ, suc, zero, List, [], ◌∷◌, ◌++◌, refl, ap, Bool, true, false, append_assoc, append-nil}
 use Rattle.std.specs.Prelude.{Option, Some, None, is_some}
 use Rattle.dhcp_history.specs.Protocol.{Protocol}
-use Rattle.dhcp_history.specs.Script.{Input, Nothing, Arrival, Release, CleanUp, Event}
+use Rattle.dhcp_history.specs.Script.{Input, Nothing, Arrival, Release, CleanUp, NumberedEvent}
 use Rattle.dhcp_history.specs.History.{before, from, is_at_or_past, Heard, hear, LastAttempt, NoneYet, Open, Unsent, is_open, Progress, exchange_after, Course, course, with_acts, next_attempt, attempt_or_end, runs_out, attempt_at, progress_after, Setting, Act, Attempted, refused_release, refused_release_of, cuts, cuts_by, reading_of, reading_if, Unanswered, AnsweredBy, RanOut}
 use Rattle.dhcp_history.specs.Script.{after_call, input_after_call}
 
-pub before_hit : {Packet : Type 0} (test : Event Packet → Bool) (v : Event Packet) (vs : List (Event Packet)) → test v ≡ true → before test (v ∷ vs) ≡ []
+pub before_hit : {Packet : Type 0} (test : NumberedEvent Packet → Bool) (v : NumberedEvent Packet) (vs : List (NumberedEvent Packet)) → test v ≡ true → before test (v ∷ vs) ≡ []
 before_hit test v vs e = rw e
 
-pub before_miss : {Packet : Type 0} (test : Event Packet → Bool) (v : Event Packet) (vs : List (Event Packet)) → test v ≡ false → before test (v ∷ vs) ≡ v ∷ before test vs
+pub before_miss : {Packet : Type 0} (test : NumberedEvent Packet → Bool) (v : NumberedEvent Packet) (vs : List (NumberedEvent Packet)) → test v ≡ false → before test (v ∷ vs) ≡ v ∷ before test vs
 before_miss test v vs e = rw e
 
-pub from_hit : {Packet : Type 0} (test : Event Packet → Bool) (v : Event Packet) (vs : List (Event Packet)) → test v ≡ true → from test (v ∷ vs) ≡ v ∷ vs
+pub from_hit : {Packet : Type 0} (test : NumberedEvent Packet → Bool) (v : NumberedEvent Packet) (vs : List (NumberedEvent Packet)) → test v ≡ true → from test (v ∷ vs) ≡ v ∷ vs
 from_hit test v vs e = rw e
 
-pub from_miss : {Packet : Type 0} (test : Event Packet → Bool) (v : Event Packet) (vs : List (Event Packet)) → test v ≡ false → from test (v ∷ vs) ≡ from test vs
+pub from_miss : {Packet : Type 0} (test : NumberedEvent Packet → Bool) (v : NumberedEvent Packet) (vs : List (NumberedEvent Packet)) → test v ≡ false → from test (v ∷ vs) ≡ from test vs
 from_miss test v vs e = rw e
 
 -- what stands before the first hit and from it on is all
-pub before-from : {Packet : Type 0} (test : Event Packet → Bool) (vs : List (Event Packet)) → before test vs ++ from test vs ≡ vs
+pub before-from : {Packet : Type 0} (test : NumberedEvent Packet → Bool) (vs : List (NumberedEvent Packet)) → before test vs ++ from test vs ≡ vs
 before-from test [] = refl
 before-from test (v ∷ vs) = go (before-from test vs) (test v) refl
   where
     go : before test vs ++ from test vs ≡ vs → (b : Bool) → test v ≡ b → before test (v ∷ vs) ++ from test (v ∷ vs) ≡ v ∷ vs
     go ih true e = rw (before_hit test v vs e, from_hit test v vs e)
-    go ih false e = rw (before_miss test v vs e, from_miss test v vs e) (ap (λ (rest : List (Event _)). v ∷ rest) ih)
+    go ih false e = rw (before_miss test v vs e, from_miss test v vs e) (ap (λ (rest : List (NumberedEvent _)). v ∷ rest) ih)
 
 module _ {PublicState Packet Message State Exchange Answer Lease : Type 0} (p : Protocol PublicState Packet Message State Exchange Answer Lease) where
   -- with no event left, a stay has no more attempts and no answer
@@ -35,12 +35,12 @@ module _ {PublicState Packet Message State Exchange Answer Lease : Type 0} (p : 
   none_left (suc fuel) setting progress = refl
 
   -- an event with no call of its own: it cuts nothing, and no release is refused at it
-  pub record IsPlain (v : Event Packet) : Type 0 where
+  pub record IsPlain (v : NumberedEvent Packet) : Type 0 where
     pub same : after_call v ≡ v
     pub uncut : (setting : Setting State) → cuts p setting v ≡ false
     pub undenied : (setting : Setting State) (exchange : Exchange) → refused_release p setting exchange v ≡ []
 
-  pub called_plain : (v : Event Packet) → IsPlain (after_call v)
+  pub called_plain : (v : NumberedEvent Packet) → IsPlain (after_call v)
   called_plain v = record {
     same = same_by v.input;
     uncut = λ setting. uncut_by v.input (is_some (p.held_lease setting.state));
@@ -66,7 +66,7 @@ module _ {PublicState Packet Message State Exchange Answer Lease : Type 0} (p : 
       undenied_by exchange (Some lease) Release = refl
       undenied_by exchange (Some lease) CleanUp = refl
 
-  module _ (fuel : ℕ) (setting : Setting State) (due : Option ℕ) (exchange : Exchange) (words : List ℕ) (v : Event Packet) (vs : List (Event Packet)) (plain : IsPlain v) where
+  module _ (fuel : ℕ) (setting : Setting State) (due : Option ℕ) (exchange : Exchange) (words : List ℕ) (v : NumberedEvent Packet) (vs : List (NumberedEvent Packet)) (plain : IsPlain v) where
     abbrev progress_with : LastAttempt → Progress Exchange
     progress_with last = record { last = last; due = due; exchange = exchange; words = words }
 
@@ -101,7 +101,7 @@ module _ {PublicState Packet Message State Exchange Answer Lease : Type 0} (p : 
     is_answered answer e some = rw (course, before_miss (is_at_or_past due) v vs e, from_miss (is_at_or_past due) v vs e, some, plain.undenied setting exchange, before-from (is_at_or_past due) vs)
 
   -- acts that were heard first are acts of the course
-  next_attempt_deeds : (goes_on : Progress Exchange → List (Event Packet) → Course Packet Message Exchange Answer) (setting : Setting State) (progress : Progress Exchange) (acts : List (Act Message)) (answer : Option Answer) (last : Heard Packet Message Answer) (late : List (Event Packet)) →
+  next_attempt_deeds : (goes_on : Progress Exchange → List (NumberedEvent Packet) → Course Packet Message Exchange Answer) (setting : Setting State) (progress : Progress Exchange) (acts : List (Act Message)) (answer : Option Answer) (last : Heard Packet Message Answer) (late : List (NumberedEvent Packet)) →
       next_attempt p goes_on setting progress answer (record last { acts = acts ++ last.acts }) late ≡ with_acts acts (next_attempt p goes_on setting progress answer last late)
   next_attempt_deeds goes_on setting progress acts (Some answer) last late = refl
   next_attempt_deeds goes_on setting progress acts None last [] = refl
@@ -121,11 +121,11 @@ module _ {PublicState Packet Message State Exchange Answer Lease : Type 0} (p : 
   reads_nothing_called false setting exchange words = refl
 
   -- an event with a release that doesn't cut: what is refused comes first, and nothing else is of it
-  module _ (fuel : ℕ) (setting : Setting State) (progress : Progress Exchange) (number moment : ℕ) (refuse : Bool) (vs : List (Event Packet)) where
-    abbrev release : Event Packet
+  module _ (fuel : ℕ) (setting : Setting State) (progress : Progress Exchange) (number moment : ℕ) (refuse : Bool) (vs : List (NumberedEvent Packet)) where
+    abbrev release : NumberedEvent Packet
     release = record { number = number; moment = moment; refuse = refuse; input = Release }
 
-    abbrev without : Event Packet
+    abbrev without : NumberedEvent Packet
     without = record { number = number; moment = moment; refuse = refuse; input = Nothing }
 
     no_denial : refused_release p setting progress.exchange without ≡ []
@@ -134,7 +134,7 @@ module _ {PublicState Packet Message State Exchange Answer Lease : Type 0} (p : 
     pub denied_first : course p (suc fuel) setting progress (release ∷ vs) ≡ with_acts (refused_release p setting progress.exchange release) (course p (suc fuel) setting progress (without ∷ vs))
     denied_first = go (is_at_or_past progress.due release) refl
       where
-        due : Event Packet → Bool
+        due : NumberedEvent Packet → Bool
         due = is_at_or_past progress.due
 
         by_end : (b : Bool) → attempt_or_end p b (course p fuel setting) setting progress [] release vs ≡

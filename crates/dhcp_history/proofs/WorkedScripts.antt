@@ -2,41 +2,41 @@
 -- is refused here.
 use Rattle.std.proofs.Common.{◌≡◌, ℕ, true, false, List, [], ◌∷◌, refl}
 use Rattle.std.specs.Prelude.{None}
-use Rattle.dhcp_history.specs.Script.{Input, Nothing, Arrival, Release, CleanUp, Event, Script, Output, Handed, Refused, Changed, Failed, TimedOut, SendRefused}
+use Rattle.dhcp_history.specs.Script.{Input, Nothing, Arrival, Release, CleanUp, NumberedEvent, Script, NumberedReport, Handed, Refused, Changed, Failed, TimedOut, SendRefused}
 use Rattle.dhcp_history.specs.History.{history, outputs, Attempted, Lasts, Cut, Answered}
 use Rattle.dhcp_history.specs.Machine.{replay}
 use Rattle.dhcp_history.proofs.WorkedClient.{Lease, State, Selecting, Requesting, Bound, Renewing, Message, Discover, Request, Renew, Return, Packet, Lends, Refuses, client}
 
 -- an event over a link that takes what is sent, and one over a link that refuses it
-abbrev at : ℕ → ℕ → Input Packet → Event Packet
+abbrev at : ℕ → ℕ → Input Packet → NumberedEvent Packet
 at number moment input = record { number = number; moment = moment; refuse = false; input = input }
 
-abbrev refusing : ℕ → ℕ → Input Packet → Event Packet
+abbrev refusing : ℕ → ℕ → Input Packet → NumberedEvent Packet
 refusing number moment input = record { number = number; moment = moment; refuse = true; input = input }
 
 -- a script that begins in a state, with all the random words 0
-abbrev script : State → ℕ → List (Event Packet) → Script Packet State ℕ
+abbrev script : State → ℕ → List (NumberedEvent Packet) → Script Packet State ℕ
 script state timeout_sec events = record { timeout_sec = timeout_sec; state = state; exchange = 0; words = []; events = events }
 
 abbrev Reports : Type 0
-Reports = List (Output State Message)
+Reports = List (NumberedReport State Message)
 
 abbrev Tells : Script Packet State ℕ → Reports → Type 0
 Tells from reports = (outputs client (history client from) ≡ reports) × (replay client from ≡ reports)
 
-abbrev handed : ℕ → Message → Output State Message
+abbrev handed : ℕ → Message → NumberedReport State Message
 handed number message = record { event = number; report = Handed message }
 
-abbrev refused : ℕ → Message → Output State Message
+abbrev refused : ℕ → Message → NumberedReport State Message
 refused number message = record { event = number; report = Refused message }
 
-abbrev changed : ℕ → State → Output State Message
+abbrev changed : ℕ → State → NumberedReport State Message
 changed number state = record { event = number; report = Changed state }
 
-abbrev timed_out : ℕ → Output State Message
+abbrev timed_out : ℕ → NumberedReport State Message
 timed_out number = record { event = number; report = Failed TimedOut }
 
-abbrev unreleased : ℕ → Output State Message
+abbrev unreleased : ℕ → NumberedReport State Message
 unreleased number = record { event = number; report = Failed SendRefused }
 
 -- a lease of 1000 seconds, to be renewed after 500

@@ -3,7 +3,7 @@ use Rattle.std.specs.Prelude.{ℕ, suc, zero, ◌+◌, ◌-◌, ◌*◌, ◌^◌
 use Rattle.dhcp_clock.specs.Wait.{half_wait}
 use Rattle.dhcp_history.specs.declared.rules.AttemptStart.{AttemptStart}
 use Rattle.dhcp_history.specs.Protocol.{Protocol, has_come}
-use Rattle.dhcp_history.specs.Script.{Input, Nothing, Arrival, Release, CleanUp, Event, Output, Report, Handed, Refused, Changed, Failed}
+use Rattle.dhcp_history.specs.Script.{Input, Nothing, Arrival, Release, CleanUp, NumberedEvent, NumberedReport, Report, Handed, Refused, Changed, Failed}
 use Rattle.dhcp_history.specs.History.{Attempt, Act, Attempted, ReleaseRefused, LimitOver, Lasts, Stay}
 use Rattle.dhcp_history.specs.Machine.{View, PollEffect, is_stopped, has_ended, poll}
 
@@ -21,7 +21,7 @@ is_change_of (Handed message) = false
 is_change_of (Refused message) = false
 is_change_of (Failed failure) = false
 
-abbrev pub is_change : {PublicState Message : Type 0} → Output PublicState Message → Bool
+abbrev pub is_change : {PublicState Message : Type 0} → NumberedReport PublicState Message → Bool
 is_change output = is_change_of output.report
 
 -- whether a message is reported that was handed to the link, which took or refused it
@@ -31,11 +31,12 @@ is_send_of (Refused message) = true
 is_send_of (Changed state) = false
 is_send_of (Failed failure) = false
 
-abbrev pub is_send : {PublicState Message : Type 0} → Output PublicState Message → Bool
+abbrev pub is_send : {PublicState Message : Type 0} → NumberedReport PublicState Message → Bool
 is_send output = is_send_of output.report
 
 -- and whether that was at the event with this number
-abbrev pub is_send_at : {PublicState Message : Type 0} → ℕ → Output PublicState Message → Bool
+abbrev pub is_send_at : {PublicState Message : Type 0} → ℕ → NumberedReport PublicState Message →
+    Bool
 is_send_at number output = (output.event == number) && is_send output
 
 -- how many messages an event may have: two, and one more for a release that it asks for
@@ -46,32 +47,34 @@ allowance Release = 3
 allowance CleanUp = 2
 
 -- how many messages the events with this number may have
-abbrev pub allowed : {Packet : Type 0} → ℕ → List (Event Packet) → ℕ
+abbrev pub allowed : {Packet : Type 0} → ℕ → List (NumberedEvent Packet) → ℕ
 allowed number [] = 0
 allowed number (event ∷ events) =
     (if event.number == number then allowance event.input else 0) + allowed number events
 
 -- the numbers of the events never fall, and are this one at least
-abbrev pub Numbered : {Packet : Type 0} → ℕ → List (Event Packet) → Type 0
+abbrev pub Numbered : {Packet : Type 0} → ℕ → List (NumberedEvent Packet) → Type 0
 Numbered least [] = Unit {0}
 Numbered least (event ∷ events) = (least ≤ event.number) × Numbered event.number events
 
 -- nor do those of what is reported
-abbrev pub InOrder : {PublicState Message : Type 0} → ℕ → List (Output PublicState Message) → Type 0
+abbrev pub InOrder : {PublicState Message : Type 0} → ℕ →
+    List (NumberedReport PublicState Message) → Type 0
 InOrder least [] = Unit {0}
 InOrder least (output ∷ outputs) = (least ≤ output.event) × InOrder output.event outputs
 
 module _ {PublicState Packet Message State Exchange Answer Lease : Type 0}
     (p : Protocol PublicState Packet Message State Exchange Answer Lease) where
   -- after a poll that answers a change the client is polled again
-  abbrev pub count_again : (Event Packet → View State Exchange → ℕ) → Event Packet → Option State →
+  abbrev pub count_again : (NumberedEvent Packet → View State Exchange → ℕ) →
+      NumberedEvent Packet → Option State →
       PollEffect Packet Message State Exchange → ℕ
   count_again again event None once = 1
   count_again again event (Some next) once =
       suc (again (record event { input = once.left }) once.view)
 
   -- how often a client is polled at an event, where it is polled `fuel` times at most
-  abbrev pub poll_count : ℕ → Event Packet → View State Exchange → ℕ
+  abbrev pub poll_count : ℕ → NumberedEvent Packet → View State Exchange → ℕ
   poll_count zero event view = 0
   poll_count (suc fuel) event view =
       let once = poll p event.moment event.refuse event.input view in

@@ -10,7 +10,7 @@ use Rattle.dhcp_clock.specs.Link.{Shown, HandsOver}
 use Rattle.dhcp_history.specs.declared.client.Client.{Client}
 use Rattle.dhcp_history.specs.declared.machine.RunError.{RunError}
 use Rattle.dhcp_history.specs.Protocol.{Lawful, Protocol, has_come}
-use Rattle.dhcp_history.specs.Script.{Event, Output, Script, Nothing}
+use Rattle.dhcp_history.specs.Script.{NumberedEvent, NumberedReport, Script, Nothing}
 use Rattle.dhcp_history.specs.Machine.{begin_stay, clean_up, first_view, is_listening, is_stopped, is_unpolled, limit_is_over, poll}
 use Rattle.dhcp_history.specs.History.{history, outputs}
 use Rattle.dhcp_history.specs.Client.{unpolled, view_of}
@@ -151,7 +151,8 @@ module _ {PublicState State Exchange Answer Lease : Type 0}
 
   -- The events of a script, played. What is returned has these outputs as its items.
   pub record Plays {Returned : Type 0} (result : Result Returned ErrorParts)
-      (items : Returned → List (Output PublicState Handed)) (events : List (Event Packet))
+      (items : Returned → List (NumberedReport PublicState Handed))
+      (events : List (NumberedEvent Packet))
       (old new : Client State Exchange) (drawn left : Option (List ℕ)) : Type 0 where
     -- where the words are known, the outputs are those of the events, one by one
     pub reported : IfOk result (λ reported. IfSome drawn (λ words.
@@ -165,7 +166,7 @@ module _ {PublicState State Exchange Answer Lease : Type 0}
 
   -- what is reported is that of the history of the script, where the client begins as that says
   abbrev pub HasHistory : {Returned : Type 0} → Result Returned ErrorParts →
-      (Returned → List (Output PublicState Handed)) → List (Event Packet) →
+      (Returned → List (NumberedReport PublicState Handed)) → List (NumberedEvent Packet) →
       Client State Exchange → Option (List ℕ) → Type 0
   HasHistory result items events old drawn =
       IfOk result (λ reported. IfSome drawn (λ words. (script : Script Packet State Exchange) →
@@ -174,7 +175,8 @@ module _ {PublicState State Exchange Answer Lease : Type 0}
 
   -- the same, and by a lawful protocol what the history reports
   pub record Replays {Returned : Type 0} (result : Result Returned ErrorParts)
-      (items : Returned → List (Output PublicState Handed)) (events : List (Event Packet))
+      (items : Returned → List (NumberedReport PublicState Handed))
+      (events : List (NumberedEvent Packet))
       (old new : Client State Exchange) (drawn left : Option (List ℕ)) : Type 0 where
     pub plays : Plays result items events old new drawn left
     pub open plays use *
@@ -271,7 +273,8 @@ module _ {Config PublicState State Exchange Answer Lease : Type 0}
 
   -- The events of a script, played, by a client whose protocol is lawful.
   pub record IsReplay {Returned : Type 0} (result : Result Returned ErrorParts)
-      (items : Returned → List (Output PublicState Handed)) (events : List (Event Packet))
+      (items : Returned → List (NumberedReport PublicState Handed))
+      (events : List (NumberedEvent Packet))
       (old new : ClientParts Config State Exchange) (drawn left : Option (List ℕ)) : Type 0 where
     pub plays : Plays (protocol old.config) result items events old.client new.client drawn left
     pub open plays use *

@@ -7,12 +7,12 @@ use Rattle.dhcp_history.specs.declared.machine.RunError.{RunError}
 use Rattle.dhcp_history.specs.declared.machine.RunError.TheVariants as run
 use Rattle.dhcp_history.specs.declared.release.ReleaseError.{ReleaseError}
 use Rattle.dhcp_history.specs.Protocol.{Protocol}
-use Rattle.dhcp_history.specs.Script.{Input, Event, Output, Changed, Failed, TimedOut, SendRefused, after_call}
+use Rattle.dhcp_history.specs.Script.{Input, NumberedEvent, NumberedReport, Changed, Failed, TimedOut, SendRefused, after_call}
 use Rattle.dhcp_history.specs.Machine.{View, PollEffect, EventEffect, polls, call, handed_output, failed_output}
 use Rattle.dhcp_history.specs.Run.{waiting_of}
 
 -- the event with this head and this input
-abbrev pub event_of : EventHead → Input Packet → Event Packet
+abbrev pub event_of : EventHead → Input Packet → NumberedEvent Packet
 event_of at input = record {
   number = at.number;
   moment = at.moment;
@@ -22,7 +22,7 @@ event_of at input = record {
 
 -- what is reported of a release, after the message that was handed for it
 abbrev pub release_outputs : {PublicState : Type 0} → ℕ → Bool → Option Handed →
-    Result Bool ReleaseError → List (Output PublicState Handed)
+    Result Bool ReleaseError → List (NumberedReport PublicState Handed)
 release_outputs number refuse handed (Ok released) = handed_output number refuse handed
 release_outputs number refuse handed (Err error) =
     handed_output number refuse handed ++
@@ -30,7 +30,7 @@ release_outputs number refuse handed (Err error) =
 
 -- what is reported of a poll, after the message that was handed in it
 abbrev pub poll_outputs : {PublicState : Type 0} → ℕ → Bool → Option Handed →
-    Result (Option PublicState) RunError → List (Output PublicState Handed)
+    Result (Option PublicState) RunError → List (NumberedReport PublicState Handed)
 poll_outputs number refuse handed (Ok None) = handed_output number refuse handed
 poll_outputs number refuse handed (Ok (Some next)) =
     handed_output number refuse handed ++ record { event = number; report = Changed next } ∷ []
@@ -53,7 +53,7 @@ module _ {PublicState State Exchange Answer Lease : Type 0}
     (p : Protocol PublicState Packet Handed State Exchange Answer Lease) where
   -- what is reported of a poll that does this
   abbrev pub once_outputs : ℕ → Bool → Option State → PollEffect Packet Handed State Exchange →
-      List (Output PublicState Handed)
+      List (NumberedReport PublicState Handed)
   once_outputs number refuse None once =
       handed_output number refuse once.handed ++ failed_output number once.failed
   once_outputs number refuse (Some next) once =
@@ -64,7 +64,7 @@ module _ {PublicState State Exchange Answer Lease : Type 0}
   -- words and the packet that waits
   pub record HasPolledOnce (number : ℕ) (refuse : Bool)
       (once : PollEffect Packet Handed State Exchange) (result : Bool)
-      (before after : List (Output PublicState Handed))
+      (before after : List (NumberedReport PublicState Handed))
       (view : List ℕ → View State Exchange) (left : Option (List ℕ)) (packet : Option Packet) :
       Type 0 where
     pub again : result ≡ is_some once.change
@@ -74,17 +74,17 @@ module _ {PublicState State Exchange Answer Lease : Type 0}
     pub waiting : packet ≡ waiting_of once.left
 
   -- the polls of an event
-  unfoldable pub polls_at : ℕ → Event Packet → View State Exchange →
+  unfoldable pub polls_at : ℕ → NumberedEvent Packet → View State Exchange →
       EventEffect PublicState Handed State Exchange
   polls_at fuel event view = polls p fuel event view
 
   -- the call of an event
-  unfoldable pub call_at : Event Packet → View State Exchange →
+  unfoldable pub call_at : NumberedEvent Packet → View State Exchange →
       EventEffect PublicState Handed State Exchange
   call_at event view = call p event view
 
   -- the call of an event, and then its polls
-  abbrev pub event_at : Event Packet → View State Exchange →
+  abbrev pub event_at : NumberedEvent Packet → View State Exchange →
       EventEffect PublicState Handed State Exchange
   event_at event view =
       let called = call_at event view in
@@ -92,7 +92,7 @@ module _ {PublicState State Exchange Answer Lease : Type 0}
       record { outputs = called.outputs ++ polled.outputs; view = polled.view }
 
   -- what events report, and the client after them
-  abbrev pub events_at : View State Exchange → List (Event Packet) →
+  abbrev pub events_at : View State Exchange → List (NumberedEvent Packet) →
       EventEffect PublicState Handed State Exchange
   events_at view [] = record { outputs = []; view = view }
   events_at view (event ∷ events) =
@@ -101,14 +101,14 @@ module _ {PublicState State Exchange Answer Lease : Type 0}
       record { outputs = once.outputs ++ more.outputs; view = more.view }
 
 -- the moment of the last of these events, or this one where there is none
-abbrev pub last_moment : ℕ → List (Event Packet) → ℕ
+abbrev pub last_moment : ℕ → List (NumberedEvent Packet) → ℕ
 last_moment moment [] = moment
 last_moment moment (event ∷ events) = last_moment event.moment events
 
 -- these outputs were added, and client and words are left so
 pub record HasReported {PublicState State Exchange : Type 0}
     (once : EventEffect PublicState Handed State Exchange)
-    (before after : List (Output PublicState Handed)) (view : List ℕ → View State Exchange)
+    (before after : List (NumberedReport PublicState Handed)) (view : List ℕ → View State Exchange)
     (left : Option (List ℕ)) : Type 0 where
   pub outputs : after ≡ before ++ once.outputs
   pub client : view once.view.words ≡ once.view
@@ -117,13 +117,14 @@ pub record HasReported {PublicState State Exchange : Type 0}
 -- these outputs were added, and the client is left so
 pub record HasCalled {PublicState State Exchange : Type 0}
     (once : EventEffect PublicState Handed State Exchange)
-    (before after : List (Output PublicState Handed)) (view : View State Exchange) : Type 0 where
+    (before after : List (NumberedReport PublicState Handed))
+    (view : View State Exchange) : Type 0 where
   pub outputs : after ≡ before ++ once.outputs
   pub client : view ≡ once.view
 
 -- what was reported so far and what is left to be done make up the whole
 pub record MakesUp {PublicState State Exchange : Type 0}
     (rest whole : EventEffect PublicState Handed State Exchange)
-    (so_far before : List (Output PublicState Handed)) : Type 0 where
+    (so_far before : List (NumberedReport PublicState Handed)) : Type 0 where
   pub outputs : so_far ++ rest.outputs ≡ before ++ whole.outputs
   pub view : rest.view ≡ whole.view

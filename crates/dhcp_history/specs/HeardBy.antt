@@ -33,10 +33,11 @@ module _ {PublicState State Exchange Answer Lease : Type 0}
   abbrev pub IsEnded : ℕ → View State Exchange → View State Exchange → Type 0
   IsEnded now old new = new.state ≡ (p.after_end old.state (exchange_at p now old)).state
 
--- The last turn of the link gave this packet, and it grants what a poll reports, by whether the link
--- refused a message and by the client before the poll, whatever words come after those that the
--- source gave.
-pub record IsGrantedLast {State Exchange Source Link : Type 0} (gives : ℕ → Source → Source → Type 0)
+-- The last turn of the link gave this packet, and it grants what a poll reports, by whether the
+-- link refused a message and by the client before the poll, whatever words come after those that
+-- the source gave.
+pub record IsGrantedLast {State Exchange Source Link : Type 0}
+    (gives : ℕ → Source → Source → Type 0)
     (moves : Turn → Link → Link → Type 0)
     (Grants : Bool → Option Packet → View State Exchange → Type 0) (old : Client State Exchange)
     (words words' : Source) (link link' : Link) : Type 0 where

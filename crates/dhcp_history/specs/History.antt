@@ -7,7 +7,7 @@ use Rattle.std.specs.Prelude.{ℕ, suc, zero, ◌+◌, ◌*◌, Bool, true, fals
 use Rattle.dhcp_history.specs.declared.rules.NewAttempt.{NewAttempt}
 use Rattle.dhcp_clock.specs.Words.{Drawn}
 use Rattle.dhcp_history.specs.Protocol.{Protocol, NextState, pause_of}
-use Rattle.dhcp_history.specs.Script.{Input, Nothing, Arrival, Release, CleanUp, Event, Script, after_call}
+use Rattle.dhcp_history.specs.Script.{Input, Nothing, Arrival, Release, CleanUp, NumberedEvent, Script, after_call}
 
 -- whether an event with this input cuts a stay: a clean-up does, and so does a release that the
 -- link takes while a lease is held
@@ -25,7 +25,7 @@ limit_after true (suc timeout_sec) entered = Some (entered + 1000 * suc timeout_
 
 -- an answer at the first of these events, or else what is heard later
 abbrev pub answer_or : {Packet Message Answer : Type 0} → Option Answer → List ℕ →
-    List (Act Message) → List (Event Packet) → Heard Packet Message Answer →
+    List (Act Message) → List (NumberedEvent Packet) → Heard Packet Message Answer →
     Heard Packet Message Answer
 answer_or None words acts events later = record later { acts = acts ++ later.acts }
 answer_or (Some answer) words acts events later =
@@ -51,7 +51,7 @@ module _ {PublicState Packet Message State Exchange Answer Lease : Type 0}
   -- 1. What closes a stay.
 
   -- whether the event cuts the stay
-  abbrev pub cuts : Setting State → Event Packet → Bool
+  abbrev pub cuts : Setting State → NumberedEvent Packet → Bool
   cuts setting event = cuts_by event.input event.refuse (is_some (p.held_lease setting.state))
 
   -- the moment at which the time limit is over
@@ -59,29 +59,30 @@ module _ {PublicState Packet Message State Exchange Answer Lease : Type 0}
   limit_moment timeout_sec entered state = limit_after (p.has_attempts state) timeout_sec entered
 
   -- whether the time limit is over at the event
-  abbrev pub overruns : Setting State → Event Packet → Bool
+  abbrev pub overruns : Setting State → NumberedEvent Packet → Bool
   overruns setting event =
       is_at_or_past (limit_moment setting.timeout_sec setting.entered setting.state) event
 
   -- whether the state's ending moment has come at the event
-  abbrev pub ends : Setting State → Event Packet → Bool
+  abbrev pub ends : Setting State → NumberedEvent Packet → Bool
   ends setting event = is_at_or_past (p.ending_moment setting.state) event
 
   -- the events before the first that closes the stay in one of these ways are its window
-  abbrev pub closes : Setting State → Event Packet → Bool
+  abbrev pub closes : Setting State → NumberedEvent Packet → Bool
   closes setting event = cuts setting event || (overruns setting event || ends setting event)
 
   -- 2. What is heard between two attempts.
 
   -- the release that the link refuses at an event, where a lease is held
-  abbrev pub refused_release_of : Option Lease → Exchange → Event Packet → List (Act Message)
+  abbrev pub refused_release_of : Option Lease → Exchange → NumberedEvent Packet →
+      List (Act Message)
   refused_release_of None exchange event = []
   refused_release_of (Some lease) exchange event =
       if is_release event.input && event.refuse
       then ReleaseRefused event.number (p.release_message lease exchange) ∷ []
       else []
 
-  abbrev pub refused_release : Setting State → Exchange → Event Packet → List (Act Message)
+  abbrev pub refused_release : Setting State → Exchange → NumberedEvent Packet → List (Act Message)
   refused_release setting exchange event =
       refused_release_of (p.held_lease setting.state) exchange event
 
@@ -99,7 +100,7 @@ module _ {PublicState Packet Message State Exchange Answer Lease : Type 0}
   reading_if false setting exchange words input = record { value = None; left = words }
 
   -- what the packets of these events answer to the last attempt, which is open or not
-  abbrev pub hear : Setting State → Exchange → Bool → List ℕ → List (Event Packet) →
+  abbrev pub hear : Setting State → Exchange → Bool → List ℕ → List (NumberedEvent Packet) →
       Heard Packet Message Answer
   hear setting exchange listens words [] =
       record { answer = None; rest = []; words = words; acts = [] }
@@ -132,7 +133,7 @@ module _ {PublicState Packet Message State Exchange Answer Lease : Type 0}
       progress.words
 
   -- the attempt that is made at this event, and where the stay stands then
-  abbrev pub attempt_at : Setting State → Progress Exchange → Event Packet → Attempt Message
+  abbrev pub attempt_at : Setting State → Progress Exchange → NumberedEvent Packet → Attempt Message
   attempt_at setting progress event = record {
     event = event.number;
     moment = event.moment;
@@ -141,7 +142,8 @@ module _ {PublicState Packet Message State Exchange Answer Lease : Type 0}
     message = (new_attempt_at setting progress event.moment).value.message;
   }
 
-  abbrev pub progress_after : Setting State → Progress Exchange → Event Packet → Progress Exchange
+  abbrev pub progress_after : Setting State → Progress Exchange → NumberedEvent Packet →
+      Progress Exchange
   progress_after setting progress event = record {
     last = last_by event.refuse;
     due = Some (event.moment + (new_attempt_at setting progress event.moment).value.wait);
@@ -153,8 +155,9 @@ module _ {PublicState Packet Message State Exchange Answer Lease : Type 0}
   -- one that its state allows; else the next attempt is made. A release that is refused comes
   -- first.
   abbrev pub attempt_or_end : Bool →
-      (Progress Exchange → List (Event Packet) → Course Packet Message Exchange Answer) →
-      Setting State → Progress Exchange → List (Act Message) → Event Packet → List (Event Packet) →
+      (Progress Exchange → List (NumberedEvent Packet) → Course Packet Message Exchange Answer) →
+      Setting State → Progress Exchange → List (Act Message) → NumberedEvent Packet →
+      List (NumberedEvent Packet) →
       Course Packet Message Exchange Answer
   attempt_or_end true goes_on setting progress acts event later = record {
     acts = acts ++ refused_release setting progress.exchange event;
@@ -175,9 +178,9 @@ module _ {PublicState Packet Message State Exchange Answer Lease : Type 0}
   -- What follows where so much was heard before the due moment, and these are the events from then
   -- on: an answer closes the stay; with no event left there is no attempt any more.
   abbrev pub next_attempt :
-      (Progress Exchange → List (Event Packet) → Course Packet Message Exchange Answer) →
+      (Progress Exchange → List (NumberedEvent Packet) → Course Packet Message Exchange Answer) →
       Setting State → Progress Exchange → Option Answer → Heard Packet Message Answer →
-      List (Event Packet) → Course Packet Message Exchange Answer
+      List (NumberedEvent Packet) → Course Packet Message Exchange Answer
   next_attempt goes_on setting progress (Some answer) heard events = record {
     acts = heard.acts;
     finish = record {
@@ -204,7 +207,7 @@ module _ {PublicState Packet Message State Exchange Answer Lease : Type 0}
   -- The course of a stay over the events of its window, from where it stands: the packets before
   -- the due moment are heard, and at the first event from then on the next attempt is made. `fuel`
   -- is above the number of events, of which each has one attempt at most.
-  abbrev pub course : ℕ → Setting State → Progress Exchange → List (Event Packet) →
+  abbrev pub course : ℕ → Setting State → Progress Exchange → List (NumberedEvent Packet) →
       Course Packet Message Exchange Answer
   course zero setting progress events = record {
     acts = [];
@@ -234,7 +237,7 @@ module _ {PublicState Packet Message State Exchange Answer Lease : Type 0}
   cut_message setting exchange CleanUp = None
 
   -- a stay is cut at the first of these events, if there is one
-  abbrev pub cut : Setting State → Finish Packet Exchange Answer → List (Event Packet) →
+  abbrev pub cut : Setting State → Finish Packet Exchange Answer → List (NumberedEvent Packet) →
       Transition Packet Message State Exchange
   cut setting finish [] = record {
     acts = [];
@@ -250,7 +253,7 @@ module _ {PublicState Packet Message State Exchange Answer Lease : Type 0}
   }
 
   -- a stay ends at the first of these events
-  abbrev pub end_at : Setting State → Finish Packet Exchange Answer → List (Event Packet) →
+  abbrev pub end_at : Setting State → Finish Packet Exchange Answer → List (NumberedEvent Packet) →
       Transition Packet Message State Exchange
   end_at setting finish [] = cut setting finish []
   end_at setting finish (event ∷ later) =
@@ -263,14 +266,15 @@ module _ {PublicState Packet Message State Exchange Answer Lease : Type 0}
       }
 
   -- what the client does at an event once its time limit is over
-  abbrev pub limit_acts : Setting State → Exchange → Event Packet → List (Act Message)
+  abbrev pub limit_acts : Setting State → Exchange → NumberedEvent Packet → List (Act Message)
   limit_acts setting exchange event =
       refused_release setting exchange event ++ LimitOver event.number ∷ []
 
   -- A stay closes at this event: it is cut; or its time limit is over, and only a later cut closes
   -- it; or it ends.
-  abbrev pub close : Bool → Bool → Setting State → Finish Packet Exchange Answer → Event Packet →
-      List (Event Packet) → Transition Packet Message State Exchange
+  abbrev pub close : Bool → Bool → Setting State → Finish Packet Exchange Answer →
+      NumberedEvent Packet →
+      List (NumberedEvent Packet) → Transition Packet Message State Exchange
   close true over setting finish event later = cut setting finish (event ∷ later)
   close false true setting finish event later =
       let stopped = before (cuts setting) (event ∷ later) in
@@ -282,7 +286,7 @@ module _ {PublicState Packet Message State Exchange Answer Lease : Type 0}
   -- how a stay gives way whose attempts end so, where these are the events from the end of its
   -- window on
   abbrev pub transition_by : Outcome Answer → Setting State → Finish Packet Exchange Answer →
-      List (Event Packet) → Transition Packet Message State Exchange
+      List (NumberedEvent Packet) → Transition Packet Message State Exchange
   transition_by (AnsweredBy answer) setting finish late =
       let events = finish.rest ++ late in
       let next = p.after_answer setting.state answer (moment_of events) finish.exchange in
@@ -297,7 +301,8 @@ module _ {PublicState Packet Message State Exchange Answer Lease : Type 0}
   transition_by Unanswered setting finish (event ∷ later) =
       close (cuts setting event) (overruns setting event) setting finish event later
 
-  abbrev pub transition : Setting State → Finish Packet Exchange Answer → List (Event Packet) →
+  abbrev pub transition : Setting State → Finish Packet Exchange Answer →
+      List (NumberedEvent Packet) →
       Transition Packet Message State Exchange
   transition setting finish late = transition_by finish.outcome setting finish late
 
@@ -319,20 +324,21 @@ module _ {PublicState Packet Message State Exchange Answer Lease : Type 0}
       }
 
   -- a stay that is cut at its entry draws nothing
-  abbrev pub entry_progress : Setting State → Entry State Exchange → Event Packet →
+  abbrev pub entry_progress : Setting State → Entry State Exchange → NumberedEvent Packet →
       Progress Exchange
   entry_progress setting entry event =
       if cuts setting event
       then record { last = NoneYet; due = None; exchange = entry.exchange; words = entry.words }
       else first_progress entry event.moment
 
-  abbrev pub entry_pause : Setting State → Entry State Exchange → Event Packet → ℕ
+  abbrev pub entry_pause : Setting State → Entry State Exchange → NumberedEvent Packet → ℕ
   entry_pause setting entry event =
       if cuts setting event then 0 else (pause_of p entry.state entry.exchange entry.words).value
 
   -- the stays from an entry on, the first of them entered at the first of these events; `fuel` is
   -- above the number of stays
-  abbrev pub stays : ℕ → ℕ → Entry State Exchange → List (Event Packet) → List (Stay State Message)
+  abbrev pub stays : ℕ → ℕ → Entry State Exchange → List (NumberedEvent Packet) →
+      List (Stay State Message)
   stays fuel timeout_sec entry [] = []
   stays zero timeout_sec entry (first ∷ later) = []
   stays (suc fuel) timeout_sec entry (first ∷ later) =

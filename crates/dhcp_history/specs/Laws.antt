@@ -3,7 +3,7 @@ use Rattle.std.specs.Prelude.{◌≡◌, ◌≤◌, ℕ, List}
 use Rattle.dhcp_clock.specs.declared.link.Handed.{Handed}
 use Rattle.dhcp_clock.specs.declared.link.Packet.{Packet}
 use Rattle.dhcp_history.specs.Protocol.{Protocol}
-use Rattle.dhcp_history.specs.Script.{Event, Script}
+use Rattle.dhcp_history.specs.Script.{NumberedEvent, Script}
 use Rattle.dhcp_history.specs.History.{history, outputs}
 use Rattle.dhcp_history.specs.Machine as machine
 use Rattle.dhcp_history.specs.Machine.{View, first_view, replay}
@@ -20,21 +20,22 @@ module _ {PublicState State Exchange Answer Lease : Type 0}
   -- At an event a client is polled at most seven times, and changes its state at most six times;
   -- more polls than seven would do nothing more.
   pub record HasSevenPolls : Type 0 where
-    pub polls : (fuel : ℕ) (event : Event Packet) (client : View State Exchange) →
+    pub polls : (fuel : ℕ) (event : NumberedEvent Packet) (client : View State Exchange) →
         poll_count p fuel event client ≤ 7
-    pub changes : (fuel : ℕ) (event : Event Packet) (client : View State Exchange) →
+    pub changes : (fuel : ℕ) (event : NumberedEvent Packet) (client : View State Exchange) →
         count_of is_change (machine.polls p fuel event client).outputs ≤ 6
-    pub enough : (fuel : ℕ) (event : Event Packet) (client : View State Exchange) → 7 ≤ fuel →
+    pub enough : (fuel : ℕ) (event : NumberedEvent Packet) (client : View State Exchange) →
+        7 ≤ fuel →
         machine.polls p fuel event client ≡ machine.polls p 7 event client
 
   -- at an event the polls of a client hand at most two messages to the link
   abbrev pub HasTwoMessages : Type 0
-  HasTwoMessages = (fuel : ℕ) (event : Event Packet) (client : View State Exchange) →
+  HasTwoMessages = (fuel : ℕ) (event : NumberedEvent Packet) (client : View State Exchange) →
       count_of is_send (machine.polls p fuel event client).outputs ≤ 2
 
   -- after the polls of an event a client without a kept error is not past the end of its state
   abbrev pub IsNeverOverdue : Type 0
-  IsNeverOverdue = (event : Event Packet) (client : View State Exchange) →
+  IsNeverOverdue = (event : NumberedEvent Packet) (client : View State Exchange) →
       IsWithinState p event.moment (machine.polls p 7 event client).view
 
   -- What a run over any link reports is what the history of the script reports that the run is.

@@ -7,6 +7,7 @@ pub mod History
 pub mod Machine
 pub mod Bounds
 pub mod Kept
+pub mod KeptByEvent
 pub mod Rules
 pub mod Client
 pub mod Seen

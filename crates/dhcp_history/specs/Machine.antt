@@ -5,7 +5,7 @@ use Rattle.std.specs.Prelude.{ℕ, suc, zero, ◌+◌, Bool, true, false, ◌&&�
 use Rattle.dhcp_history.specs.declared.rules.NewAttempt.{NewAttempt}
 use Rattle.dhcp_clock.specs.Words.{Drawn}
 use Rattle.dhcp_history.specs.Protocol.{Protocol, NextState, has_come, pause_of}
-use Rattle.dhcp_history.specs.Script.{Input, Nothing, Arrival, Release, CleanUp, Event, TimedOut, SendRefused, Handed, Refused, Changed, Failed, Output, Script, after_call}
+use Rattle.dhcp_history.specs.Script.{Input, Nothing, Arrival, Release, CleanUp, NumberedEvent, TimedOut, SendRefused, Handed, Refused, Changed, Failed, NumberedReport, Script, after_call}
 use Rattle.dhcp_history.specs.History.{first_due, limit_moment, reading_of, after_wait_if}
 
 abbrev pub is_unpolled : Phase → Bool
@@ -77,20 +77,20 @@ pub record PollEffect (Packet Message State Exchange : Type 0) : Type 0 where
 
 -- what the polls or the call of an event report, and the client after them
 pub record EventEffect (PublicState Message State Exchange : Type 0) : Type 0 where
-  pub outputs : List (Output PublicState Message)
+  pub outputs : List (NumberedReport PublicState Message)
   pub view : View State Exchange
 
 -- what is reported of a message that is handed at the event with this number, to a link that
 -- refuses or does not
 abbrev pub handed_output : {PublicState Message : Type 0} → ℕ → Bool → Option Message →
-    List (Output PublicState Message)
+    List (NumberedReport PublicState Message)
 handed_output number refuse None = []
 handed_output number refuse (Some message) =
     record { event = number; report = if refuse then Refused message else Handed message } ∷ []
 
 -- and of a time limit that is over
 abbrev pub failed_output : {PublicState Message : Type 0} → ℕ → Bool →
-    List (Output PublicState Message)
+    List (NumberedReport PublicState Message)
 failed_output number failed =
     if failed then record { event = number; report = Failed TimedOut } ∷ [] else []
 
@@ -242,8 +242,9 @@ module _ {PublicState Packet Message State Exchange Answer Lease : Type 0}
 
   -- after a poll that answers a change the client is polled again
   abbrev pub after_poll :
-      (Event Packet → View State Exchange → EventEffect PublicState Message State Exchange) →
-      Event Packet → Option State → PollEffect Packet Message State Exchange →
+      (NumberedEvent Packet → View State Exchange →
+        EventEffect PublicState Message State Exchange) →
+      NumberedEvent Packet → Option State → PollEffect Packet Message State Exchange →
       EventEffect PublicState Message State Exchange
   after_poll again event None once = record {
     outputs = handed_output event.number event.refuse once.handed ++
@@ -260,7 +261,7 @@ module _ {PublicState Packet Message State Exchange Answer Lease : Type 0}
       }
 
   -- the polls of an event until one answers no change, at most `fuel` of them
-  abbrev pub polls : ℕ → Event Packet → View State Exchange →
+  abbrev pub polls : ℕ → NumberedEvent Packet → View State Exchange →
       EventEffect PublicState Message State Exchange
   polls zero event view = record { outputs = []; view = view }
   polls (suc fuel) event view =
@@ -272,7 +273,7 @@ module _ {PublicState Packet Message State Exchange Answer Lease : Type 0}
   clean_up view = enter (p.after_clean_up view.exchange) view
 
   -- a release of the lease that is held, if there is one; a clean-up follows where the link took it
-  abbrev pub release_of : Option Lease → Event Packet → View State Exchange →
+  abbrev pub release_of : Option Lease → NumberedEvent Packet → View State Exchange →
       EventEffect PublicState Message State Exchange
   release_of None event view = record { outputs = []; view = view }
   release_of (Some lease) event view =
@@ -289,14 +290,14 @@ module _ {PublicState Packet Message State Exchange Answer Lease : Type 0}
       }
 
   -- the call that an event asks for: a release, a clean-up, or none
-  abbrev pub call_by : Input Packet → Event Packet → View State Exchange →
+  abbrev pub call_by : Input Packet → NumberedEvent Packet → View State Exchange →
       EventEffect PublicState Message State Exchange
   call_by Nothing event view = record { outputs = []; view = view }
   call_by (Arrival packet) event view = record { outputs = []; view = view }
   call_by Release event view = release_of (p.held_lease view.state) event view
   call_by CleanUp event view = record { outputs = []; view = clean_up view }
 
-  abbrev pub call : Event Packet → View State Exchange →
+  abbrev pub call : NumberedEvent Packet → View State Exchange →
       EventEffect PublicState Message State Exchange
   call event view = call_by event.input event view
 
@@ -304,13 +305,13 @@ module _ {PublicState Packet Message State Exchange Answer Lease : Type 0}
 
   -- what is reported from a client on: at each event its call is made, and then it is polled at
   -- most seven times
-  abbrev pub replay_from : View State Exchange → List (Event Packet) →
-      List (Output PublicState Message)
+  abbrev pub replay_from : View State Exchange → List (NumberedEvent Packet) →
+      List (NumberedReport PublicState Message)
   replay_from view [] = []
   replay_from view (event ∷ events) =
       let called = call event view in
       let polled = polls 7 (after_call event) called.view in
       called.outputs ++ (polled.outputs ++ replay_from polled.view events)
 
-  abbrev pub replay : Script Packet State Exchange → List (Output PublicState Message)
+  abbrev pub replay : Script Packet State Exchange → List (NumberedReport PublicState Message)
   replay script = replay_from (first_view script) script.events

@@ -4,14 +4,14 @@ use Rattle.std.specs.Prelude.{ℕ, ◌+◌, ◌<◌, ◌≤◌, ◌≡◌, ◌==
 use Rattle.std.specs.List.{Contains}
 use Rattle.dhcp_history.specs.declared.rules.AttemptStart.{AttemptStart}
 use Rattle.dhcp_history.specs.Protocol.{Protocol}
-use Rattle.dhcp_history.specs.declared.script.Event.{Event}
+use Rattle.dhcp_history.specs.declared.script.NumberedEvent.{NumberedEvent}
 use Rattle.dhcp_history.specs.declared.script.Input.TheVariants.{Arrival}
 use Rattle.dhcp_history.specs.Stay.{Act, Answered, Attempt, Attempted, Closing, Cut, Ended, Lasts, LimitOver, ReleaseRefused, Stay}
 use Rattle.dhcp_history.specs.History.{ends, overruns}
 use Rattle.dhcp_history.specs.Bounds.{attempts_of}
 
 -- the numbers of the events rise, above this one, and their moments do not fall below this one
-abbrev pub Rises : {Packet : Type 0} → ℕ → ℕ → List (Event Packet) → Type 0
+abbrev pub Rises : {Packet : Type 0} → ℕ → ℕ → List (NumberedEvent Packet) → Type 0
 Rises number moment [] = Unit {0}
 Rises number moment (event ∷ events) =
     (number < event.number) × (moment ≤ event.moment) × Rises event.number event.moment events
@@ -32,8 +32,8 @@ is_answered_at number (Ended event next) = false
 
 module _ {PublicState Packet Message State Exchange Answer Lease : Type 0}
     (p : Protocol PublicState Packet Message State Exchange Answer Lease) where
-  -- The attempt is one that the protocol makes in this state, at its moment; with it the exchange is
-  -- this one.
+  -- The attempt is one that the protocol makes in this state, at its moment; with it the exchange
+  -- is this one.
   pub record IsAttemptIn (state : State) (attempt : Attempt Message) (exchange : Exchange) :
       Type 0 where
     pub before : Exchange
@@ -45,7 +45,7 @@ module _ {PublicState Packet Message State Exchange Answer Lease : Type 0}
 
   -- At this event the attempt is open: it is the last one that the stay made by then, and the link
   -- took it; its wait is not over, nor is the client's time limit, nor the state.
-  pub record IsOpenAt (event : Event Packet) (attempt : Attempt Message)
+  pub record IsOpenAt (event : NumberedEvent Packet) (attempt : Attempt Message)
       (stay : Stay State Message) : Type 0 where
     pub earlier : List (Attempt Message)
     pub later : List (Attempt Message)
@@ -59,9 +59,10 @@ module _ {PublicState Packet Message State Exchange Answer Lease : Type 0}
 
   -- 1. What answers a stay.
 
-  -- The packet of this event is read as an answer to the attempt that is open, and this is the state
-  -- after that answer.
-  pub record IsAnsweredAt (event : Event Packet) (next : State) (stay : Stay State Message) :
+  -- The packet of this event is read as an answer to the attempt that is open, and this is the
+  -- state after that answer.
+  pub record IsAnsweredAt (event : NumberedEvent Packet) (next : State)
+      (stay : Stay State Message) :
       Type 0 where
     pub packet : Packet
     pub brings : event.input ≡ Arrival packet
@@ -75,15 +76,15 @@ module _ {PublicState Packet Message State Exchange Answer Lease : Type 0}
     pub follows : next ≡ (p.after_answer stay.setting.state answer event.moment exchange).state
 
   -- and it is the event with this number, one of these
-  pub record IsAnsweredAmong (events : List (Event Packet)) (number : ℕ) (next : State)
+  pub record IsAnsweredAmong (events : List (NumberedEvent Packet)) (number : ℕ) (next : State)
       (stay : Stay State Message) : Type 0 where
-    pub event : Event Packet
+    pub event : NumberedEvent Packet
     pub among : Contains events event
     pub numbered : event.number ≡ number
     pub answered : IsAnsweredAt event next stay
 
   -- a stay that closes with an answer at an event is answered by the packet of that event
-  abbrev pub IsAnswered : List (Event Packet) → Stay State Message → Type 0
+  abbrev pub IsAnswered : List (NumberedEvent Packet) → Stay State Message → Type 0
   IsAnswered events stay = (number : ℕ) (next : State) → stay.closing ≡ Answered number next →
       IsAnsweredAmong events number next stay
 
@@ -99,14 +100,14 @@ module _ {PublicState Packet Message State Exchange Answer Lease : Type 0}
 
   -- where an attempt of the stay is open at the event, and the stay lasts beyond it, the packet is
   -- read as no answer
-  abbrev pub HearsNoAnswer : Event Packet → Packet → Stay State Message → Type 0
+  abbrev pub HearsNoAnswer : NumberedEvent Packet → Packet → Stay State Message → Type 0
   HearsNoAnswer event packet stay = (attempt : Attempt Message) → IsOpenAt event attempt stay →
       LastsPast event.number stay.closing → IsNoAnswer packet stay.setting.state attempt
 
   -- Where no stay is answered at an event, its packet is read as no answer wherever an attempt is
   -- open.
-  abbrev pub MissesNoAnswer : List (Event Packet) → List (Stay State Message) → Type 0
-  MissesNoAnswer events stays = (event : Event Packet) (packet : Packet) →
+  abbrev pub MissesNoAnswer : List (NumberedEvent Packet) → List (Stay State Message) → Type 0
+  MissesNoAnswer events stays = (event : NumberedEvent Packet) (packet : Packet) →
       Contains events event → event.input ≡ Arrival packet →
       All (λ stay. is_answered_at event.number stay.closing ≡ false) stays →
       All (HearsNoAnswer event packet) stays
@@ -134,7 +135,8 @@ module _ {PublicState Packet Message State Exchange Answer Lease : Type 0}
   IsOwnClosing state (Answered event next) = Unit {0}
   IsOwnClosing state (Ended event next) = Unit {0}
 
-  -- each message of a stay is the protocol's: an attempt's, or the release of the lease that is held
+  -- each message of a stay is the protocol's: an attempt's, or the release of the lease that is
+  -- held
   pub record HandsItsOwn (stay : Stay State Message) : Type 0 where
     pub acts : All (IsOwnAct stay.setting.state) stay.acts
     pub closing : IsOwnClosing stay.setting.state stay.closing
@@ -157,7 +159,8 @@ module _ {PublicState Packet Message State Exchange Answer Lease : Type 0}
       LeadsTo stay.closing next.entry next.setting.state × FollowOn (next ∷ stays)
 
   -- What holds of the history of these events, point by point.
-  pub record HoldsByPoint (events : List (Event Packet)) (stays : List (Stay State Message)) :
+  pub record HoldsByPoint (events : List (NumberedEvent Packet))
+      (stays : List (Stay State Message)) :
       Type 0 where
     pub answered : All (IsAnswered events) stays
     pub none_missed : MissesNoAnswer events stays

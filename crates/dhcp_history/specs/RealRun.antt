@@ -3,7 +3,7 @@ use Rattle.std.specs.Prelude.{ℕ, ◌≡◌, Bool, List, [], ◌∷◌, ◌++�
 use Rattle.dhcp_clock.specs.declared.link.Packet.{Packet}
 use Rattle.dhcp_clock.specs.declared.link.Handed.{Handed}
 use Rattle.dhcp_history.specs.Protocol.{Protocol}
-use Rattle.dhcp_history.specs.Script.{Input, Nothing, Event}
+use Rattle.dhcp_history.specs.Script.{Input, Nothing, NumberedEvent}
 use Rattle.dhcp_history.specs.Machine.{View, PollEffect, EventEffect, poll}
 use Rattle.dhcp_history.specs.Run.{input_of}
 use Rattle.dhcp_history.specs.EventLoop.{once_outputs}
@@ -16,25 +16,25 @@ pub record Polled : Type 0 where
   pub packet : Option Packet
 
 -- the event of this poll, with this input; its number is its moment
-abbrev pub event_with : Polled → Input Packet → Event Packet
+abbrev pub event_with : Polled → Input Packet → NumberedEvent Packet
 event_with q input =
     record { number = q.moment; moment = q.moment; refuse = q.refuse; input = input }
 
 -- these events, the first of them with this input
-abbrev pub with_input : Input Packet → List (Event Packet) → List (Event Packet)
+abbrev pub with_input : Input Packet → List (NumberedEvent Packet) → List (NumberedEvent Packet)
 with_input input [] = []
 with_input input (event ∷ events) = record event { input = input } ∷ events
 
 -- the events from this poll on, where these are the ones after it: one that answers a change is of
 -- the same event as the poll that follows
-abbrev pub joined : {State : Type 0} → Option State → Polled → List (Event Packet) →
-    List (Event Packet)
+abbrev pub joined : {State : Type 0} → Option State → Polled → List (NumberedEvent Packet) →
+    List (NumberedEvent Packet)
 joined None q later = event_with q (input_of q.packet) ∷ later
 joined (Some next) q later = with_input (input_of q.packet) later
 
 -- a poll that hands a message and is then given a packet is two events
-abbrev pub sent_first : Option Handed → Option Packet → Polled → List (Event Packet) →
-    List (Event Packet)
+abbrev pub sent_first : Option Handed → Option Packet → Polled → List (NumberedEvent Packet) →
+    List (NumberedEvent Packet)
 sent_first None packet q events = events
 sent_first (Some message) None q events = events
 sent_first (Some message) (Some packet) q events = event_with q Nothing ∷ events
@@ -75,7 +75,7 @@ module _ {PublicState State Exchange Answer Lease : Type 0}
       (FollowedUp (once_of q view).change q.moment qs × Steady (once_of q view).view qs)
 
   -- the events of the script that a run is
-  abbrev pub events_of : View State Exchange → List Polled → List (Event Packet)
+  abbrev pub events_of : View State Exchange → List Polled → List (NumberedEvent Packet)
   events_of view [] = []
   events_of view (q ∷ qs) =
       let once = once_of q view in

@@ -1,7 +1,7 @@
 -- A stay, the time that a client spends in one state, with all its attempts; and where it stands
 -- while it lasts.
 use Rattle.std.specs.Prelude.{ℕ, Bool, true, false, List, Option}
-use Rattle.dhcp_history.specs.Script.{Event}
+use Rattle.dhcp_history.specs.Script.{NumberedEvent}
 
 -- a message that was sent: at which event, at which moment, how long an answer is awaited, and
 -- whether the link refused it
@@ -83,7 +83,7 @@ pub data Outcome (Answer : Type 0) : Type 0 where
 -- on; the words left; what the client does meanwhile
 pub record Heard (Packet Message Answer : Type 0) : Type 0 where
   pub answer : Option Answer
-  pub rest : List (Event Packet)
+  pub rest : List (NumberedEvent Packet)
   pub words : List ℕ
   pub acts : List (Act Message)
 
@@ -91,7 +91,7 @@ pub record Heard (Packet Message Answer : Type 0) : Type 0 where
 -- the last attempt left it, and as it is once its wait is over; the words left
 pub record Finish (Packet Exchange Answer : Type 0) : Type 0 where
   pub outcome : Outcome Answer
-  pub rest : List (Event Packet)
+  pub rest : List (NumberedEvent Packet)
   pub exchange : Exchange
   pub after_wait : Exchange
   pub words : List ℕ
@@ -113,4 +113,4 @@ pub record Transition (Packet Message State Exchange : Type 0) : Type 0 where
   pub acts : List (Act Message)
   pub closing : Closing State Message
   pub entry : Entry State Exchange
-  pub events : List (Event Packet)
+  pub events : List (NumberedEvent Packet)

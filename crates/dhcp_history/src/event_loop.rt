@@ -27,8 +27,8 @@ ghost use Rattle.dhcp_history.specs.EventLoop.{
 };
 
 use crate::{
-    Client, Event, Failure, Input, Output, ReleaseError, Report, Rules, RunError, clean_up,
-    release_held, run,
+    Client, Failure, Input, NumberedEvent, NumberedReport, ReleaseError, Report, Rules, RunError,
+    clean_up, release_held, run,
 };
 use dhcp_clock::{Handed, MemLink, Packet, Words};
 use dhcp_wire::DhcpError;
@@ -57,12 +57,12 @@ fn take_message(link: &mut MemLink) -> Option<Handed>
 fn report<S: Drop>(
     number: u32,
     report: Report<S, Handed>,
-    outputs: &mut Vec<Output<S, Handed>>,
+    outputs: &mut Vec<NumberedReport<S, Handed>>,
 ) -> Result<(), AllocError>
     ensures { OnOk result (outputs.new.items
         ≡ outputs.old.items ++ record { event = number; report = report } ∷ []) }
 {
-    outputs.push(Output {
+    outputs.push(NumberedReport {
         event: number,
         report,
     })?;
@@ -74,7 +74,7 @@ fn report_handed<S: Drop>(
     number: u32,
     refuse: bool,
     handed: Option<Handed>,
-    outputs: &mut Vec<Output<S, Handed>>,
+    outputs: &mut Vec<NumberedReport<S, Handed>>,
 ) -> Result<(), AllocError>
     ensures { OnOk result (outputs.new.items
         ≡ outputs.old.items ++ handed_output number refuse handed) }
@@ -97,7 +97,7 @@ fn report_release<S: Drop>(
     refuse: bool,
     released: Result<bool, ReleaseError>,
     handed: Option<Handed>,
-    outputs: &mut Vec<Output<S, Handed>>,
+    outputs: &mut Vec<NumberedReport<S, Handed>>,
 ) -> Result<(), AllocError>
     ensures memory { OnOk result (released ≡ Err ReleaseError.OutOfMemory → ⊥) }
     ensures outputs { OnOk result (outputs.new.items
@@ -120,7 +120,7 @@ fn report_poll<S: Drop>(
     refuse: bool,
     polled: Result<Option<S>, RunError>,
     handed: Option<Handed>,
-    outputs: &mut Vec<Output<S, Handed>>,
+    outputs: &mut Vec<NumberedReport<S, Handed>>,
 ) -> Result<bool, AllocError>
     ensures memory { OnOk result (has_memory polled ≡ true) }
     ensures again { IfOk result (λ again. again ≡ is_again polled) }
@@ -153,7 +153,7 @@ fn poll_once<R: Rules, W: Words>(
     words: &mut W,
     link: &mut MemLink,
     at: EventHead,
-    outputs: &mut Vec<Output<R::PublicState, Handed>>,
+    outputs: &mut Vec<NumberedReport<R::PublicState, Handed>>,
 ) -> Result<bool, AllocError>
     requires moment { at.moment < 2 ^ 60 }
     requires empty { link.old.shown.handed ≡ [] }
@@ -182,7 +182,7 @@ fn poll_event<R: Rules, W: Words>(
     words: &mut W,
     link: &mut MemLink,
     at: EventHead,
-    outputs: &mut Vec<Output<R::PublicState, Handed>>,
+    outputs: &mut Vec<NumberedReport<R::PublicState, Handed>>,
 ) -> Result<(), AllocError>
     requires moment { at.moment < 2 ^ 60 }
     requires empty { link.old.shown.handed ≡ [] }
@@ -210,7 +210,7 @@ fn release_event<R: Rules>(
     client: &mut Client<R::State, R::Exchange>,
     link: &mut MemLink,
     at: EventHead,
-    outputs: &mut Vec<Output<R::PublicState, Handed>>,
+    outputs: &mut Vec<NumberedReport<R::PublicState, Handed>>,
 ) -> Result<(), AllocError>
     requires empty { link.old.shown.handed ≡ [] }
     requires refuses { link.old.shown.refuses ≡ at.refuse }
@@ -234,7 +234,7 @@ fn call_event<R: Rules>(
     link: &mut MemLink,
     at: EventHead,
     input: Input<Packet>,
-    outputs: &mut Vec<Output<R::PublicState, Handed>>,
+    outputs: &mut Vec<NumberedReport<R::PublicState, Handed>>,
 ) -> Result<(), AllocError>
     requires empty { link.old.shown.handed ≡ [] }
     requires refuses { link.old.shown.refuses ≡ at.refuse }
@@ -270,8 +270,8 @@ pub fn run_event<R: Rules, W: Words>(
     rules: &R,
     client: &mut Client<R::State, R::Exchange>,
     words: &mut W,
-    event: Event<Packet>,
-    outputs: &mut Vec<Output<R::PublicState, Handed>>,
+    event: NumberedEvent<Packet>,
+    outputs: &mut Vec<NumberedReport<R::PublicState, Handed>>,
 ) -> Result<(), AllocError>
     requires { event.moment < 2 ^ 60 }
     ensures reported { OnOk result (IfSome (W.left words.old) (λ drawn.
@@ -299,8 +299,8 @@ fn run_events<R: Rules, W: Words>(
     rules: &R,
     client: &mut Client<R::State, R::Exchange>,
     words: &mut W,
-    events: Vec<Event<Packet>>,
-) -> Result<Vec<Output<R::PublicState, Handed>>, AllocError>
+    events: Vec<NumberedEvent<Packet>>,
+) -> Result<Vec<NumberedReport<R::PublicState, Handed>>, AllocError>
     requires { All (λ event. event.moment < 2 ^ 60) events.items }
     ensures reported { IfOk result (λ reported. IfSome (W.left words.old) (λ drawn.
         HasReported (events_at (R.protocol rules.now) (view_of client.old drawn) events.items)
@@ -326,8 +326,8 @@ pub fn replay<R: Rules, W: Words>(
     rules: &R,
     client: &mut Client<R::State, R::Exchange>,
     words: &mut W,
-    events: Vec<Event<Packet>>,
-) -> Result<Vec<Output<R::PublicState, Handed>>, DhcpError>
+    events: Vec<NumberedEvent<Packet>>,
+) -> Result<Vec<NumberedReport<R::PublicState, Handed>>, DhcpError>
     requires { All (λ event. event.moment < 2 ^ 60) events.items }
     ensures { Replays (R.protocol rules.now) result (λ reported. reported.items) events.items
         client.old client.new (W.left words.old) (W.left words.new) }

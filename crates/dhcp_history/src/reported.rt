@@ -16,22 +16,22 @@ pub trait Plain: Drop {
 
 /// A state as it is reported. Contracts see its contents.
 #[derive(Drop)]
-pub struct Reported<S: Plain> {
+pub struct StateReport<S: Plain> {
     state: S,
 }
 
-impl<S: Plain> Model for Reported<S> {
+impl<S: Plain> Model for StateReport<S> {
     ghost Value = { S.Contents };
 
     ghost view = { λ reported. S.contents reported.state };
 }
 
-impl<S: Plain> Reported<S> {
+impl<S: Plain> StateReport<S> {
     /// Reports this state.
     pub fn new(state: S) -> Self
         ensures { result ≡ S.contents state }
     {
-        Reported { state }
+        StateReport { state }
     }
 
     /// The state.

@@ -15,7 +15,7 @@ pub enum Input<P> {
 
 /// An event of a script.
 #[derive(Debug, Drop)]
-pub struct Event<P> {
+pub struct NumberedEvent<P> {
     /// Its number, by which what is reported names it.
     pub number: u32,
     /// Its moment, in milliseconds.
@@ -50,7 +50,7 @@ pub enum Report<S, M> {
 
 /// A report, with the number of its event.
 #[derive(Debug, Drop)]
-pub struct Output<S, M> {
+pub struct NumberedReport<S, M> {
     /// The number of the event.
     pub event: u32,
     /// What is reported of it.

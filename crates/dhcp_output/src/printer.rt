@@ -41,9 +41,9 @@ pub fn print_outputs(alloc: Global, outputs: &[Output]) -> Result<Bytes, DhcpErr
     Ok(Bytes::from(text.into_bytes()))
 }
 
-// Puts a line for each output at the end of a text. After an error, which is out of memory, a part
-// of them may be there.
-fn push_outputs(alloc: Global, text: &mut String, outputs: &[Output]) -> Result<(), AllocError>
+/// Puts a line for each output at the end of a text. After an error, which is out of memory, a part
+/// of them may be there. A failure of a kind other than `Timeout` is printed as `io_error`.
+pub fn push_outputs(alloc: Global, text: &mut String, outputs: &[Output]) -> Result<(), AllocError>
     ensures { OnOk result (string_bytes text.new
         ≡ string_bytes text.old ++ flat_map output_line (map plain_output outputs.now)) }
 {

@@ -4,7 +4,7 @@ use Rattle.std.specs.Prelude.{All, option_map}
 use Rattle.dhcp_clock.specs.Words.{next_of}
 use Rattle.dhcp_clock.specs.declared.link.Handed.{Handed}
 use Rattle.dhcp_clock.specs.declared.link.Packet.{Packet}
-use Rattle.dhcp_history.specs.declared.script.Event.{Event as LifeEvent}
+use Rattle.dhcp_history.specs.declared.script.NumberedEvent.{NumberedEvent}
 use Rattle.dhcp_history.proofs.HistoryLemmas as kept
 use Rattle.dhcp4_msg.specs.declared.message.DhcpV4Message.{DhcpV4Message}
 use Rattle.dhcp4_msg.specs.declared.message_type.DhcpV4MessageType.{DhcpV4MessageType}
@@ -30,7 +30,7 @@ use Rattle.dhcp_replay.specs.Replayed4.{history4, life_of}
 use Rattle.dhcp_replay.specs.Settles.{ComesInBy, NamesItsBasis}
 use Rattle.dhcp_replay.proofs.SettlesLemmas.{comes_later, stays_named}
 
-module _ (config : Config) (before : Option Lease) (events : List (LifeEvent Packet)) (xid : ℕ) where
+module _ (config : Config) (before : Option Lease) (events : List (NumberedEvent Packet)) (xid : ℕ) where
   abbrev Good : Exchange → Type 0
   Good exchange = exchange.xid ≡ xid
 
@@ -160,6 +160,6 @@ module _ (config : Config) (before : Option Lease) (events : List (LifeEvent Pac
 pub names_its_basis : (config : Config) (lease : Option Lease) (words : List ℕ) (events : List Event) → All (NamesItsBasis (HasBasis config.message_forms lease (numbered 1 events) (next_of words)) (IsMessageOf config (next_of words))) (history4 config lease words events)
 names_its_basis config lease words events =
     let xid : ℕ = next_of words in
-    let all : List (LifeEvent Packet) = numbered 1 events in
+    let all : List (NumberedEvent Packet) = numbered 1 events in
     stays_named (protocol config) (Good config lease all xid) (Held config lease all xid) (Read config lease all xid) (Fits config lease all xid) events (keeps config lease all xid)
     (life_of config lease words events) refl (first_held config lease all xid) refl

@@ -5,7 +5,7 @@ use Rattle.dhcp_clock.specs.declared.link.Handed.{Handed}
 use Rattle.dhcp_clock.specs.declared.link.Packet.{Packet}
 use Rattle.dhcp_history.specs.History.{history}
 use Rattle.dhcp_history.specs.declared.rules.AttemptStart.{AttemptStart}
-use Rattle.dhcp_history.specs.declared.script.Event.{Event as LifeEvent}
+use Rattle.dhcp_history.specs.declared.script.NumberedEvent.{NumberedEvent}
 use Rattle.dhcp_history.proofs.HistoryLemmas as kept
 use Rattle.dhcp6_msg.specs.declared.message_type.DhcpV6MessageType.{DhcpV6MessageType}
 use Rattle.dhcp6_msg.specs.declared.message_type.DhcpV6MessageType.TheVariants.{Advertise, Reply}
@@ -26,7 +26,7 @@ use Rattle.dhcp_replay.specs.Replayed6.{life_of}
 use Rattle.dhcp_replay.specs.Settles.{ComesInBy, NamesItsBasis}
 use Rattle.dhcp_replay.proofs.SettlesLemmas.{comes_later, stays_named}
 
-module _ (config : Config) (before : Option Lease) (events : List (LifeEvent Packet)) where
+module _ (config : Config) (before : Option Lease) (events : List (NumberedEvent Packet)) where
   -- nothing is asked of an exchange: each stay draws its transaction id
   abbrev Good : Exchange → Type 0
   Good exchange = Unit {0}
@@ -135,6 +135,6 @@ module _ (config : Config) (before : Option Lease) (events : List (LifeEvent Pac
 pub names_its_basis : (own config : Config) (lease : Option Lease) (start : ℕ) (words : List ℕ) (events : List Event) →
     All (NamesItsBasis (HasBasis lease (numbered 1 events)) (IsMessageOf own)) (history (protocol own) (life_of config lease start words events))
 names_its_basis own config lease start words events =
-    let all : List (LifeEvent Packet) = numbered 1 events in
+    let all : List (NumberedEvent Packet) = numbered 1 events in
     stays_named (protocol own) (Good own lease all) (Held own lease all) (Read own lease all) (Fits own lease all) events (keeps own lease all)
     (life_of config lease start words events) refl (first_held own lease all config.mode start) tt

@@ -9,11 +9,11 @@ use Rattle.dhcp_history.specs.History.{reading_of}
 use Rattle.dhcp_history.specs.Machine.{EventEffect, PollEffect, View, after_poll, attempt_now, begin_stay, call, call_by, clean_up, end_state, failed_output, handed_output, has_ended, is_listening, is_stopped, limit_is_over, poll, polls, receive, release_of, stop, take_answer, transmit, transmit_and_receive}
 use Rattle.dhcp_history.specs.Protocol.{Protocol, has_come}
 use Rattle.dhcp_history.specs.Script.{after_call}
-use Rattle.dhcp_history.specs.declared.script.Event.{Event as LifeEvent}
+use Rattle.dhcp_history.specs.declared.script.NumberedEvent.{NumberedEvent}
 use Rattle.dhcp_history.specs.declared.script.Failure.TheVariants as failures
 use Rattle.dhcp_history.specs.declared.script.Input.{Input}
 use Rattle.dhcp_history.specs.declared.script.Input.TheVariants as inputs
-use Rattle.dhcp_history.specs.declared.script.Output.{Output as LifeOutput}
+use Rattle.dhcp_history.specs.declared.script.NumberedReport.{NumberedReport}
 use Rattle.dhcp_history.specs.declared.script.Report.{Report}
 use Rattle.dhcp_history.specs.declared.script.Report.TheVariants as reports
 
@@ -28,10 +28,10 @@ module _ {PublicState : Type 0} (Says : PublicState → Type 0) where
   SaysReport (reports.Refused message) = Unit {0}
   SaysReport (reports.Failed failure) = Unit {0}
 
-  abbrev pub AllSaid : List (LifeOutput PublicState Handed) → Type 0
-  AllSaid outputs = AllByRecursion (λ (output : LifeOutput PublicState Handed). SaysReport output.report) outputs
+  abbrev pub AllSaid : List (NumberedReport PublicState Handed) → Type 0
+  AllSaid outputs = AllByRecursion (λ (output : NumberedReport PublicState Handed). SaysReport output.report) outputs
 
-  said-append : (xs ys : List (LifeOutput PublicState Handed)) → AllSaid xs → AllSaid ys → AllSaid (xs ++ ys)
+  said-append : (xs ys : List (NumberedReport PublicState Handed)) → AllSaid xs → AllSaid ys → AllSaid (xs ++ ys)
   said-append [] ys hx hy = hy
   said-append (x ∷ xs) ys hx hy = (hx.0, said-append xs ys hx.1 hy)
 
@@ -45,7 +45,7 @@ module _ {PublicState : Type 0} (Says : PublicState → Type 0) where
   failed_said number false = tt
 
   -- what is said of every state
-  pub said_of_each : ((state : PublicState) → Says state) → (outputs : List (LifeOutput PublicState Handed)) → AllSaid outputs
+  pub said_of_each : ((state : PublicState) → Says state) → (outputs : List (NumberedReport PublicState Handed)) → AllSaid outputs
   said_of_each each [] = tt
   said_of_each each (output ∷ outputs) = (go output.report, said_of_each each outputs)
     where
@@ -105,7 +105,7 @@ module _ {PublicState State Exchange Answer Lease : Type 0} (p : Protocol Public
       (fine_if (limit_is_over p now view) (stop input view) later (none_fine (stop input view) refl)
       (fine_if (has_ended p now view) (end_state p now input view) tried (end_fine now input view) (try_fine now refuse input (begin_stay p now view))))
 
-  polls_said : (fuel : ℕ) (event : LifeEvent Packet) (view : View State Exchange) → AllSaid Says (polls p fuel event view).outputs
+  polls_said : (fuel : ℕ) (event : NumberedEvent Packet) (view : View State Exchange) → AllSaid Says (polls p fuel event view).outputs
   polls_said zero event view = tt
   polls_said (suc fuel) event view = go once.change (poll_fine event.moment event.refuse event.input view) (λ left next. polls_said fuel left next)
     where
@@ -113,14 +113,14 @@ module _ {PublicState State Exchange Answer Lease : Type 0} (p : Protocol Public
       once = poll p event.moment event.refuse event.input view
 
       go : (change : Option State) → ((next : State) → change ≡ Some next → Says (p.public_state next)) →
-          ((left : LifeEvent Packet) (next : View State Exchange) → AllSaid Says (polls p fuel left next).outputs) → AllSaid Says (after_poll p (polls p fuel) event change once).outputs
+          ((left : NumberedEvent Packet) (next : View State Exchange) → AllSaid Says (polls p fuel left next).outputs) → AllSaid Says (after_poll p (polls p fuel) event change once).outputs
       go None fine ih = said-append Says (handed_output event.number event.refuse once.handed) (failed_output event.number once.failed) (handed_said Says event.number event.refuse once.handed) (failed_said Says event.number once.failed)
       go (Some next) fine ih =
-          let left : LifeEvent Packet = record event { input = once.left } in
+          let left : NumberedEvent Packet = record event { input = once.left } in
           said-append Says (handed_output event.number event.refuse once.handed) (record { event = event.number; report = reports.Changed (p.public_state next) } ∷ (polls p fuel left once.view).outputs)
           (handed_said Says event.number event.refuse once.handed) (fine next refl, ih left once.view)
 
-  released_said : (lease : Option Lease) (event : LifeEvent Packet) (view : View State Exchange) → AllSaid Says (release_of p lease event view).outputs
+  released_said : (lease : Option Lease) (event : NumberedEvent Packet) (view : View State Exchange) → AllSaid Says (release_of p lease event view).outputs
   released_said None event view = tt
   released_said (Some lease) event view = go event.refuse
     where
@@ -131,19 +131,19 @@ module _ {PublicState State Exchange Answer Lease : Type 0} (p : Protocol Public
       go true = (tt, (tt, tt))
       go false = (tt, tt)
 
-  call_said : (input : Input Packet) (event : LifeEvent Packet) (view : View State Exchange) → AllSaid Says (call_by p input event view).outputs
+  call_said : (input : Input Packet) (event : NumberedEvent Packet) (view : View State Exchange) → AllSaid Says (call_by p input event view).outputs
   call_said inputs.Nothing event view = tt
   call_said (inputs.Arrival packet) event view = tt
   call_said inputs.Release event view = released_said (p.held_lease view.state) event view
   call_said inputs.CleanUp event view = tt
 
-  event_said : (event : LifeEvent Packet) (view : View State Exchange) → AllSaid Says (event_at p event view).outputs
+  event_said : (event : NumberedEvent Packet) (view : View State Exchange) → AllSaid Says (event_at p event view).outputs
   unfolding call_at polls_at
   event_said event view =
       said-append Says (call p event view).outputs (polls p 7 (after_call event) (call p event view).view).outputs
       (call_said event.input event view) (polls_said 7 (after_call event) (call p event view).view)
 
-  pub events_said : (view : View State Exchange) (events : List (LifeEvent Packet)) → AllSaid Says (events_at p view events).outputs
+  pub events_said : (view : View State Exchange) (events : List (NumberedEvent Packet)) → AllSaid Says (events_at p view events).outputs
   events_said view [] = tt
   events_said view (event ∷ events) =
       said-append Says (event_at p event view).outputs (events_at p (event_at p event view).view events).outputs

@@ -13,7 +13,7 @@ use Rattle.dhcp_history.specs.Machine.{View, first_view}
 use Rattle.dhcp_history.specs.Protocol.{Protocol}
 use Rattle.dhcp_history.specs.Rules.{GivesDrawn}
 use Rattle.dhcp_history.specs.Script.{Script}
-use Rattle.dhcp_history.specs.declared.script.Event.{Event as LifeEvent}
+use Rattle.dhcp_history.specs.declared.script.NumberedEvent.{NumberedEvent}
 
 -- a next word is drawn
 pub next_drawn : (before after : Option (List ℕ)) (word : ℕ) → GivesNext before word after → GivesDrawn drawn_word before word after
@@ -70,7 +70,7 @@ module _ {Config X PublicState State Exchange Answer Lease : Type 0} (protocol :
         go None drawn = tt
         go (Some words) drawn = after_draw (λ words. Says) (draws words).left after drawn.1 says
 
-    module _ (made : List (LifeEvent Packet)) (made_is : (words : List ℕ) → made ≡ (life_of words).events) where
+    module _ (made : List (NumberedEvent Packet)) (made_is : (words : List ℕ) → made ≡ (life_of words).events) where
       -- what holds of each life that the client begins
       abbrev pub Reports : (Config → Script Packet State Exchange → Type 0) → List ℕ → Type 0
       Reports Is left = (script : Script Packet State Exchange) → view_of client left ≡ first_view script → script.events ≡ made → Is own script
@@ -105,7 +105,7 @@ module _ {Config X PublicState State Exchange Answer Lease : Type 0} (protocol :
                 let same : (events_at (protocol own) (view_of client (draws words).left) made).view ≡ (events_at (protocol (config_in words)) first (life_of words).events).view =
                 ap (λ (c : Config). (events_at (protocol c) (view_of client (draws words).left) made).view) begins.config
                 ∙ ap (λ (view : View State Exchange). (events_at (protocol (config_in words)) view made).view) begins.view
-                ∙ ap (λ (all : List (LifeEvent Packet)). (events_at (protocol (config_in words)) first all).view) (made_is words) in
+                ∙ ap (λ (all : List (NumberedEvent Packet)). (events_at (protocol (config_in words)) first all).view) (made_is words) in
                 subst Ends same left_so
 
 -- what follows of some words, follows where they are exposed

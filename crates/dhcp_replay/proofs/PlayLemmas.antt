@@ -10,20 +10,20 @@ use Rattle.dhcp_history.specs.History.{history, outputs}
 use Rattle.dhcp_history.specs.Machine.{first_view}
 use Rattle.dhcp_history.specs.Protocol.{Protocol}
 use Rattle.dhcp_history.specs.Script.{Script}
-use Rattle.dhcp_history.specs.declared.script.Event.{Event as LifeEvent}
-use Rattle.dhcp_history.specs.declared.script.Output.{Output as LifeOutput}
+use Rattle.dhcp_history.specs.declared.script.NumberedEvent.{NumberedEvent}
+use Rattle.dhcp_history.specs.declared.script.NumberedReport.{NumberedReport}
 use Rattle.dhcp_output.specs.Output.{PlainOutput, PlainReport}
 use Rattle.dhcp_script.specs.declared.event.Event.{Event}
 use Rattle.dhcp_replay.specs.Life.{IsPlayed, numbered, output_of}
 
 module _ {Config PublicState State Exchange Answer Lease : Type 0} (protocol : Config → Protocol PublicState Packet Handed State Exchange Answer Lease) (changed : PublicState → PlainReport)
-    (events : List Event) (made : List (LifeEvent Packet)) (made_is : made ≡ numbered 1 events) (items : List (LifeOutput PublicState Handed)) (outs : List PlainOutput) (outs_are : outs ≡ map (output_of changed) items)
+    (events : List Event) (made : List (NumberedEvent Packet)) (made_is : made ≡ numbered 1 events) (items : List (NumberedReport PublicState Handed)) (outs : List PlainOutput) (outs_are : outs ≡ map (output_of changed) items)
     (old new : ClientParts Config State Exchange) (drawn left : Option (List ℕ)) where
   -- over the events that were made
-  abbrev ReportedOver : List (LifeEvent Packet) → Type 0
+  abbrev ReportedOver : List (NumberedEvent Packet) → Type 0
   ReportedOver all = IfSome drawn (λ words. HasReported (events_at (protocol old.config) (view_of old.client words) all) [] items (view_of new.client) left)
 
-  abbrev HistoryOver : List (LifeEvent Packet) → Type 0
+  abbrev HistoryOver : List (NumberedEvent Packet) → Type 0
   HistoryOver all =
       IfSome drawn (λ words. (life : Script Packet State Exchange) → view_of old.client words ≡ first_view life → life.events ≡ all → items ≡ outputs (protocol old.config) (history (protocol old.config) life))
 

@@ -10,7 +10,7 @@ use Rattle.std.proofs.lemmas.Bool.{false≢true, and_parts, leb-true, ltb-true}
 use Rattle.dhcp_wire.specs.Error.{ErrorParts, no_memory}
 use Rattle.dhcp_wire.specs.declared.error.ErrorKind.TheVariants.{InvalidArgument}
 use Rattle.dhcp_clock.specs.declared.link.Packet.{Packet}
-use Rattle.dhcp_history.specs.declared.script.Event.{Event as LifeEvent}
+use Rattle.dhcp_history.specs.declared.script.NumberedEvent.{NumberedEvent}
 use Rattle.dhcp_history.specs.declared.script.Input.{Input}
 use Rattle.dhcp_script.specs.Event.{are_in_order, are_valid, is_within_limits, moment_limit, most_events, most_packet_bytes, packet_of}
 use Rattle.dhcp_script.specs.declared.event.Event.{Event}
@@ -32,21 +32,21 @@ numbered_more i events event below is =
     ap (λ (all : List Event). numbered 1 all) longer ∙ numbered-append 1 (take i events) event ∙ ap (λ (n : ℕ). numbered 1 (take i events) ++ numbered_event (1 + n) event ∷ []) count
 
 -- and so where it is put at the end of those made so far
-pub numbered_push : (i : ℕ) (events : List Event) (event : Event) (made items : List (LifeEvent Packet)) (number : ℕ) (input : Input Packet) →
+pub numbered_push : (i : ℕ) (events : List Event) (event : Event) (made items : List (NumberedEvent Packet)) (number : ℕ) (input : Input Packet) →
     i < length events → event ≡ get_or events i event → made ≡ numbered 1 (take i events) → number ≡ 1 + i → input ≡ input_of event.what →
     items ≡ made ++ record { number = number; moment = event.moment; refuse = event.refuse; input = input } ∷ [] → items ≡ numbered 1 (take (i + 1) events)
 numbered_push i events event made items number input below is made_is number_is input_is pushed =
-    let entry : ℕ → Input Packet → LifeEvent Packet = λ n brought. record { number = n; moment = event.moment; refuse = event.refuse; input = brought } in
-    pushed ∙ ap (λ (front : List (LifeEvent Packet)). front ++ entry number input ∷ []) made_is
+    let entry : ℕ → Input Packet → NumberedEvent Packet = λ n brought. record { number = n; moment = event.moment; refuse = event.refuse; input = brought } in
+    pushed ∙ ap (λ (front : List (NumberedEvent Packet)). front ++ entry number input ∷ []) made_is
     ∙ ap (λ (n : ℕ). numbered 1 (take i events) ++ entry n input ∷ []) number_is
     ∙ ap (λ (brought : Input Packet). numbered 1 (take i events) ++ entry (1 + i) brought ∷ []) input_is
     ∙ sym (numbered_more i events event below is)
 
 -- every moment is below 2^60
-numbered_below : (n : ℕ) (events : List Event) → AllPass is_within_limits events → All (λ (event : LifeEvent Packet). event.moment < 2 ^ 60) (numbered n events)
-numbered_below n [] all = All-nil (λ (event : LifeEvent Packet). event.moment < 2 ^ 60)
+numbered_below : (n : ℕ) (events : List Event) → AllPass is_within_limits events → All (λ (event : NumberedEvent Packet). event.moment < 2 ^ 60) (numbered n events)
+numbered_below n [] all = All-nil (λ (event : NumberedEvent Packet). event.moment < 2 ^ 60)
 numbered_below n (event ∷ events) all =
-    All-cons (λ (event : LifeEvent Packet). event.moment < 2 ^ 60) (numbered_event n event) (numbered (suc n) events)
+    All-cons (λ (event : NumberedEvent Packet). event.moment < 2 ^ 60) (numbered_event n event) (numbered (suc n) events)
     (ltb-true event.moment moment_limit (and_parts (nat_lt event.moment moment_limit) (nat_le (length (packet_of event.what)) most_packet_bytes) (All-head (λ (e : Event). is_within_limits e ≡ true) event events all)).0)
     (numbered_below (suc n) events (All-tail (λ (e : Event). is_within_limits e ≡ true) event events all))
 
@@ -73,9 +73,9 @@ few_events : (start : ℕ) (events : List Event) → are_valid start events ≡ 
 few_events start events valid = leb-true (length events) most_events (valid_parts start events valid).few
 
 -- and their moments are below 2^60
-moments_below : (start : ℕ) (events : List Event) (made : List (LifeEvent Packet)) → made ≡ numbered 1 events → are_valid start events ≡ true → All (λ (event : LifeEvent Packet). event.moment < 2 ^ 60) made
+moments_below : (start : ℕ) (events : List Event) (made : List (NumberedEvent Packet)) → made ≡ numbered 1 events → are_valid start events ≡ true → All (λ (event : NumberedEvent Packet). event.moment < 2 ^ 60) made
 moments_below start events made is valid =
-    let Below : List (LifeEvent Packet) → Type 0 = λ all. All (λ (event : LifeEvent Packet). event.moment < 2 ^ 60) all in
+    let Below : List (NumberedEvent Packet) → Type 0 = λ all. All (λ (event : NumberedEvent Packet). event.moment < 2 ^ 60) all in
     subst Below (sym is) (numbered_below 1 events (AllPass-from_list_all is_within_limits events (valid_parts start events valid).within))
 
 -- so they can be played

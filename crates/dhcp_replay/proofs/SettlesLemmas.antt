@@ -11,7 +11,7 @@ use Rattle.dhcp_history.specs.History.{Stay, history}
 use Rattle.dhcp_history.specs.Machine.{View, polls}
 use Rattle.dhcp_history.specs.Protocol.{Protocol}
 use Rattle.dhcp_history.specs.Script.{Script, after_call}
-use Rattle.dhcp_history.specs.declared.script.Event.{Event as LifeEvent}
+use Rattle.dhcp_history.specs.declared.script.NumberedEvent.{NumberedEvent}
 use Rattle.dhcp_history.specs.declared.script.Input.{Input}
 use Rattle.dhcp_history.specs.declared.script.Input.TheVariants as inputs
 use Rattle.dhcp_history.proofs.HistoryLemmas as kept
@@ -21,11 +21,11 @@ use Rattle.dhcp_replay.specs.Settles.{ComesInBy, NamesItsBasis, SettlesAtEach}
 
 -- what holds of the polls of every event, holds at each event
 module _ {PublicState State Exchange Answer Lease : Type 0} (p : Protocol PublicState Packet Handed State Exchange Answer Lease)
-    (seven : (fuel : ℕ) (event : LifeEvent Packet) (client : View State Exchange) → poll_count p fuel event client ≤ 7)
-    (six : (fuel : ℕ) (event : LifeEvent Packet) (client : View State Exchange) → count_of is_change (polls p fuel event client).outputs ≤ 6)
-    (two : (fuel : ℕ) (event : LifeEvent Packet) (client : View State Exchange) → count_of is_send (polls p fuel event client).outputs ≤ 2)
-    (within : (event : LifeEvent Packet) (client : View State Exchange) → IsWithinState p event.moment (polls p 7 event client).view) where
-  pub settles_at_each : (client : View State Exchange) (events : List (LifeEvent Packet)) → SettlesAtEach p client events
+    (seven : (fuel : ℕ) (event : NumberedEvent Packet) (client : View State Exchange) → poll_count p fuel event client ≤ 7)
+    (six : (fuel : ℕ) (event : NumberedEvent Packet) (client : View State Exchange) → count_of is_change (polls p fuel event client).outputs ≤ 6)
+    (two : (fuel : ℕ) (event : NumberedEvent Packet) (client : View State Exchange) → count_of is_send (polls p fuel event client).outputs ≤ 2)
+    (within : (event : NumberedEvent Packet) (client : View State Exchange) → IsWithinState p event.moment (polls p 7 event client).view) where
+  pub settles_at_each : (client : View State Exchange) (events : List (NumberedEvent Packet)) → SettlesAtEach p client events
   settles_at_each client [] = tt
   settles_at_each client (event ∷ events) = (
     record {
@@ -38,7 +38,7 @@ module _ {PublicState State Exchange Answer Lease : Type 0} (p : Protocol Public
   )
 
 -- what comes in by the event with a number comes in by each later one
-pub comes_later : (events : List (LifeEvent Packet)) (number more : ℕ) (packet : Packet) → number ≤ more → ComesInBy events number packet → ComesInBy events more packet
+pub comes_later : (events : List (NumberedEvent Packet)) (number more : ℕ) (packet : Packet) → number ≤ more → ComesInBy events number packet → ComesInBy events more packet
 comes_later events number more packet le comes = record { event = comes.event; is_among = comes.is_among; brings = comes.brings; earlier = omega (arith, le, comes.earlier) }
 
 -- what a protocol keeps of states and messages, where the packets of these events come in, holds of each stay
@@ -47,7 +47,7 @@ module _ {PublicState State Exchange Answer Lease : Type 0} (p : Protocol Public
   abbrev Comes : ℕ → Packet → Type 0
   Comes = ComesInBy (numbered 1 events)
 
-  comes_in : (event : LifeEvent Packet) → Contains (numbered 1 events) event → (input : Input Packet) → event.input ≡ input → kept.ComesIn p Good Held Read Comes Fits event.number input
+  comes_in : (event : NumberedEvent Packet) → Contains (numbered 1 events) event → (input : Input Packet) → event.input ≡ input → kept.ComesIn p Good Held Read Comes Fits event.number input
   comes_in event among (inputs.Arrival packet) is = record { event = event; is_among = among; brings = is; earlier = omega arith }
   comes_in event among inputs.Nothing is = tt
   comes_in event among inputs.Release is = tt

@@ -11,9 +11,9 @@ use Rattle.dhcp_clock.specs.declared.link.Handed.{Handed}
 use Rattle.dhcp_clock.specs.declared.link.Packet.{Packet}
 use Rattle.dhcp_history.specs.EventLoop.{HasReported, events_at}
 use Rattle.dhcp_history.specs.Machine.{View}
-use Rattle.dhcp_history.specs.declared.script.Event.{Event as LifeEvent}
+use Rattle.dhcp_history.specs.declared.script.NumberedEvent.{NumberedEvent}
 use Rattle.dhcp_history.specs.declared.script.Failure.TheVariants as failures
-use Rattle.dhcp_history.specs.declared.script.Output.{Output as LifeOutput}
+use Rattle.dhcp_history.specs.declared.script.NumberedReport.{NumberedReport}
 use Rattle.dhcp_history.specs.declared.script.Report.{Report}
 use Rattle.dhcp_history.specs.declared.script.Report.TheVariants as reports
 use Rattle.dhcp4_client.specs.declared.state.PlainState as states4
@@ -73,21 +73,21 @@ module _ {State : Type 0} (changed : State → PlainReport) (Says : State → Ty
   report_plain (reports.Failed failures.TimedOut) said = inl refl
   report_plain (reports.Failed failures.SendRefused) said = inr refl
 
-  all_plain : (items : List (LifeOutput State Handed)) → AllSaid Says items → AllPlain (map (output_of changed) items)
+  all_plain : (items : List (NumberedReport State Handed)) → AllSaid Says items → AllPlain (map (output_of changed) items)
   all_plain [] said = tt
   all_plain (item ∷ items) said = (report_plain item.report said.0, all_plain items said.1)
 
-  reported_texts : (outputs : List Output) (items : List (LifeOutput State Handed)) → map plain_output outputs ≡ map (output_of changed) items → AllSaid Says items → All HasFailureText outputs
+  reported_texts : (outputs : List Output) (items : List (NumberedReport State Handed)) → map plain_output outputs ≡ map (output_of changed) items → AllSaid Says items → All HasFailureText outputs
   reported_texts outputs items is said = have_texts outputs (subst AllPlain (sym is) (all_plain items said))
 
 -- of an IPv4 client
-pub texts4 : (outputs : List Output) (items : List (LifeOutput states4.PlainState Handed)) → map plain_output outputs ≡ map (output_of changed_v4) items → All HasFailureText outputs
+pub texts4 : (outputs : List Output) (items : List (NumberedReport states4.PlainState Handed)) → map plain_output outputs ≡ map (output_of changed_v4) items → All HasFailureText outputs
 texts4 outputs items is =
     let Says : states4.PlainState → Type 0 = λ state. Unit {0} in
     reported_texts changed_v4 Says (λ state said. tt) outputs items is (said_of_each Says (λ state. tt) items)
 
 -- of a client for configuration alone
-pub texts_info : (outputs : List Output) (items : List (LifeOutput PlainInfoState Handed)) → map plain_output outputs ≡ map (output_of changed_info) items → All HasFailureText outputs
+pub texts_info : (outputs : List Output) (items : List (NumberedReport PlainInfoState Handed)) → map plain_output outputs ≡ map (output_of changed_info) items → All HasFailureText outputs
 texts_info outputs items is =
     let Says : PlainInfoState → Type 0 = λ state. Unit {0} in
     reported_texts changed_info Says (λ state said. tt) outputs items is (said_of_each Says (λ state. tt) items)
@@ -145,7 +145,7 @@ ended_text (Renew bound) exchange = tt
 ended_text (Rebind bound) exchange = tt
 
 -- of an IPv6 client, where its words are exposed
-pub texts6 : (config : Config) (view : List ℕ → View ClientState Exchange) (made : List (LifeEvent Packet)) (outputs : List Output) (items : List (LifeOutput states6.PlainState Handed)) (new : List ℕ → View ClientState Exchange) (left exposed : Option (List ℕ)) →
+pub texts6 : (config : Config) (view : List ℕ → View ClientState Exchange) (made : List (NumberedEvent Packet)) (outputs : List Output) (items : List (NumberedReport states6.PlainState Handed)) (new : List ℕ → View ClientState Exchange) (left exposed : Option (List ℕ)) →
     map plain_output outputs ≡ map (output_of changed_v6) items → IfSome exposed (λ drawn. HasReported (events_at (protocol config) (view drawn) made) [] items new left) → IfSome exposed (λ drawn. All HasFailureText outputs)
 texts6 config view made outputs items new left None is reported = tt
 texts6 config view made outputs items new left (Some drawn) is reported =

@@ -14,11 +14,11 @@ use Rattle.dhcp_history.specs.Machine.{View, first_view}
 use Rattle.dhcp_history.specs.Protocol.{Protocol}
 use Rattle.dhcp_history.specs.Script.{Script}
 use Rattle.dhcp_history.specs.declared.client.Client.{Client}
-use Rattle.dhcp_history.specs.declared.script.Event.{Event as LifeEvent}
+use Rattle.dhcp_history.specs.declared.script.NumberedEvent.{NumberedEvent}
 use Rattle.dhcp_history.specs.declared.script.Failure.TheVariants as failures
 use Rattle.dhcp_history.specs.declared.script.Input.{Input}
 use Rattle.dhcp_history.specs.declared.script.Input.TheVariants as inputs
-use Rattle.dhcp_history.specs.declared.script.Output.{Output as LifeOutput}
+use Rattle.dhcp_history.specs.declared.script.NumberedReport.{NumberedReport}
 use Rattle.dhcp_history.specs.declared.script.Report.{Report}
 use Rattle.dhcp_history.specs.declared.script.Report.TheVariants as reports
 use Rattle.dhcp_output.specs.Output.{PlainOutput, PlainReport, handed, refused, failed}
@@ -48,7 +48,7 @@ input_of Release = inputs.Release
 input_of CleanUp = inputs.CleanUp
 
 -- an event by its number
-abbrev pub numbered_event : ℕ → Event → LifeEvent Packet
+abbrev pub numbered_event : ℕ → Event → NumberedEvent Packet
 numbered_event number event = record {
   number = number;
   moment = event.moment;
@@ -57,7 +57,7 @@ numbered_event number event = record {
 }
 
 -- events by their numbers, from this one on
-abbrev pub numbered : ℕ → List Event → List (LifeEvent Packet)
+abbrev pub numbered : ℕ → List Event → List (NumberedEvent Packet)
 numbered number [] = []
 numbered number (event ∷ events) = numbered_event number event ∷ numbered (suc number) events
 
@@ -71,7 +71,7 @@ report_of changed (reports.Changed state) = changed state
 report_of changed (reports.Failed failures.TimedOut) = failed Timeout
 report_of changed (reports.Failed failures.SendRefused) = failed IoError
 
-abbrev pub output_of : {State : Type 0} → (State → PlainReport) → LifeOutput State Handed →
+abbrev pub output_of : {State : Type 0} → (State → PlainReport) → NumberedReport State Handed →
     PlainOutput
 output_of changed output =
     record { event = output.event; report = report_of changed output.report }
@@ -102,7 +102,7 @@ module _ {Config PublicState State Exchange Answer Lease : Type 0}
   -- and what the history of each life reports that it begins and that has these events.
   pub record IsPlayed (events : List Event) (outs : List PlainOutput)
       (old new : ClientParts Config State Exchange) (drawn left : Option (List ℕ)) : Type 0 where
-    pub items : List (LifeOutput PublicState Handed)
+    pub items : List (NumberedReport PublicState Handed)
     pub outputs_are : outs ≡ map (output_of changed) items
     pub reported : IfSome drawn (λ words.
         HasReported (events_at (protocol old.config) (view_of old.client words)

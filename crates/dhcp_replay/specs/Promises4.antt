@@ -7,7 +7,7 @@ use Rattle.dhcp_history.specs.Bounds.{KeepsDistance, allowed, count_of, is_send_
 use Rattle.dhcp_history.specs.History.{outputs}
 use Rattle.dhcp_history.specs.Machine.{first_view}
 use Rattle.dhcp_history.specs.Points.{HoldsByPoint, Rises}
-use Rattle.dhcp_history.specs.declared.script.Event.{Event as LifeEvent}
+use Rattle.dhcp_history.specs.declared.script.NumberedEvent.{NumberedEvent}
 use Rattle.dhcp4_msg.specs.declared.message_type.DhcpV4MessageType.{DhcpV4MessageType}
 use Rattle.dhcp4_msg.specs.declared.message_type.DhcpV4MessageType.TheVariants.{Offer, Ack}
 use Rattle.dhcp4_lease.specs.Config.{Config}
@@ -31,7 +31,7 @@ use Rattle.dhcp_replay.specs.Settles.{ComesInBy, NamesItsBasis, SettlesAtEach}
 
 -- The lease is read from a packet that comes in by the event with this number, as the answer to a
 -- transaction id, in a state that awaits, by these forms of messages, a message of this type.
-pub record IsReadFrom (forms : DhcpV4MessageForms) (events : List (LifeEvent Packet))
+pub record IsReadFrom (forms : DhcpV4MessageForms) (events : List (NumberedEvent Packet))
     (xid last : ℕ) (kind : DhcpV4MessageType) (lease : Lease) : Type 0 where
   pub packet : Packet
   pub comes_in : ComesInBy events last packet
@@ -44,7 +44,7 @@ pub record IsReadFrom (forms : DhcpV4MessageForms) (events : List (LifeEvent Pac
 -- Where the offer or the lease of a state that is entered at the event with this number comes from:
 -- it was read from a packet that came by then, the offer from an Offer and the lease from an Ack;
 -- or it is the lease that the client held before.
-abbrev pub HasBasis : DhcpV4MessageForms → Option Lease → List (LifeEvent Packet) → ℕ → ℕ →
+abbrev pub HasBasis : DhcpV4MessageForms → Option Lease → List (NumberedEvent Packet) → ℕ → ℕ →
     ClientState → Type 0
 HasBasis forms before events xid entry InitReboot = Unit {0}
 HasBasis forms before events xid entry (Selecting offer) =

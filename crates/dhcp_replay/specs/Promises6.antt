@@ -7,7 +7,7 @@ use Rattle.dhcp_history.specs.History.{history, outputs}
 use Rattle.dhcp_history.specs.Machine.{first_view}
 use Rattle.dhcp_history.specs.Points.{HoldsByPoint, Rises}
 use Rattle.dhcp_history.specs.Script.{Script}
-use Rattle.dhcp_history.specs.declared.script.Event.{Event as LifeEvent}
+use Rattle.dhcp_history.specs.declared.script.NumberedEvent.{NumberedEvent}
 use Rattle.dhcp6_msg.specs.declared.message_type.DhcpV6MessageType.{DhcpV6MessageType}
 use Rattle.dhcp6_msg.specs.declared.message_type.DhcpV6MessageType.TheVariants.{Advertise, Reply}
 use Rattle.dhcp6_msg.specs.Config.{Config}
@@ -28,7 +28,7 @@ use Rattle.dhcp_replay.specs.Settles.{ComesInBy, NamesItsBasis, SettlesAtEach}
 
 -- The lease is read from a packet that comes in by the event with this number, as the answer to a
 -- transaction id where a message of this type is awaited.
-pub record IsReadFrom (events : List (LifeEvent Packet)) (last : ℕ) (kind : DhcpV6MessageType)
+pub record IsReadFrom (events : List (NumberedEvent Packet)) (last : ℕ) (kind : DhcpV6MessageType)
     (lease : Lease) : Type 0 where
   pub packet : Packet
   pub comes_in : ComesInBy events last packet
@@ -37,13 +37,13 @@ pub record IsReadFrom (events : List (LifeEvent Packet)) (last : ℕ) (kind : Dh
 
 -- where a lease comes from: it was read from a Reply that came by the event with this number, or
 -- the client held it before
-abbrev pub IsKnown : Option Lease → List (LifeEvent Packet) → ℕ → Lease → Type 0
+abbrev pub IsKnown : Option Lease → List (NumberedEvent Packet) → ℕ → Lease → Type 0
 IsKnown before events last lease = IsReadFrom events last Reply lease ⊎ (before ≡ Some lease)
 
 -- Where the offer or the lease of a state that is entered at the event with this number comes from:
 -- it was read from a packet that came by then, the offer from an Advertise and the lease from a
 -- Reply; or, in a client that renews, it may be the lease that the client held before.
-abbrev pub HasBasis : Option Lease → List (LifeEvent Packet) → ℕ → ClientState → Type 0
+abbrev pub HasBasis : Option Lease → List (NumberedEvent Packet) → ℕ → ClientState → Type 0
 HasBasis before events entry Solicit = Unit {0}
 HasBasis before events entry (Request offer) = IsReadFrom events entry Advertise offer
 HasBasis before events entry (Done bound) = IsReadFrom events entry Reply bound.lease

@@ -9,7 +9,7 @@ use Rattle.dhcp_history.specs.History.{Stay}
 use Rattle.dhcp_history.specs.Machine.{View, polls}
 use Rattle.dhcp_history.specs.Protocol.{Protocol}
 use Rattle.dhcp_history.specs.Script.{after_call}
-use Rattle.dhcp_history.specs.declared.script.Event.{Event as LifeEvent}
+use Rattle.dhcp_history.specs.declared.script.NumberedEvent.{NumberedEvent}
 use Rattle.dhcp_history.specs.declared.script.Input.TheVariants.{Arrival}
 
 module _ {PublicState State Exchange Answer Lease : Type 0}
@@ -17,22 +17,23 @@ module _ {PublicState State Exchange Answer Lease : Type 0}
   -- At an event, after its call, the client is polled at most seven times, changes its state at
   -- most six times, and hands at most two messages to the link. After the polls a client without a
   -- kept error is in no state whose end has come.
-  pub record SettlesAt (event : LifeEvent Packet) (client : View State Exchange) : Type 0 where
+  pub record SettlesAt (event : NumberedEvent Packet) (client : View State Exchange) : Type 0 where
     pub seven_polls : (fuel : ℕ) → poll_count p fuel event client ≤ 7
     pub six_changes : (fuel : ℕ) → count_of is_change (polls p fuel event client).outputs ≤ 6
     pub two_messages : (fuel : ℕ) → count_of is_send (polls p fuel event client).outputs ≤ 2
     pub not_overdue : IsWithinState p event.moment (polls p 7 event client).view
 
   -- and so at each of these events
-  abbrev pub SettlesAtEach : View State Exchange → List (LifeEvent Packet) → Type 0
+  abbrev pub SettlesAtEach : View State Exchange → List (NumberedEvent Packet) → Type 0
   SettlesAtEach client [] = Unit {0}
   SettlesAtEach client (event ∷ events) =
       SettlesAt (after_call event) (call_at p event client).view
       × SettlesAtEach (event_at p event client).view events
 
 -- the packet comes in at one of these events, at the one with this number or an earlier one
-pub record ComesInBy (events : List (LifeEvent Packet)) (last : ℕ) (packet : Packet) : Type 0 where
-  pub event : LifeEvent Packet
+pub record ComesInBy (events : List (NumberedEvent Packet)) (last : ℕ)
+    (packet : Packet) : Type 0 where
+  pub event : NumberedEvent Packet
   pub is_among : Contains events event
   pub brings : event.input ≡ Arrival packet
   pub earlier : event.number ≤ last

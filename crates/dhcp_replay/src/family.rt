@@ -47,8 +47,8 @@ pub trait FamilyClient: Drop {
     fn play<W: Words>(
         &mut self,
         words: &mut W,
-        events: Vec<dhcp_history::Event<Packet>>,
-    ) -> Result<Vec<dhcp_history::Output<Self::Reported, Handed>>, DhcpError>
+        events: Vec<dhcp_history::NumberedEvent<Packet>>,
+    ) -> Result<Vec<dhcp_history::NumberedReport<Self::Reported, Handed>>, DhcpError>
         requires { All (λ event. event.moment < 2 ^ 60) events.items }
         ensures { IsReplay protocol result (λ reported. reported.items) events.items
             (parts self.old) (parts self.new) (W.left words.old) (W.left words.new) };
@@ -62,7 +62,7 @@ impl FamilyClient for DhcpV4Client {
     ghost use Rattle.dhcp4_client.specs.declared.client_state.ClientState as states;
     ghost use Rattle.dhcp4_client.specs.declared.client_state.Exchange as exchanges;
 
-    type Reported = dhcp_history::Reported<DhcpV4State>;
+    type Reported = dhcp_history::StateReport<DhcpV4State>;
 
     ghost Config = { configs.Config };
 
@@ -81,8 +81,8 @@ impl FamilyClient for DhcpV4Client {
     fn play<W: Words>(
         &mut self,
         words: &mut W,
-        events: Vec<dhcp_history::Event<Packet>>,
-    ) -> Result<Vec<dhcp_history::Output<Self::Reported, Handed>>, DhcpError> {
+        events: Vec<dhcp_history::NumberedEvent<Packet>>,
+    ) -> Result<Vec<dhcp_history::NumberedReport<Self::Reported, Handed>>, DhcpError> {
         self.replay(words, events)
     }
 }
@@ -94,7 +94,7 @@ impl FamilyClient for DhcpV6Client {
     ghost use Rattle.dhcp6_client.specs.declared.client_state.ClientState as states;
     ghost use Rattle.dhcp6_client.specs.declared.client_state.Exchange as exchanges;
 
-    type Reported = dhcp_history::Reported<DhcpV6State>;
+    type Reported = dhcp_history::StateReport<DhcpV6State>;
 
     ghost Config = { configs.Config };
 
@@ -113,8 +113,8 @@ impl FamilyClient for DhcpV6Client {
     fn play<W: Words>(
         &mut self,
         words: &mut W,
-        events: Vec<dhcp_history::Event<Packet>>,
-    ) -> Result<Vec<dhcp_history::Output<Self::Reported, Handed>>, DhcpError> {
+        events: Vec<dhcp_history::NumberedEvent<Packet>>,
+    ) -> Result<Vec<dhcp_history::NumberedReport<Self::Reported, Handed>>, DhcpError> {
         self.replay(words, events)
     }
 }
@@ -127,7 +127,7 @@ impl FamilyClient for DhcpV6InfoClient {
     ghost use Rattle.dhcp6_info.specs.declared.client_state.NoLease as leases;
     ghost use Rattle.dhcp6_info.specs.declared.info.DhcpV6Info as infos;
 
-    type Reported = dhcp_history::Reported<DhcpV6InfoState>;
+    type Reported = dhcp_history::StateReport<DhcpV6InfoState>;
 
     ghost Config = { configs.Config };
 
@@ -146,8 +146,8 @@ impl FamilyClient for DhcpV6InfoClient {
     fn play<W: Words>(
         &mut self,
         words: &mut W,
-        events: Vec<dhcp_history::Event<Packet>>,
-    ) -> Result<Vec<dhcp_history::Output<Self::Reported, Handed>>, DhcpError> {
+        events: Vec<dhcp_history::NumberedEvent<Packet>>,
+    ) -> Result<Vec<dhcp_history::NumberedReport<Self::Reported, Handed>>, DhcpError> {
         self.replay(words, events)
     }
 }

@@ -29,7 +29,7 @@ pub trait FamilyState: Drop {
         ensures { plain_report (Changed result) ≡ changed self };
 }
 
-impl FamilyState for dhcp_history::Reported<DhcpV4State> {
+impl FamilyState for dhcp_history::StateReport<DhcpV4State> {
     ghost use Rattle.dhcp_output.specs.Output.{changed_v4};
 
     ghost changed = { changed_v4 };
@@ -39,7 +39,7 @@ impl FamilyState for dhcp_history::Reported<DhcpV4State> {
     }
 }
 
-impl FamilyState for dhcp_history::Reported<DhcpV6State> {
+impl FamilyState for dhcp_history::StateReport<DhcpV6State> {
     ghost use Rattle.dhcp_output.specs.Output.{changed_v6};
 
     ghost changed = { changed_v6 };
@@ -49,7 +49,7 @@ impl FamilyState for dhcp_history::Reported<DhcpV6State> {
     }
 }
 
-impl FamilyState for dhcp_history::Reported<DhcpV6InfoState> {
+impl FamilyState for dhcp_history::StateReport<DhcpV6InfoState> {
     ghost use Rattle.dhcp_output.specs.Output.{changed_info};
 
     ghost changed = { changed_info };
@@ -63,14 +63,14 @@ impl FamilyState for dhcp_history::Reported<DhcpV6InfoState> {
 pub fn numbered(
     alloc: Global,
     events: &[Event],
-) -> Result<Vec<dhcp_history::Event<Packet>>, AllocError>
+) -> Result<Vec<dhcp_history::NumberedEvent<Packet>>, AllocError>
     requires { length events.now ≤ 20000 }
     ensures { IfOk result (λ made. made.items ≡ lives.numbered 1 events.now) }
 {
     let mut made = Vec::new(alloc);
     let mut number = 1u32;
     for event in events {
-        made.push(dhcp_history::Event {
+        made.push(dhcp_history::NumberedEvent {
             number,
             moment: event.moment,
             refuse: event.refuse,
@@ -106,7 +106,7 @@ fn arrival(alloc: Global, kind: PacketKind, bytes: &Bytes) -> Result<Input<Packe
 /// What was reported, as outputs of a script.
 pub fn outputs_of<S: FamilyState>(
     alloc: Global,
-    reported: Vec<dhcp_history::Output<S, Handed>>,
+    reported: Vec<dhcp_history::NumberedReport<S, Handed>>,
 ) -> Result<Sequence<Output>, AllocError>
     ensures { IfOk result (λ outputs.
         map plain_output outputs ≡ map (lives.output_of S.changed) reported.items) }

@@ -14,3 +14,4 @@ pub mod ScriptLaws
 pub mod Utf8
 pub mod ValueLaws
 pub mod Version3Laws
+pub mod LiveLineLaws

@@ -205,7 +205,7 @@ IsCodec-events = record {
 life_parts : Life → List ℕ × (ℕ × List Event)
 life_parts life = (life.words, (life.start, life.events))
 
-words_line : IsCodec (λ words. codes "words " ++ (words_text words ++ 10 ∷ [])) AreWords (after_tag (codes "words ") (in_field words_in 10))
+pub words_line : IsCodec (λ words. codes "words " ++ (words_text words ++ 10 ∷ [])) AreWords (after_tag (codes "words ") (in_field words_in 10))
 words_line = IsCodec-after_tag (codes "words ") (IsCodec-in_field IsValue-words 10 (λ words fits. HasNo-numbers_text w32 10 words (omega arith)))
 
 start_line : IsCodec (λ start. codes "start " ++ (decimal start ++ 10 ∷ [])) (λ n. n ≤ 18446744073709551615) (after_tag (codes "start ") (in_field (number_in 18446744073709551615) 10))

@@ -20,3 +20,5 @@ pub mod Version3
 -- the definitions that a function unfolds beside another
 pub use Rattle.dhcp_script.specs.Script4.{config_of}
 pub use Rattle.dhcp_script.specs.Script6.{config_of as config6_of}
+pub mod LiveLine
+pub mod LiveLineReader

@@ -54,9 +54,10 @@ fn read_events(alloc: Global, text: &mut TextReader) -> Result<Sequence<Event>, 
     Ok(Sequence::from(events))
 }
 
-// Reads an event, after `at `: its moment in milliseconds, `refuse` or `ok`, and what happens.
+/// Reads an event, after `at `: its moment in milliseconds, `refuse` or `ok`, and what happens.
+/// `Malformed` only if the text does not go on with it; out of memory is the only other error.
 #[tactic(auto, unfolding(crate::specs::LifeReader::event_at))]
-fn read_event(alloc: Global, text: &mut TextReader) -> Result<Event, ReadError>
+pub fn read_event(alloc: Global, text: &mut TextReader) -> Result<Event, ReadError>
     ensures { Takes result text.new (event_at text.old) }
 {
     let moment = text.number(u64::MAX, b' ')?;

@@ -4,7 +4,8 @@
 //! it does not of standard input and output. Std does not say which calls fail; each answer
 //! `Failed` is counted.
 
-ghost use Rattle.std.specs.Prelude.{◌≡◌, ◌≤◌, ◌<◌, [], None, length, take};
+ghost use Rattle.std.specs.Prelude.{◌≡◌, ◌≤◌, ◌<◌, [], None, false, length, take};
+ghost use Rattle.std.specs.Io.KnownBytes.{Keeps};
 ghost use Rattle.dhcp_wire.specs.Fault.{HasCause};
 ghost use Rattle.dhcp_stream.specs.Standard.{ReadsFrom, WritesTo};
 ghost use Rattle.dhcp_stream.specs.Stream.{
@@ -77,6 +78,22 @@ impl<W: Write> StdSink<W> {
         ensures { result ≡ record { contents = W.contents writer; faults = 0 } }
     {
         StdSink { writer, faults: 0 }
+    }
+}
+
+impl<W: Write> StdSink<W> {
+    /// Flushes the writer, and returns whether it could: `false`, as at an error of the writer,
+    /// only if the count of faults rose. The bytes that the writer holds, where std knows them,
+    /// stay.
+    pub fn flush(&mut self) -> bool
+        ensures fault { HasCause (result ≡ false) self.old.faults self.new.faults }
+        ensures bytes { Keeps self.old.contents self.new.contents }
+    {
+        if self.writer.flush().is_err() {
+            self.faults = self.faults.saturating_add(1);
+            return false;
+        }
+        true
     }
 }
 

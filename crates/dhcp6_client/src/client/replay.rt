@@ -5,7 +5,7 @@ ghost use Rattle.std.specs.Prelude.{◌<◌, ◌^◌, All};
 use super::DhcpV6Client;
 use crate::DhcpV6State;
 use dhcp_clock::{Handed, Packet, Words};
-use dhcp_history::{Event, Output, Reported, replay};
+use dhcp_history::{NumberedEvent, NumberedReport, StateReport, replay};
 use dhcp_wire::DhcpError;
 
 impl DhcpV6Client {
@@ -20,8 +20,8 @@ impl DhcpV6Client {
     pub fn replay<W: Words>(
         &mut self,
         words: &mut W,
-        events: Vec<Event<Packet>>,
-    ) -> Result<Vec<Output<Reported<DhcpV6State>, Handed>>, DhcpError>
+        events: Vec<NumberedEvent<Packet>>,
+    ) -> Result<Vec<NumberedReport<StateReport<DhcpV6State>, Handed>>, DhcpError>
         requires { All (λ event. event.moment < 2 ^ 60) events.items }
         ensures { IsReplay protocol result (λ reported. reported.items) events.items
             self.old self.new (W.left words.old) (W.left words.new) }

@@ -5,7 +5,7 @@ ghost use Rattle.std.specs.Prelude.{◌<◌, ◌^◌, All};
 use super::DhcpV6InfoClient;
 use crate::DhcpV6InfoState;
 use dhcp_clock::{Handed, Packet, Words};
-use dhcp_history::{Event, Output, Reported, replay};
+use dhcp_history::{NumberedEvent, NumberedReport, StateReport, replay};
 use dhcp_wire::DhcpError;
 
 impl DhcpV6InfoClient {
@@ -19,8 +19,8 @@ impl DhcpV6InfoClient {
     pub fn replay<W: Words>(
         &mut self,
         words: &mut W,
-        events: Vec<Event<Packet>>,
-    ) -> Result<Vec<Output<Reported<DhcpV6InfoState>, Handed>>, DhcpError>
+        events: Vec<NumberedEvent<Packet>>,
+    ) -> Result<Vec<NumberedReport<StateReport<DhcpV6InfoState>, Handed>>, DhcpError>
         requires { All (λ event. event.moment < 2 ^ 60) events.items }
         ensures { IsReplay protocol result (λ reported. reported.items) events.items
             self.old self.new (W.left words.old) (W.left words.new) }

@@ -1,8 +1,8 @@
 use crate::Repeater;
 use dhcp_clock::{Handed, MemLink, Packet, PacketKind, WordList};
 use dhcp_history::{
-    Client, Event, Input, Output, Phase, Report, Standing, clean_up, next_poll, release_held,
-    replay, run,
+    Client, Input, NumberedEvent, NumberedReport, Phase, Report, Standing, clean_up, next_poll,
+    release_held, replay, run,
 };
 use dhcp_wire::Bytes;
 use std::alloc::Global;
@@ -32,7 +32,7 @@ fn packet(alloc: Global) -> Packet {
 }
 
 // What a report is: 1 handed, 2 refused, 3 holding, 4 asking, 5 an error.
-fn kind(output: Output<bool, Handed>) -> u32 {
+fn kind(output: NumberedReport<bool, Handed>) -> u32 {
     match output.report {
         Report::Handed(_) => 1,
         Report::Refused(_) => 2,
@@ -73,19 +73,19 @@ fn a_replay_reports_each_event(rt: HostRuntime) -> Result<(), Fail> {
     let rules = Repeater { alloc };
     let mut client = client();
     let mut words = WordList::new(Vec::new(alloc));
-    let first = Event {
+    let first = NumberedEvent {
         number: 1,
         moment: 0,
         refuse: true,
         input: Input::Nothing,
     };
-    let second = Event {
+    let second = NumberedEvent {
         number: 2,
         moment: 1000,
         refuse: false,
         input: Input::Arrival(packet(alloc)),
     };
-    let third = Event {
+    let third = NumberedEvent {
         number: 3,
         moment: 6000,
         refuse: false,

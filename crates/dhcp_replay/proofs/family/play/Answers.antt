@@ -2,13 +2,13 @@
 use Rattle.std.proofs.Common.{◌<◌, ◌^◌, List, sym, subst}
 use Rattle.std.specs.Prelude.{All, map}
 use Rattle.dhcp_clock.specs.declared.link.Packet.{Packet}
-use Rattle.dhcp_history.specs.declared.script.Event.{Event as LifeEvent}
+use Rattle.dhcp_history.specs.declared.script.NumberedEvent.{NumberedEvent}
 use Rattle.dhcp_output.specs.Output.{plain_output}
 use Rattle.dhcp_replay.proofs.PlayLemmas.{played}
 use Rattle.dhcp_replay.proofs.family.play.Goals as goal
 
 pub play-requires : goal.play-requires
-play-requires g c = subst (λ (all : List (LifeEvent Packet)). All (λ (event : LifeEvent Packet). event.moment < 2 ^ 60) all) (sym c.in_ok-numbered.ensures) c.requires.moments
+play-requires g c = subst (λ (all : List (NumberedEvent Packet)). All (λ (event : NumberedEvent Packet). event.moment < 2 ^ 60) all) (sym c.in_ok-numbered.ensures) c.requires.moments
 
 pub returns-clause-played : goal.returns-clause-played
 returns-clause-played g c =

@@ -6,8 +6,8 @@ use Rattle.dhcp_clock.specs.declared.link.Handed.{Handed as Message}
 use Rattle.dhcp_clock.specs.declared.link.Packet.{Packet}
 use Rattle.dhcp_history.specs.declared.script.Report.TheVariants.{Handed, Refused, Changed, Failed}
 use Rattle.dhcp_history.specs.declared.script.Failure.TheVariants.{SendRefused}
-use Rattle.dhcp_history.specs.declared.script.Output.{Output}
-use Rattle.dhcp_history.specs.declared.script.Event.{Event}
+use Rattle.dhcp_history.specs.declared.script.NumberedReport.{NumberedReport}
+use Rattle.dhcp_history.specs.declared.script.NumberedEvent.{NumberedEvent}
 use Rattle.dhcp_history.specs.declared.script.Input.{Input}
 use Rattle.dhcp_history.specs.declared.script.Input.TheVariants.{Nothing, Arrival, Release, CleanUp}
 use Rattle.dhcp_history.specs.declared.client.Phase.{Phase}
@@ -17,20 +17,20 @@ use Rattle.dhcp_history.specs.History.{after_wait_if, reading_of}
 use Rattle.dhcp_history.specs.Machine.{EventEffect, PollEffect, View, after_poll, attempt_now, begin_in, begin_stay, call_by, clean_up, end_state, exchange_at, failed_output, handed_output, has_ended, is_listening, is_pausing, is_stopped, is_wait_over, limit_is_over, poll, polls, receive, release_of, stop, take_answer, transmit, transmit_and_receive}
 use Rattle.dhcp_history.specs.Protocol.{Protocol, has_come}
 use Rattle.dhcp_history.specs.Script.{after_call, input_after_call}
-use Rattle.dhcp4_net.specs.Kept as kept
+use Rattle.dhcp_history.specs.KeptByEvent as kept
 
 module _ {PublicState State Exchange Answer Lease : Type 0} (p : Protocol PublicState Packet Message State Exchange Answer Lease)
     (Good : Exchange → Type 0) (Held : State → Type 0) (Comes : Packet → Type 0) (Fits : Message → Type 0) (Shows : PublicState → Type 0) (moment : ℕ) (keeps : kept.Keeps p Good Held Comes Fits Shows moment) where
   abbrev ComesIn : Input Packet → Type 0
   ComesIn = kept.ComesIn p Good Held Comes Fits Shows moment
 
-  abbrev Told : List (Output PublicState Message) → Type 0
+  abbrev Told : List (NumberedReport PublicState Message) → Type 0
   Told outputs = AllByRecursion (λ output. kept.Tells p Good Held Comes Fits Shows moment output.report) outputs
 
   abbrev IsKept : EventEffect PublicState Message State Exchange → Type 0
   IsKept = kept.IsKept p Good Held Comes Fits Shows moment
 
-  told-append : (xs ys : List (Output PublicState Message)) → Told xs → Told ys → Told (xs ++ ys)
+  told-append : (xs ys : List (NumberedReport PublicState Message)) → Told xs → Told ys → Told (xs ++ ys)
   told-append [] ys hx hy = hy
   told-append (x ∷ xs) ys hx hy = (hx.0, told-append xs ys hx.1 hy)
 
@@ -140,7 +140,7 @@ module _ {PublicState State Exchange Answer Lease : Type 0} (p : Protocol Public
   failed_told number true = (tt, tt)
   failed_told number false = tt
 
-  polls_keep : (fuel : ℕ) (event : Event Packet) (view : View State Exchange) → event.moment ≡ moment → Good view.exchange → Held view.state → ComesIn event.input → IsKept (polls p fuel event view)
+  polls_keep : (fuel : ℕ) (event : NumberedEvent Packet) (view : View State Exchange) → event.moment ≡ moment → Good view.exchange → Held view.state → ComesIn event.input → IsKept (polls p fuel event view)
   polls_keep zero event view at g h comes = record { good = g; held = h; told = tt }
   polls_keep (suc fuel) event view at g h comes =
       go (poll p event.moment event.refuse event.input view).change (poll p event.moment event.refuse event.input view) (poll_keeps event.moment event.refuse event.input view at g h comes)
@@ -148,7 +148,7 @@ module _ {PublicState State Exchange Answer Lease : Type 0} (p : Protocol Public
       (λ left next same good held later. polls_keep fuel left next (same ∙ at) good held later)
     where
       go : (change : Option State) (once : PollEffect Packet Message State Exchange) → Polled once → IfSome change (λ next. Shows (p.public_state next)) →
-          ((left : Event Packet) (next : View State Exchange) → left.moment ≡ event.moment → Good next.exchange → Held next.state → ComesIn left.input → IsKept (polls p fuel left next)) → IsKept (after_poll p (polls p fuel) event change once)
+          ((left : NumberedEvent Packet) (next : View State Exchange) → left.moment ≡ event.moment → Good next.exchange → Held next.state → ComesIn left.input → IsKept (polls p fuel left next)) → IsKept (after_poll p (polls p fuel) event change once)
       go None once polled shows again = record {
         good = polled.good;
         held = polled.held;
@@ -166,7 +166,7 @@ module _ {PublicState State Exchange Answer Lease : Type 0} (p : Protocol Public
 
   -- 3. The call of an event, and the event.
 
-  release_keeps : (held : Option Lease) (event : Event Packet) (view : View State Exchange) → p.held_lease view.state ≡ held → Good view.exchange → Held view.state → IsKept (release_of p held event view)
+  release_keeps : (held : Option Lease) (event : NumberedEvent Packet) (view : View State Exchange) → p.held_lease view.state ≡ held → Good view.exchange → Held view.state → IsKept (release_of p held event view)
   release_keeps None event view is g h = record { good = g; held = h; told = tt }
   release_keeps (Some lease) event view is g h = go event.refuse
     where
@@ -180,7 +180,7 @@ module _ {PublicState State Exchange Answer Lease : Type 0} (p : Protocol Public
       go true = record { good = g; held = h; told = (tt, (tt, tt)) }
       go false = record { good = keeps.cut view.exchange g; held = keeps.cut_held view.exchange; told = (keeps.released view.state lease view.exchange g h is, tt) }
 
-  call_keeps : (input : Input Packet) (event : Event Packet) (view : View State Exchange) → Good view.exchange → Held view.state → IsKept (call_by p input event view)
+  call_keeps : (input : Input Packet) (event : NumberedEvent Packet) (view : View State Exchange) → Good view.exchange → Held view.state → IsKept (call_by p input event view)
   call_keeps Nothing event view g h = record { good = g; held = h; told = tt }
   call_keeps (Arrival packet) event view g h = record { good = g; held = h; told = tt }
   call_keeps Release event view g h = release_keeps (p.held_lease view.state) event view refl g h
@@ -192,15 +192,15 @@ module _ {PublicState State Exchange Answer Lease : Type 0} (p : Protocol Public
   called_comes Release h = tt
   called_comes CleanUp h = tt
 
-  polls_at_keep : (fuel : ℕ) (event : Event Packet) (view : View State Exchange) → event.moment ≡ moment → Good view.exchange → Held view.state → ComesIn event.input → IsKept (polls_at p fuel event view)
+  polls_at_keep : (fuel : ℕ) (event : NumberedEvent Packet) (view : View State Exchange) → event.moment ≡ moment → Good view.exchange → Held view.state → ComesIn event.input → IsKept (polls_at p fuel event view)
   unfolding polls_at
   polls_at_keep fuel event view at g h comes = polls_keep fuel event view at g h comes
 
-  call_at_keeps : (event : Event Packet) (view : View State Exchange) → Good view.exchange → Held view.state → IsKept (call_at p event view)
+  call_at_keeps : (event : NumberedEvent Packet) (view : View State Exchange) → Good view.exchange → Held view.state → IsKept (call_at p event view)
   unfolding call_at
   call_at_keeps event view g h = call_keeps event.input event view g h
 
-  pub event_keeps : (event : Event Packet) (view : View State Exchange) → event.moment ≡ moment → Good view.exchange → Held view.state → ComesIn event.input → IsKept (event_at p event view)
+  pub event_keeps : (event : NumberedEvent Packet) (view : View State Exchange) → event.moment ≡ moment → Good view.exchange → Held view.state → ComesIn event.input → IsKept (event_at p event view)
   event_keeps event view at g h comes =
       let called : IsKept (call_at p event view) = call_at_keeps event view g h in
       let polled : IsKept (polls_at p 7 (after_call event) (call_at p event view).view) =

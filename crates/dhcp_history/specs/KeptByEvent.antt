@@ -14,9 +14,9 @@ module _ {PublicState Packet Message State Exchange Answer Lease : Type 0}
     (p : Protocol PublicState Packet Message State Exchange Answer Lease)
     (Good : Exchange → Type 0) (Held : State → Type 0) (Comes : Packet → Type 0)
     (Fits : Message → Type 0) (Shows : PublicState → Type 0) (moment : ℕ) where
-  -- At an event at this moment: exchanges stay good, and what is held of a state is held of each next one. Then each message
-  -- fits, and each state shows this that comes after the end of another, or after the answer of a
-  -- packet that comes.
+  -- At an event at this moment: exchanges stay good, and what is held of a state is held of each
+  -- next one. Then each message fits, and each state shows this that comes after the end of
+  -- another, or after the answer of a packet that comes.
   pub record Keeps : Type 0 where
     pub waited : (exchange : Exchange) → Good exchange → Good (p.after_wait exchange)
     pub attempted : (state : State) (exchange : Exchange) (start : AttemptStart)

@@ -1,0 +1,15 @@
+-- What was heard of the line so far has no line feed.
+use Rattle.std.proofs.Common.{◌≡◌, ◌+◌, ◌-◌, ◌≤◌, length}
+use Rattle.dhcp_stream.proofs.CodecLaws.{HasNo}
+use Rattle.dhcp_dialogue.specs.Dialogue.{most_line_bytes}
+use Rattle.dhcp_dialogue.proofs.standard.StdDialogueDialogue.hear.Given as goal
+
+abbrev pub invariant-pieces : goal.invariant-pieces
+invariant-pieces g l = record {
+  clear : HasNo 10 l.line.items;
+  later : l.fn.self.source.faults ≤ l.self.source.faults;
+  sink : l.self.sink ≡ l.fn.self.sink;
+}
+
+abbrev pub decreases-pieces : goal.decreases-pieces
+decreases-pieces g l = most_line_bytes + 1 - length l.line.items
