@@ -24,12 +24,12 @@ release_by parts lease = release_message parts.client.standing.exchange.xid part
 -- What the release of a lease promises. A lease without an identifier of its server is refused.
 pub record IsReleaseOf {Returned : Type 0} (lease : Lease) (now : ℕ)
     (result : Result Returned ErrorParts) (old new : ClientParts) (before after : Option Shown)
-    (failed failed' : ℕ) : Type 0 where
+    (faults_before faults_after : ℕ) : Type 0 where
   pub release : HandsRelease (protocol old.config) (release_by old lease) now result
-      old.client new.client before after failed failed'
+      old.client new.client before after faults_before faults_after
   pub open release use *
   pub config : new.config ≡ old.config
   pub limits : is_duid lease.srv_duid ≡ false → (result ≡ Err lease_refused) × (new ≡ old)
-      × (failed' ≡ failed)
+      × (faults_after ≡ faults_before)
   pub errors : is_duid lease.srv_duid ≡ true → IfErr result
       (λ error. (error ≡ send_refused) ⊎ (error ≡ no_memory))

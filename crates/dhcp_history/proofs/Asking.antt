@@ -63,21 +63,21 @@ module _ {PublicState State Exchange Answer Lease : Type 0} (p : Protocol Public
 
   module _ (now : ℕ) where
     -- what is told of a client, whatever its words
-    pub listening_of : (result : Bool) (client : Client State Exchange) → ((drawn : List ℕ) → result ≡ may_ask p now (view_of client drawn)) → HasListening p now result client
+    pub listening_of : (result : Bool) (client : Client State Exchange) → ((available : List ℕ) → result ≡ may_ask p now (view_of client available)) → HasListening p now result client
     listening_of result client is = record {
       listening = is;
-      asking = λ polled drawn. is drawn ∙ asks_polled now (view_of client drawn) polled;
-      deaf = λ none refuse drawn. asks_none now refuse (view_of client drawn) (sym (is drawn) ∙ none);
+      asking = λ polled available. is available ∙ asks_polled now (view_of client available) polled;
+      deaf = λ none refuse available. asks_none now refuse (view_of client available) (sym (is available) ∙ none);
     }
 
     abbrev over : Client State Exchange → List ℕ → Bool
-    over client drawn = is_stopped client.standing.phase || (limit_is_over p now (view_of client drawn) || has_ended p now (view_of client drawn))
+    over client available = is_stopped client.standing.phase || (limit_is_over p now (view_of client available) || has_ended p now (view_of client available))
 
     -- of one whose poll neither sends nor takes a packet, and of one whose poll does
-    pub over_deaf : (client : Client State Exchange) (drawn : List ℕ) → over client drawn ≡ true → false ≡ may_ask p now (view_of client drawn)
-    over_deaf client drawn e = rw e refl
+    pub over_deaf : (client : Client State Exchange) (available : List ℕ) → over client available ≡ true → false ≡ may_ask p now (view_of client available)
+    over_deaf client available e = rw e refl
 
-    pub ready_asks : (result : Bool) (client : Client State Exchange) (drawn : List ℕ) → over client drawn ≡ false →
+    pub ready_asks : (result : Bool) (client : Client State Exchange) (available : List ℕ) → over client available ≡ false →
         result ≡ (if is_unpolled client.standing.phase then p.has_attempts client.state else (has_come now client.standing.deadline || is_listening client.standing.phase)) →
-        result ≡ may_ask p now (view_of client drawn)
-    ready_asks result client drawn e is = rw e is
+        result ≡ may_ask p now (view_of client available)
+    ready_asks result client available e is = rw e is

@@ -14,18 +14,18 @@ gives_word None after word given = given
 gives_word (Some words) after word given = given
 
 -- what was drawn by a definition
-pub gives_drawn : {A : Type 0} (before after : Option (List ℕ)) (draws : List ℕ → Drawn A) (value : A) → Draws before after draws (λ drawn. drawn ≡ value) →
+pub gives_drawn : {A : Type 0} (before after : Option (List ℕ)) (draws : List ℕ → Drawn A) (value : A) → Draws before after draws (λ available. available ≡ value) →
     GivesDrawn draws before value after
-gives_drawn None after draws value drawn = drawn.0
-gives_drawn (Some words) after draws value drawn = (sym drawn.1, drawn.0)
+gives_drawn None after draws value available = available.0
+gives_drawn (Some words) after draws value available = (sym available.1, available.0)
 
 -- one draw and another one after it
 pub gives_both : {A B : Type 0} (before between after : Option (List ℕ)) (first : List ℕ → Drawn A) (second : A → List ℕ → Drawn B) (one : A) (other : B) →
     GivesDrawn first before one between → GivesDrawn (second one) between other after → GivesDrawn (drawn_then first second) before other after
-gives_both None between after first second one other drawn more =
+gives_both None between after first second one other available more =
     let of_words : Option (List ℕ) → Type 0 = λ words. GivesDrawn (second one) words other after in
-    subst of_words drawn more
-gives_both {A = A} (Some words) between after first second one other drawn more =
+    subst of_words available more
+gives_both {A = A} (Some words) between after first second one other available more =
     let of_words : Option (List ℕ) → Type 0 = λ left. GivesDrawn (second one) left other after in
     let of_value : A → Type 0 = λ value. GivesDrawn (second value) (Some (first words).left) other after in
-    subst of_value drawn.0 (subst of_words drawn.1 more)
+    subst of_value available.0 (subst of_words available.1 more)

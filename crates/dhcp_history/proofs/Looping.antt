@@ -71,13 +71,13 @@ module _ {PublicState State Exchange Answer Lease : Type 0} (p : Protocol Public
         waiting = waits ∙ ap (λ (s : Shown). s.waiting) is;
       }
 
-  pub one_poll : (number : ℕ) (refuse : Bool) (now : ℕ) (shown after : Shown) (first view : List ℕ → View State Exchange) (drawn left : Option (List ℕ)) (result : Result (Option PublicState) RunError)
+  pub one_poll : (number : ℕ) (refuse : Bool) (now : ℕ) (shown after : Shown) (first view : List ℕ → View State Exchange) (available left : Option (List ℕ)) (result : Result (Option PublicState) RunError)
       (reported : Result Bool AllocError) (handed : Option Handed) (packet : Option Packet) (outs outs' : List (NumberedReport PublicState Handed)) → shown.handed ≡ [] →
-      UnlessNoMemory result (IfSome drawn (λ words. HasPolled p (poll p now shown.refuses (input_of shown.waiting) (first words)) result view left shown (Some after))) →
+      UnlessNoMemory result (IfSome available (λ words. HasPolled p (poll p now shown.refuses (input_of shown.waiting) (first words)) result view left shown (Some after))) →
       handed ≡ option_map (λ (listed : Handed × Sent). listed.0) (slice_get after.handed 0) → packet ≡ after.waiting →
       OnOk reported (has_memory result ≡ true) → IfOk reported (λ again. again ≡ is_again result) → OnOk reported (outs' ≡ outs ++ poll_outputs number refuse handed result) →
-      IfOk reported (λ again. IfSome drawn (λ words. HasPolledOnce p number refuse (poll p now shown.refuses (input_of shown.waiting) (first words)) again outs outs' view left packet))
-  one_poll number refuse now shown after first view drawn left result (Err error) handed packet outs outs' empty polled takes waits memory says adds = tt
+      IfOk reported (λ again. IfSome available (λ words. HasPolledOnce p number refuse (poll p now shown.refuses (input_of shown.waiting) (first words)) again outs outs' view left packet))
+  one_poll number refuse now shown after first view available left result (Err error) handed packet outs outs' empty polled takes waits memory says adds = tt
   one_poll number refuse now shown after first view None left result (Ok again) handed packet outs outs' empty polled takes waits memory says adds = tt
   one_poll number refuse now shown after first view (Some words) left result (Ok again) handed packet outs outs' empty polled takes waits memory says adds =
       polled_once number refuse shown after (poll p now shown.refuses (input_of shown.waiting) (first words)) result view left handed packet again outs outs' empty (on_run result memory polled) takes waits says adds
@@ -167,27 +167,27 @@ module _ {PublicState State Exchange Answer Lease : Type 0} (p : Protocol Public
     at = record event { input = input_of packet }
 
     abbrev this : List ℕ → PollEffect Packet Handed State Exchange
-    this drawn = poll p event.moment event.refuse (input_of packet) (view drawn)
+    this available = poll p event.moment event.refuse (input_of packet) (view available)
 
     abbrev pub Going : Type 0
-    Going = IfSome first (λ words. IsSomeAnd now (λ drawn. MakesUp (polls_at p left at (view drawn)) (all words) so_far before))
+    Going = IfSome first (λ words. IsSomeAnd now (λ available. MakesUp (polls_at p left at (view available)) (all words) so_far before))
 
     abbrev pub HasRun : Type 0
-    HasRun = IfSome now (λ drawn. HasPolledOnce p event.number event.refuse (poll p event.moment refuse (input_of packet) (view drawn)) again so_far after later next packet')
+    HasRun = IfSome now (λ available. HasPolledOnce p event.number event.refuse (poll p event.moment refuse (input_of packet) (view available)) again so_far after later next packet')
 
     module _ (some_left : 0 < left) (same_refuse : refuse ≡ event.refuse) where
-      module _ (words drawn : List ℕ) (going : MakesUp (polls_at p left at (view drawn)) (all words) so_far before)
-          (polled : HasPolledOnce p event.number event.refuse (poll p event.moment refuse (input_of packet) (view drawn)) again so_far after later next packet') where
-        really : HasPolledOnce p event.number event.refuse (this drawn) again so_far after later next packet'
-        really = subst (λ (r : Bool). HasPolledOnce p event.number event.refuse (poll p event.moment r (input_of packet) (view drawn)) again so_far after later next packet') same_refuse polled
+      module _ (words available : List ℕ) (going : MakesUp (polls_at p left at (view available)) (all words) so_far before)
+          (polled : HasPolledOnce p event.number event.refuse (poll p event.moment refuse (input_of packet) (view available)) again so_far after later next packet') where
+        really : HasPolledOnce p event.number event.refuse (this available) again so_far after later next packet'
+        really = subst (λ (r : Bool). HasPolledOnce p event.number event.refuse (poll p event.moment r (input_of packet) (view available)) again so_far after later next packet') same_refuse polled
 
-        step : again ≡ true → MakesUp (polls_at p (left - 1) (record event { input = input_of packet' }) (later (this drawn).view.words)) (all words) after before
+        step : again ≡ true → MakesUp (polls_at p (left - 1) (record event { input = input_of packet' }) (later (this available).view.words)) (all words) after before
         step more_polls =
-            let once' : PollEffect Packet Handed State Exchange = this drawn in
+            let once' : PollEffect Packet Handed State Exchange = this available in
             let more : EventEffect PublicState Handed State Exchange = polls_at p (left - 1) (record at { input = once'.left }) once'.view in
             let outs : List (NumberedReport PublicState Handed) = once_outputs p event.number event.refuse once'.change once' in
-            let goes : polls_at p left at (view drawn) ≡ record { outputs = outs ++ more.outputs; view = more.view } = next_poll left at (view drawn) some_left (sym really.again ∙ more_polls) in
-            let waits : input_of packet' ≡ once'.left = ap (λ (w : Option Packet). input_of w) really.waiting ∙ poll_left event.moment event.refuse packet (view drawn) in
+            let goes : polls_at p left at (view available) ≡ record { outputs = outs ++ more.outputs; view = more.view } = next_poll left at (view available) some_left (sym really.again ∙ more_polls) in
+            let waits : input_of packet' ≡ once'.left = ap (λ (w : Option Packet). input_of w) really.waiting ∙ poll_left event.moment event.refuse packet (view available) in
             rw (waits, really.client, really.outputs) (record {
               outputs = append_assoc so_far outs more.outputs ∙ (ap (λ (once : EventEffect PublicState Handed State Exchange). so_far ++ once.outputs) (sym goes) ∙ going.outputs);
               view = ap (λ (once : EventEffect PublicState Handed State Exchange). once.view) (sym goes) ∙ going.view;
@@ -195,8 +195,8 @@ module _ {PublicState State Exchange Answer Lease : Type 0} (p : Protocol Public
 
         stop : again ≡ false → HasReported (all words) before after later next
         stop quiet =
-            let once' : PollEffect Packet Handed State Exchange = this drawn in
-            let goes : polls_at p left at (view drawn) ≡ record { outputs = once_outputs p event.number event.refuse once'.change once'; view = once'.view } = last_poll left at (view drawn) some_left (sym really.again ∙ quiet) in
+            let once' : PollEffect Packet Handed State Exchange = this available in
+            let goes : polls_at p left at (view available) ≡ record { outputs = once_outputs p event.number event.refuse once'.change once'; view = once'.view } = last_poll left at (view available) some_left (sym really.again ∙ quiet) in
             let ends : (all words).view ≡ once'.view = sym (ap (λ (once : EventEffect PublicState Handed State Exchange). once.view) (sym goes) ∙ going.view) in
             record {
               outputs = really.outputs ∙ (ap (λ (once : EventEffect PublicState Handed State Exchange). so_far ++ once.outputs) (sym goes) ∙ going.outputs);
@@ -205,45 +205,45 @@ module _ {PublicState State Exchange Answer Lease : Type 0} (p : Protocol Public
             }
 
       pub loop_goes_on : Going → HasRun → again ≡ true →
-          IfSome first (λ words. IsSomeAnd next (λ drawn. MakesUp (polls_at p (left - 1) (record event { input = input_of packet' }) (later drawn)) (all words) after before))
+          IfSome first (λ words. IsSomeAnd next (λ available. MakesUp (polls_at p (left - 1) (record event { input = input_of packet' }) (later available)) (all words) after before))
       loop_goes_on going run more = by_first first now going run
         where
-          by_first : (first' now' : Option (List ℕ)) → IfSome first' (λ words. IsSomeAnd now' (λ drawn. MakesUp (polls_at p left at (view drawn)) (all words) so_far before)) →
-              IfSome now' (λ drawn. HasPolledOnce p event.number event.refuse (poll p event.moment refuse (input_of packet) (view drawn)) again so_far after later next packet') →
-              IfSome first' (λ words. IsSomeAnd next (λ drawn. MakesUp (polls_at p (left - 1) (record event { input = input_of packet' }) (later drawn)) (all words) after before))
+          by_first : (first' now' : Option (List ℕ)) → IfSome first' (λ words. IsSomeAnd now' (λ available. MakesUp (polls_at p left at (view available)) (all words) so_far before)) →
+              IfSome now' (λ available. HasPolledOnce p event.number event.refuse (poll p event.moment refuse (input_of packet) (view available)) again so_far after later next packet') →
+              IfSome first' (λ words. IsSomeAnd next (λ available. MakesUp (polls_at p (left - 1) (record event { input = input_of packet' }) (later available)) (all words) after before))
           by_first None now' h r = tt
           by_first (Some words) None h r = absurd h
-          by_first (Some words) (Some drawn) h r = rw (really words drawn h r).words (step words drawn h r more)
+          by_first (Some words) (Some available) h r = rw (really words available h r).words (step words available h r more)
 
       pub loop_stops : Going → HasRun → again ≡ false → IfSome first (λ words. HasReported (all words) before after later next)
       loop_stops going run quiet = by_first first now going run
         where
-          by_first : (first' now' : Option (List ℕ)) → IfSome first' (λ words. IsSomeAnd now' (λ drawn. MakesUp (polls_at p left at (view drawn)) (all words) so_far before)) →
-              IfSome now' (λ drawn. HasPolledOnce p event.number event.refuse (poll p event.moment refuse (input_of packet) (view drawn)) again so_far after later next packet') →
+          by_first : (first' now' : Option (List ℕ)) → IfSome first' (λ words. IsSomeAnd now' (λ available. MakesUp (polls_at p left at (view available)) (all words) so_far before)) →
+              IfSome now' (λ available. HasPolledOnce p event.number event.refuse (poll p event.moment refuse (input_of packet) (view available)) again so_far after later next packet') →
               IfSome first' (λ words. HasReported (all words) before after later next)
           by_first None now' h r = tt
           by_first (Some words) None h r = absurd h
-          by_first (Some words) (Some drawn) h r = stop words drawn h r quiet
+          by_first (Some words) (Some available) h r = stop words available h r quiet
 
   -- the loop at its beginning, and after its last poll; where it ends there, the client reports no more
   pub loop_begins : (event : NumberedEvent Packet) (first : Option (List ℕ)) (view : List ℕ → View State Exchange) (so_far : List (NumberedReport PublicState Handed)) →
-      IfSome first (λ words. IsSomeAnd first (λ drawn. MakesUp (polls_at p 7 event (view drawn)) (polls_at p 7 event (view words)) so_far so_far))
+      IfSome first (λ words. IsSomeAnd first (λ available. MakesUp (polls_at p 7 event (view available)) (polls_at p 7 event (view words)) so_far so_far))
   loop_begins event None view so_far = tt
   loop_begins event (Some words) view so_far = record { outputs = refl; view = refl }
 
   pub loop_ends : (event : NumberedEvent Packet) (first now : Option (List ℕ)) (first_view view : List ℕ → View State Exchange) (left : ℕ) (packet : Option Packet) (before so_far : List (NumberedReport PublicState Handed)) → left ≡ 0 →
-      (words_kept : (drawn : List ℕ) → (view drawn).words ≡ drawn) →
-      IfSome first (λ words. IsSomeAnd now (λ drawn. MakesUp (polls_at p left (record event { input = input_of packet }) (view drawn)) (polls_at p 7 event (first_view words)) so_far before)) →
+      (words_kept : (available : List ℕ) → (view available).words ≡ available) →
+      IfSome first (λ words. IsSomeAnd now (λ available. MakesUp (polls_at p left (record event { input = input_of packet }) (view available)) (polls_at p 7 event (first_view words)) so_far before)) →
       IfSome first (λ words. HasReported (polls_at p 7 event (first_view words)) before so_far view now)
   loop_ends event None now first_view view left packet before so_far e kept h = tt
   loop_ends event (Some words) None first_view view left packet before so_far e kept h = absurd h
-  loop_ends event (Some words) (Some drawn) first_view view left packet before so_far e kept h =
-      let none : polls_at p left (record event { input = input_of packet }) (view drawn) ≡ record { outputs = []; view = view drawn } = polls_zero left (record event { input = input_of packet }) (view drawn) e in
-      let ends : (polls_at p 7 event (first_view words)).view ≡ view drawn = sym (ap (λ (once : EventEffect PublicState Handed State Exchange). once.view) (sym none) ∙ h.view) in
+  loop_ends event (Some words) (Some available) first_view view left packet before so_far e kept h =
+      let none : polls_at p left (record event { input = input_of packet }) (view available) ≡ record { outputs = []; view = view available } = polls_zero left (record event { input = input_of packet }) (view available) e in
+      let ends : (polls_at p 7 event (first_view words)).view ≡ view available = sym (ap (λ (once : EventEffect PublicState Handed State Exchange). once.view) (sym none) ∙ h.view) in
       record {
         outputs = sym (append-nil so_far) ∙ (ap (λ (once : EventEffect PublicState Handed State Exchange). so_far ++ once.outputs) (sym none) ∙ h.outputs);
-        client = rw ends (ap view (kept drawn));
-        words = rw ends (ap (λ (left' : List ℕ). Some left') (sym (kept drawn)));
+        client = rw ends (ap view (kept available));
+        words = rw ends (ap (λ (left' : List ℕ). Some left') (sym (kept available)));
       }
 
   -- what is reported of a release
@@ -301,11 +301,11 @@ module _ {PublicState State Exchange Answer Lease : Type 0} (p : Protocol Public
       go (Some message) = refl
 
   -- an event: its call, and then its polls
-  pub event_reported : {T E : Type 0} (result : Result T E) (event : NumberedEvent Packet) (input : Input Packet) (drawn left : Option (List ℕ)) (first mid view : List ℕ → View State Exchange) (before told after : List (NumberedReport PublicState Handed)) →
+  pub event_reported : {T E : Type 0} (result : Result T E) (event : NumberedEvent Packet) (input : Input Packet) (available left : Option (List ℕ)) (first mid view : List ℕ → View State Exchange) (before told after : List (NumberedReport PublicState Handed)) →
       ((words : List ℕ) → HasCalled (call_at p event (first words)) before told (mid words)) → input ≡ (after_call event).input →
-      OnOk result (IfSome drawn (λ words. HasReported (polls_at p 7 (record event { input = input }) (mid words)) told after view left)) →
-      OnOk result (IfSome drawn (λ words. HasReported (event_at p event (first words)) before after view left))
-  event_reported (Err error) event input drawn left first mid view before told after called e polled = tt
+      OnOk result (IfSome available (λ words. HasReported (polls_at p 7 (record event { input = input }) (mid words)) told after view left)) →
+      OnOk result (IfSome available (λ words. HasReported (event_at p event (first words)) before after view left))
+  event_reported (Err error) event input available left first mid view before told after called e polled = tt
   event_reported (Ok value) event input None left first mid view before told after called e polled = tt
   event_reported (Ok value) event input (Some words) left first mid view before told after called e polled =
       let call' : EventEffect PublicState Handed State Exchange = call_at p event (first words) in
@@ -324,45 +324,45 @@ module _ {PublicState State Exchange Answer Lease : Type 0} (p : Protocol Public
     abbrev whole : List ℕ → EventEffect PublicState Handed State Exchange
     whole words = events_at p (first_view words) events
 
-    next_event : (words drawn : List ℕ) → MakesUp (events_at p (view drawn) (event ∷ rest)) (whole words) so_far before → HasReported (event_at p event (view drawn)) so_far after later next →
-        IsSomeAnd next (λ drawn'. MakesUp (events_at p (later drawn') rest) (whole words) after before)
-    next_event words drawn going reported =
-        let once : EventEffect PublicState Handed State Exchange = event_at p event (view drawn) in
+    next_event : (words available : List ℕ) → MakesUp (events_at p (view available) (event ∷ rest)) (whole words) so_far before → HasReported (event_at p event (view available)) so_far after later next →
+        IsSomeAnd next (λ available'. MakesUp (events_at p (later available') rest) (whole words) after before)
+    next_event words available going reported =
+        let once : EventEffect PublicState Handed State Exchange = event_at p event (view available) in
         rw (reported.words, reported.client, reported.outputs) (record {
           outputs = append_assoc so_far once.outputs (events_at p once.view rest).outputs ∙ going.outputs;
           view = going.view;
         })
 
-    pub events_go_on : IfSome first (λ words. IsSomeAnd now (λ drawn. MakesUp (events_at p (view drawn) (event ∷ rest)) (whole words) so_far before)) →
-        IfSome now (λ drawn. HasReported (event_at p event (view drawn)) so_far after later next) →
-        IfSome first (λ words. IsSomeAnd next (λ drawn. MakesUp (events_at p (later drawn) rest) (whole words) after before))
+    pub events_go_on : IfSome first (λ words. IsSomeAnd now (λ available. MakesUp (events_at p (view available) (event ∷ rest)) (whole words) so_far before)) →
+        IfSome now (λ available. HasReported (event_at p event (view available)) so_far after later next) →
+        IfSome first (λ words. IsSomeAnd next (λ available. MakesUp (events_at p (later available) rest) (whole words) after before))
     events_go_on going reported = go first now going reported
       where
-        go : (first' now' : Option (List ℕ)) → IfSome first' (λ words. IsSomeAnd now' (λ drawn. MakesUp (events_at p (view drawn) (event ∷ rest)) (whole words) so_far before)) →
-            IfSome now' (λ drawn. HasReported (event_at p event (view drawn)) so_far after later next) →
-            IfSome first' (λ words. IsSomeAnd next (λ drawn. MakesUp (events_at p (later drawn) rest) (whole words) after before))
+        go : (first' now' : Option (List ℕ)) → IfSome first' (λ words. IsSomeAnd now' (λ available. MakesUp (events_at p (view available) (event ∷ rest)) (whole words) so_far before)) →
+            IfSome now' (λ available. HasReported (event_at p event (view available)) so_far after later next) →
+            IfSome first' (λ words. IsSomeAnd next (λ available. MakesUp (events_at p (later available) rest) (whole words) after before))
         go None now' h r = tt
         go (Some words) None h r = absurd h
-        go (Some words) (Some drawn) h r = next_event words drawn h r
+        go (Some words) (Some available) h r = next_event words available h r
 
   pub events_begin : (first : Option (List ℕ)) (view : List ℕ → View State Exchange) (events : List (NumberedEvent Packet)) (so_far : List (NumberedReport PublicState Handed)) →
-      IfSome first (λ words. IsSomeAnd first (λ drawn. MakesUp (events_at p (view drawn) events) (events_at p (view words) events) so_far so_far))
+      IfSome first (λ words. IsSomeAnd first (λ available. MakesUp (events_at p (view available) events) (events_at p (view words) events) so_far so_far))
   events_begin None view events so_far = tt
   events_begin (Some words) view events so_far = record { outputs = refl; view = refl }
 
   pub events_end : (first now : Option (List ℕ)) (first_view view : List ℕ → View State Exchange) (rest events : List (NumberedEvent Packet)) (before so_far : List (NumberedReport PublicState Handed)) → rest ≡ [] →
-      ((drawn : List ℕ) → (view drawn).words ≡ drawn) →
-      IfSome first (λ words. IsSomeAnd now (λ drawn. MakesUp (events_at p (view drawn) rest) (events_at p (first_view words) events) so_far before)) →
+      ((available : List ℕ) → (view available).words ≡ available) →
+      IfSome first (λ words. IsSomeAnd now (λ available. MakesUp (events_at p (view available) rest) (events_at p (first_view words) events) so_far before)) →
       IfSome first (λ words. HasReported (events_at p (first_view words) events) before so_far view now)
   events_end None now first_view view rest events before so_far e kept h = tt
   events_end (Some words) None first_view view rest events before so_far e kept h = absurd h
-  events_end (Some words) (Some drawn) first_view view rest events before so_far e kept h =
-      let none : events_at p (view drawn) rest ≡ record { outputs = []; view = view drawn } = rw e in
-      let ends : (events_at p (first_view words) events).view ≡ view drawn = sym (ap (λ (once : EventEffect PublicState Handed State Exchange). once.view) (sym none) ∙ h.view) in
+  events_end (Some words) (Some available) first_view view rest events before so_far e kept h =
+      let none : events_at p (view available) rest ≡ record { outputs = []; view = view available } = rw e in
+      let ends : (events_at p (first_view words) events).view ≡ view available = sym (ap (λ (once : EventEffect PublicState Handed State Exchange). once.view) (sym none) ∙ h.view) in
       record {
         outputs = sym (append-nil so_far) ∙ (ap (λ (once : EventEffect PublicState Handed State Exchange). so_far ++ once.outputs) (sym none) ∙ h.outputs);
-        client = rw ends (ap view (kept drawn));
-        words = rw ends (ap (λ (left' : List ℕ). Some left') (sym (kept drawn)));
+        client = rw ends (ap view (kept available));
+        words = rw ends (ap (λ (left' : List ℕ). Some left') (sym (kept available)));
       }
 
   -- the loop over events reports what the replay reports
@@ -377,9 +377,9 @@ module _ {PublicState State Exchange Answer Lease : Type 0} (p : Protocol Public
 
   -- what the loop reports is what the history of a script reports, where the client begins as the script says
   pub loop_history : (first now : Option (List ℕ)) (first_view' view : List ℕ → View State Exchange) (events : List (NumberedEvent Packet)) (reported : List (NumberedReport PublicState Handed)) →
-      IfSome first (λ drawn. HasReported (events_at p (first_view' drawn) events) [] reported view now) → Lawful p →
-      IfSome first (λ drawn. (script : Script Packet State Exchange) → first_view' drawn ≡ first_view script → script.events ≡ events → reported ≡ outputs p (history p script))
+      IfSome first (λ available. HasReported (events_at p (first_view' available) events) [] reported view now) → Lawful p →
+      IfSome first (λ available. (script : Script Packet State Exchange) → first_view' available ≡ first_view script → script.events ≡ events → reported ≡ outputs p (history p script))
   loop_history None now first_view' view events reported h lawful = tt
-  loop_history (Some drawn) now first_view' view events reported h lawful = λ script begins same.
-      h.outputs ∙ (events_replay (first_view' drawn) events ∙
+  loop_history (Some available) now first_view' view events reported h lawful = λ script begins same.
+      h.outputs ∙ (events_replay (first_view' available) events ∙
       (ap (λ (v : View State Exchange). replay_from p v events) begins ∙ (ap (λ (vs : List (NumberedEvent Packet)). replay_from p (first_view script) vs) (sym same) ∙ replay_history p lawful script)))

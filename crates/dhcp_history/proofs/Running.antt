@@ -44,10 +44,10 @@ unsent_early Sent (Err run.TimedOut) old new before after unsent = tt
 unsent_early Sent (Err run.OutOfMemory) old new before after unsent = inl unsent
 
 -- out of memory with no attempt due: it was needed for the packet
-pub needed_early : {A : Type 0} (Due : List ℕ → Type 0) (Needs : Type 0) (result : Result A RunError) (drawn : Option (List ℕ)) →
-    OnErr result Needs → OnNoMemory result (IfSome drawn (λ words. Due words ⊎ Needs))
-needed_early Due Needs (Ok a) drawn needs = tt
-needed_early Due Needs (Err run.TimedOut) drawn needs = tt
+pub needed_early : {A : Type 0} (Due : List ℕ → Type 0) (Needs : Type 0) (result : Result A RunError) (available : Option (List ℕ)) →
+    OnErr result Needs → OnNoMemory result (IfSome available (λ words. Due words ⊎ Needs))
+needed_early Due Needs (Ok a) available needs = tt
+needed_early Due Needs (Err run.TimedOut) available needs = tt
 needed_early Due Needs (Err run.OutOfMemory) None needs = tt
 needed_early Due Needs (Err run.OutOfMemory) (Some words) needs = inr needs
 
@@ -111,10 +111,10 @@ module _ {PublicState State Exchange Answer Lease : Type 0} (p : Protocol Public
         go false h = refl
 
   -- a client whose attempt is due does not wait
-  pub due_busy : (now : ℕ) (client : Client State Exchange) (begun : Standing Exchange) (drawn : List ℕ) {Same : Type 0} → (is_unpolled client.standing.phase ≡ false → (begun ≡ client.standing) × Same) →
+  pub due_busy : (now : ℕ) (client : Client State Exchange) (begun : Standing Exchange) (available : List ℕ) {Same : Type 0} → (is_unpolled client.standing.phase ≡ false → (begun ≡ client.standing) × Same) →
       (is_unpolled client.standing.phase ≡ true → p.has_attempts client.state ≡ false → (begun ≡ silent now client.standing.exchange) × Same) → has_come now begun.deadline ≡ true →
-      is_waiting p now (view_of client drawn) ≡ false
-  due_busy now client begun drawn same none due = go (is_unpolled client.standing.phase) refl
+      is_waiting p now (view_of client available) ≡ false
+  due_busy now client begun available same none due = go (is_unpolled client.standing.phase) refl
     where
       late : (a : Bool) → not (a || true) ≡ false
       late true = refl
@@ -126,7 +126,7 @@ module _ {PublicState State Exchange Answer Lease : Type 0} (p : Protocol Public
           let never : has_come now None ≡ true = subst (λ (s : Standing Exchange). has_come now s.deadline ≡ true) (none e a).0 due in
           absurd (cc never)
 
-      go : (b : Bool) → is_unpolled client.standing.phase ≡ b → is_waiting p now (view_of client drawn) ≡ false
+      go : (b : Bool) → is_unpolled client.standing.phase ≡ b → is_waiting p now (view_of client available) ≡ false
       go true e = rw e (sends e (p.has_attempts client.state) refl)
       go false e =
           let come : has_come now client.standing.deadline ≡ true = subst (λ (s : Standing Exchange). has_come now s.deadline ≡ true) (same e).0 due in
@@ -154,16 +154,16 @@ module _ {PublicState State Exchange Answer Lease : Type 0} (p : Protocol Public
       go Stopped e a = absurd (cc e)
 
   -- a poll whose attempt is not due: the client waits, or the poll is not quiet
-  pub early_quiet : (now : ℕ) (client new : Client State Exchange) (begun : Standing Exchange) (result : Result (Option PublicState) RunError) (drawn mid left : Option (List ℕ)) (before after : Option Shown) (failed failed' : ℕ) (words : List ℕ) →
+  pub early_quiet : (now : ℕ) (client new : Client State Exchange) (begun : Standing Exchange) (result : Result (Option PublicState) RunError) (available mid left : Option (List ℕ)) (before after : Option Shown) (failed failed' : ℕ) (words : List ℕ) →
       is_stopped client.standing.phase ≡ false → limit_is_over p now (view_of client words) ≡ false → has_ended p now (view_of client words) ≡ false →
-      (is_unpolled client.standing.phase ≡ false → (begun ≡ client.standing) × (mid ≡ drawn)) →
-      (is_unpolled client.standing.phase ≡ true → p.has_attempts client.state ≡ false → (begun ≡ silent now client.standing.exchange) × (mid ≡ drawn)) → new.timeout_sec ≡ client.timeout_sec →
+      (is_unpolled client.standing.phase ≡ false → (begun ≡ client.standing) × (mid ≡ available)) →
+      (is_unpolled client.standing.phase ≡ true → p.has_attempts client.state ≡ false → (begun ≡ silent now client.standing.exchange) × (mid ≡ available)) → new.timeout_sec ≡ client.timeout_sec →
       (is_listening begun.phase ≡ false → IsShut result begun (seen client mid before failed) (seen new left after failed')) →
-      IfSome (quiet_poll p now (view_of client words)) (λ once. HasPolledQuietly p once result words (seen client drawn before failed) (seen new left after failed'))
-  early_quiet now client new begun result drawn mid left before after failed failed' words b f e same none timeout shut = go (is_waiting p now (view_of client words)) refl (is_unpolled client.standing.phase) refl
+      IfSome (quiet_poll p now (view_of client words)) (λ once. HasPolledQuietly p once result words (seen client available before failed) (seen new left after failed'))
+  early_quiet now client new begun result available mid left before after failed failed' words b f e same none timeout shut = go (is_waiting p now (view_of client words)) refl (is_unpolled client.standing.phase) refl
     where
       go : (w : Bool) → is_waiting p now (view_of client words) ≡ w → (u : Bool) → is_unpolled client.standing.phase ≡ u →
-          IfSome (quiet_poll p now (view_of client words)) (λ once. HasPolledQuietly p once result words (seen client drawn before failed) (seen new left after failed'))
+          IfSome (quiet_poll p now (view_of client words)) (λ once. HasPolledQuietly p once result words (seen client available before failed) (seen new left after failed'))
       go false w u h = rw (quiet_busy now (view_of client words) b f e w) tt
       go true w false h =
           let waits : is_listening client.standing.phase ≡ false = waits_shut now (view_of client words) h w in
@@ -237,83 +237,83 @@ module _ {PublicState State Exchange Answer Lease : Type 0} (p : Protocol Public
       })
 
   -- the steps of a poll, where words and link may or may not tell input they have
-  module _ (now : ℕ) (drawn drawn' drawn'' : Option (List ℕ)) (shown shown' shown'' : Option Shown) (first second third : List ℕ → View State Exchange) where
+  module _ (now : ℕ) (available available' available'' : Option (List ℕ)) (shown shown' shown'' : Option Shown) (first second third : List ℕ → View State Exchange) where
     pub work_due : (change : Option PublicState) → ((words : List ℕ) → has_come now (first words).deadline ≡ true) →
-        IfSome drawn (λ words. IfSome shown (λ before. HasTransmitted p now (first words) second drawn' before shown')) →
-        IfSome drawn' (λ words. IfSome shown' (λ before. HasReceived p (receive p now (input_of before.waiting) None (second words)) change third drawn'' before shown'')) →
-        IfSome drawn (λ words. IfSome shown (λ before. HasPolled p (transmit_and_receive p now before.refuses (input_of before.waiting) (first words)) (Ok change) third drawn'' before shown''))
-    work_due change due attempts takes = go drawn shown attempts
+        IfSome available (λ words. IfSome shown (λ before. HasTransmitted p now (first words) second available' before shown')) →
+        IfSome available' (λ words. IfSome shown' (λ before. HasReceived p (receive p now (input_of before.waiting) None (second words)) change third available'' before shown'')) →
+        IfSome available (λ words. IfSome shown (λ before. HasPolled p (transmit_and_receive p now before.refuses (input_of before.waiting) (first words)) (Ok change) third available'' before shown''))
+    work_due change due attempts takes = go available shown attempts
       where
-        go : (drawn₀ : Option (List ℕ)) (shown₀ : Option Shown) →
-            IfSome drawn₀ (λ words. IfSome shown₀ (λ before. HasTransmitted p now (first words) second drawn' before shown')) →
-            IfSome drawn₀ (λ words. IfSome shown₀ (λ before. HasPolled p (transmit_and_receive p now before.refuses (input_of before.waiting) (first words)) (Ok change) third drawn'' before shown''))
+        go : (available₀ : Option (List ℕ)) (shown₀ : Option Shown) →
+            IfSome available₀ (λ words. IfSome shown₀ (λ before. HasTransmitted p now (first words) second available' before shown')) →
+            IfSome available₀ (λ words. IfSome shown₀ (λ before. HasPolled p (transmit_and_receive p now before.refuses (input_of before.waiting) (first words)) (Ok change) third available'' before shown''))
         go None shown₀ a = tt
         go (Some words) None a = tt
         go (Some words) (Some before) a =
             let last : View State Exchange = transmit p now before.refuses (first words) in
             let sent : Shown = with_message (attempt_now p now (first words)).value.message (sent_by before.refuses) before in
-            polled_due now before.waiting (first words) (second last.words) change third drawn'' before shown'' (due words) a.client
-            (at_told (λ (mid : Shown). HasReceived p (receive p now (input_of mid.waiting) None (second last.words)) change third drawn'' mid shown'') shown' sent a.link
-            (at_told (λ (words' : List ℕ). IfSome shown' (λ mid. HasReceived p (receive p now (input_of mid.waiting) None (second words')) change third drawn'' mid shown'')) drawn' last.words a.words takes))
+            polled_due now before.waiting (first words) (second last.words) change third available'' before shown'' (due words) a.client
+            (at_told (λ (mid : Shown). HasReceived p (receive p now (input_of mid.waiting) None (second last.words)) change third available'' mid shown'') shown' sent a.link
+            (at_told (λ (words' : List ℕ). IfSome shown' (λ mid. HasReceived p (receive p now (input_of mid.waiting) None (second words')) change third available'' mid shown'')) available' last.words a.words takes))
 
     -- the poll of a client that isn't at the end of its state, which is `first` before and `second` once it is polled
     pub poll_works : (result : Result (Option PublicState) RunError) → ((words : List ℕ) → is_stopped (first words).phase ≡ false) → ((words : List ℕ) → limit_is_over p now (first words) ≡ false) →
         ((words : List ℕ) → has_ended p now (first words) ≡ false) →
-        IfSome drawn (λ words. HasDrawn (begin_stay p now (first words)) second drawn') →
-        IfSome drawn' (λ words. IfSome shown (λ before. HasPolled p (transmit_and_receive p now before.refuses (input_of before.waiting) (second words)) result third drawn'' before shown'')) →
-        IfSome drawn (λ words. IfSome shown (λ before. HasPolled p (poll p now before.refuses (input_of before.waiting) (first words)) result third drawn'' before shown''))
-    poll_works result b f e draws works = go drawn shown draws works
+        IfSome available (λ words. HasDrawn (begin_stay p now (first words)) second available') →
+        IfSome available' (λ words. IfSome shown (λ before. HasPolled p (transmit_and_receive p now before.refuses (input_of before.waiting) (second words)) result third available'' before shown'')) →
+        IfSome available (λ words. IfSome shown (λ before. HasPolled p (poll p now before.refuses (input_of before.waiting) (first words)) result third available'' before shown''))
+    poll_works result b f e draws works = go available shown draws works
       where
-        go : (drawn₀ : Option (List ℕ)) (shown₀ : Option Shown) → IfSome drawn₀ (λ words. HasDrawn (begin_stay p now (first words)) second drawn') →
-            IfSome drawn' (λ words. IfSome shown₀ (λ before. HasPolled p (transmit_and_receive p now before.refuses (input_of before.waiting) (second words)) result third drawn'' before shown'')) →
-            IfSome drawn₀ (λ words. IfSome shown₀ (λ before. HasPolled p (poll p now before.refuses (input_of before.waiting) (first words)) result third drawn'' before shown''))
+        go : (available₀ : Option (List ℕ)) (shown₀ : Option Shown) → IfSome available₀ (λ words. HasDrawn (begin_stay p now (first words)) second available') →
+            IfSome available' (λ words. IfSome shown₀ (λ before. HasPolled p (transmit_and_receive p now before.refuses (input_of before.waiting) (second words)) result third available'' before shown'')) →
+            IfSome available₀ (λ words. IfSome shown₀ (λ before. HasPolled p (poll p now before.refuses (input_of before.waiting) (first words)) result third available'' before shown''))
         go None shown₀ d w = tt
         go (Some words) None d w = tt
         go (Some words) (Some before) d w =
             let mid : View State Exchange = begin_stay p now (first words) in
             let same : poll p now before.refuses (input_of before.waiting) (first words) ≡ transmit_and_receive p now before.refuses (input_of before.waiting) mid = rw (b words, f words, e words) in
-            let polled : HasPolled p (transmit_and_receive p now before.refuses (input_of before.waiting) (second mid.words)) result third drawn'' before shown'' =
-            at_told (λ (words' : List ℕ). HasPolled p (transmit_and_receive p now before.refuses (input_of before.waiting) (second words')) result third drawn'' before shown'') drawn' mid.words d.words w in
-            subst (λ (o : PollEffect Packet Handed State Exchange). HasPolled p o result third drawn'' before shown'') (sym same)
-            (subst (λ (v : View State Exchange). HasPolled p (transmit_and_receive p now before.refuses (input_of before.waiting) v) result third drawn'' before shown'') d.client polled)
+            let polled : HasPolled p (transmit_and_receive p now before.refuses (input_of before.waiting) (second mid.words)) result third available'' before shown'' =
+            at_told (λ (words' : List ℕ). HasPolled p (transmit_and_receive p now before.refuses (input_of before.waiting) (second words')) result third available'' before shown'') available' mid.words d.words w in
+            subst (λ (o : PollEffect Packet Handed State Exchange). HasPolled p o result third available'' before shown'') (sym same)
+            (subst (λ (v : View State Exchange). HasPolled p (transmit_and_receive p now before.refuses (input_of before.waiting) v) result third available'' before shown'') d.client polled)
 
   -- out of memory with an attempt due: it is due after the pause that was drawn
-  pub begun_due : {A : Type 0} (Needs : Type 0) (result : Result A RunError) (now : ℕ) (drawn drawn' : Option (List ℕ)) (first second : List ℕ → View State Exchange) →
-      IfSome drawn (λ words. HasDrawn (begin_stay p now (first words)) second drawn') → ((words : List ℕ) → has_come now (second words).deadline ≡ true) →
-      OnNoMemory result (IfSome drawn (λ words. (has_come now (begin_stay p now (first words)).deadline ≡ true) ⊎ Needs))
-  begun_due Needs (Ok a) now drawn drawn' first second draws come = tt
-  begun_due Needs (Err run.TimedOut) now drawn drawn' first second draws come = tt
-  begun_due Needs (Err run.OutOfMemory) now None drawn' first second draws come = tt
-  begun_due Needs (Err run.OutOfMemory) now (Some words) drawn' first second draws come =
+  pub begun_due : {A : Type 0} (Needs : Type 0) (result : Result A RunError) (now : ℕ) (available available' : Option (List ℕ)) (first second : List ℕ → View State Exchange) →
+      IfSome available (λ words. HasDrawn (begin_stay p now (first words)) second available') → ((words : List ℕ) → has_come now (second words).deadline ≡ true) →
+      OnNoMemory result (IfSome available (λ words. (has_come now (begin_stay p now (first words)).deadline ≡ true) ⊎ Needs))
+  begun_due Needs (Ok a) now available available' first second draws come = tt
+  begun_due Needs (Err run.TimedOut) now available available' first second draws come = tt
+  begun_due Needs (Err run.OutOfMemory) now None available' first second draws come = tt
+  begun_due Needs (Err run.OutOfMemory) now (Some words) available' first second draws come =
       inl (subst (λ (v : View State Exchange). has_come now v.deadline ≡ true) draws.client (come (begin_stay p now (first words)).words))
 
   -- out of memory with an attempt due: the client is as at entry, or as right after its send
-  pub unsent_due : {A : Type 0} (Unsent' : Type 0) (result : Result A RunError) (now : ℕ) (drawn drawn' : Option (List ℕ)) (shown after : Option Shown) (first second : List ℕ → View State Exchange) (client : Client State Exchange) →
-      IfSome drawn (λ words. HasDrawn (begin_stay p now (first words)) second drawn') →
-      OnErr result (Unsent' ⊎ IsSent p now second client drawn' shown after) →
-      OnNoMemory result (Unsent' ⊎ IsSent p now (λ words. begin_stay p now (first words)) client drawn shown after)
-  unsent_due Unsent' (Ok a) now drawn drawn' shown after first second client draws h = tt
-  unsent_due Unsent' (Err run.TimedOut) now drawn drawn' shown after first second client draws h = tt
-  unsent_due Unsent' (Err run.OutOfMemory) now drawn drawn' shown after first second client draws (inl h) = inl h
-  unsent_due Unsent' (Err run.OutOfMemory) now drawn drawn' shown after first second client draws (inr h) =
-      inr (record { listens = h.listens; moment = h.moment; view = go drawn draws; link = h.link })
+  pub unsent_due : {A : Type 0} (Unsent' : Type 0) (result : Result A RunError) (now : ℕ) (available available' : Option (List ℕ)) (shown after : Option Shown) (first second : List ℕ → View State Exchange) (client : Client State Exchange) →
+      IfSome available (λ words. HasDrawn (begin_stay p now (first words)) second available') →
+      OnErr result (Unsent' ⊎ IsSent p now second client available' shown after) →
+      OnNoMemory result (Unsent' ⊎ IsSent p now (λ words. begin_stay p now (first words)) client available shown after)
+  unsent_due Unsent' (Ok a) now available available' shown after first second client draws h = tt
+  unsent_due Unsent' (Err run.TimedOut) now available available' shown after first second client draws h = tt
+  unsent_due Unsent' (Err run.OutOfMemory) now available available' shown after first second client draws (inl h) = inl h
+  unsent_due Unsent' (Err run.OutOfMemory) now available available' shown after first second client draws (inr h) =
+      inr (record { listens = h.listens; moment = h.moment; view = go available draws; link = h.link })
     where
-      go : (drawn₀ : Option (List ℕ)) → IfSome drawn₀ (λ words. HasDrawn (begin_stay p now (first words)) second drawn') →
-          IfSome drawn₀ (λ words. IfSome shown (λ before. view_of client (transmit p now before.refuses (begin_stay p now (first words))).words ≡ transmit p now before.refuses (begin_stay p now (first words))))
+      go : (available₀ : Option (List ℕ)) → IfSome available₀ (λ words. HasDrawn (begin_stay p now (first words)) second available') →
+          IfSome available₀ (λ words. IfSome shown (λ before. view_of client (transmit p now before.refuses (begin_stay p now (first words))).words ≡ transmit p now before.refuses (begin_stay p now (first words))))
       go None d = tt
       go (Some words) d =
           let family : View State Exchange → Type 0 = λ (v : View State Exchange). IfSome shown (λ before. view_of client (transmit p now before.refuses v).words ≡ transmit p now before.refuses v) in
-          subst family d.client (at_told (λ (words' : List ℕ). family (second words')) drawn' (begin_stay p now (first words)).words d.words h.view)
+          subst family d.client (at_told (λ (words' : List ℕ). family (second words')) available' (begin_stay p now (first words)).words d.words h.view)
 
   -- a poll that finds the state at its end: words and link are as they were
-  module _ (now : ℕ) (drawn : Option (List ℕ)) (shown : Option Shown) (first last : List ℕ → View State Exchange) (kept : (words : List ℕ) → (first words).words ≡ words) where
+  module _ (now : ℕ) (available : Option (List ℕ)) (shown : Option Shown) (first last : List ℕ → View State Exchange) (kept : (words : List ℕ) → (first words).words ≡ words) where
     pub poll_ends : (result : PublicState) → ((words : List ℕ) → is_stopped (first words).phase ≡ false) → ((words : List ℕ) → limit_is_over p now (first words) ≡ false) → ((words : List ℕ) → has_ended p now (first words) ≡ true) →
         ((words : List ℕ) → last words ≡ enter (p.after_end (first words).state (exchange_at p now (first words))) (first words)) → ((words : List ℕ) → result ≡ p.public_state (last words).state) →
-        IfSome drawn (λ words. IfSome shown (λ before. HasPolled p (poll p now before.refuses (input_of before.waiting) (first words)) (Ok (Some result)) last drawn before shown))
-    poll_ends result b f e client reports = go drawn shown
+        IfSome available (λ words. IfSome shown (λ before. HasPolled p (poll p now before.refuses (input_of before.waiting) (first words)) (Ok (Some result)) last available before shown))
+    poll_ends result b f e client reports = go available shown
       where
-        go : (drawn₀ : Option (List ℕ)) (shown₀ : Option Shown) →
-            IfSome drawn₀ (λ words. IfSome shown₀ (λ before. HasPolled p (poll p now before.refuses (input_of before.waiting) (first words)) (Ok (Some result)) last drawn₀ before shown₀))
+        go : (available₀ : Option (List ℕ)) (shown₀ : Option Shown) →
+            IfSome available₀ (λ words. IfSome shown₀ (λ before. HasPolled p (poll p now before.refuses (input_of before.waiting) (first words)) (Ok (Some result)) last available₀ before shown₀))
         go None shown₀ = tt
         go (Some words) None = tt
         go (Some words) (Some before) =

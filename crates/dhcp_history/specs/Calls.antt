@@ -76,7 +76,7 @@ module _ {PublicState State Exchange Answer Lease : Type 0}
 
   -- A clean-up.
   pub record CleansUp (old new : Client State Exchange) : Type 0 where
-    pub client : (drawn : List ℕ) → view_of new drawn ≡ clean_up p (view_of old drawn)
+    pub client : (available : List ℕ) → view_of new available ≡ clean_up p (view_of old available)
     pub timeout : new.timeout_sec ≡ old.timeout_sec
     pub moment : new.last_moment ≡ old.last_moment
     pub armed : HasNextAttempt p.has_attempts new
@@ -115,8 +115,8 @@ module _ {PublicState State Exchange Answer Lease : Type 0}
     pub open kept use *
     pub handed : HandsOver message (sent_of result) before after
     -- the link took the message: a clean-up follows
-    pub cleaned : OnOk result ((drawn : List ℕ) →
-        view_of new drawn ≡ clean_up p (view_of old drawn))
+    pub cleaned : OnOk result ((available : List ℕ) →
+        view_of new available ≡ clean_up p (view_of old available))
     pub anew : OnOk result (new.standing ≡ unpolled new.standing.exchange)
 
   -- A release whose message this is.
@@ -135,13 +135,14 @@ module _ {PublicState State Exchange Answer Lease : Type 0}
     pub open kept use *
     -- where the link is known, this is the release of the protocol
     pub released : UnlessOutOfMemory (release_answer result) (IfSome before (λ shown.
-        (drawn : List ℕ) → HasReleased (release.release_held p shown.refuses (view_of old drawn))
-        (release_answer result) (view_of new drawn) shown after))
+        (available : List ℕ) →
+        HasReleased (release.release_held p shown.refuses (view_of old available))
+        (release_answer result) (view_of new available) shown after))
     -- it returns whether a lease was held
     pub held : IfOk result (λ released. released ≡ is_some (p.held_lease old.state))
     -- a clean-up follows if one was
-    pub cleaned : IfOk result (λ released. (drawn : List ℕ) → view_of new drawn ≡
-        (if released then clean_up p (view_of old drawn) else view_of old drawn))
+    pub cleaned : IfOk result (λ released. (available : List ℕ) → view_of new available ≡
+        (if released then clean_up p (view_of old available) else view_of old available))
     pub anew : IfOk result (λ released. released ≡ true →
         new.standing ≡ unpolled new.standing.exchange)
     -- out of memory: a lease is held, and nothing was sent
@@ -153,9 +154,9 @@ module _ {PublicState State Exchange Answer Lease : Type 0}
   pub record Plays {Returned : Type 0} (result : Result Returned ErrorParts)
       (items : Returned → List (NumberedReport PublicState Handed))
       (events : List (NumberedEvent Packet))
-      (old new : Client State Exchange) (drawn left : Option (List ℕ)) : Type 0 where
+      (old new : Client State Exchange) (available left : Option (List ℕ)) : Type 0 where
     -- where the words are known, the outputs are those of the events, one by one
-    pub reported : IfOk result (λ reported. IfSome drawn (λ words.
+    pub reported : IfOk result (λ reported. IfSome available (λ words.
         HasReported (events_at p (view_of old words) events)
         [] (items reported) (view_of new) left))
     -- the client keeps the moment of the last event
@@ -168,8 +169,8 @@ module _ {PublicState State Exchange Answer Lease : Type 0}
   abbrev pub HasHistory : {Returned : Type 0} → Result Returned ErrorParts →
       (Returned → List (NumberedReport PublicState Handed)) → List (NumberedEvent Packet) →
       Client State Exchange → Option (List ℕ) → Type 0
-  HasHistory result items events old drawn =
-      IfOk result (λ reported. IfSome drawn (λ words. (script : Script Packet State Exchange) →
+  HasHistory result items events old available =
+      IfOk result (λ reported. IfSome available (λ words. (script : Script Packet State Exchange) →
       view_of old words ≡ first_view script → script.events ≡ events →
       items reported ≡ outputs p (history p script)))
 
@@ -177,34 +178,35 @@ module _ {PublicState State Exchange Answer Lease : Type 0}
   pub record Replays {Returned : Type 0} (result : Result Returned ErrorParts)
       (items : Returned → List (NumberedReport PublicState Handed))
       (events : List (NumberedEvent Packet))
-      (old new : Client State Exchange) (drawn left : Option (List ℕ)) : Type 0 where
-    pub plays : Plays result items events old new drawn left
+      (old new : Client State Exchange) (available left : Option (List ℕ)) : Type 0 where
+    pub plays : Plays result items events old new available left
     pub open plays use *
-    pub history : Lawful p → HasHistory result items events old drawn
+    pub history : Lawful p → HasHistory result items events old available
 
   -- The moment at which a poll next does something without a packet.
   pub record HasNextPoll (result : Option ℕ) (client : Client State Exchange) : Type 0 where
     pub moment : result ≡ next_poll p client
     -- before it a poll without a packet does nothing
-    pub before : (now : ℕ) (refuse : Bool) (drawn : List ℕ) →
+    pub before : (now : ℕ) (refuse : Bool) (available : List ℕ) →
         is_stopped client.standing.phase ≡ false → client.last_moment ≤ now →
         has_come now result ≡ false →
-        IsIdle p now (view_of client drawn) (poll p now refuse Nothing (view_of client drawn))
+        IsIdle p now (view_of client available)
+        (poll p now refuse Nothing (view_of client available))
     -- at or after it, it does something
-    pub after : (now : ℕ) (refuse : Bool) (drawn : List ℕ) → has_come now result ≡ true →
-        IsActive (view_of client drawn) (poll p now refuse Nothing (view_of client drawn))
+    pub after : (now : ℕ) (refuse : Bool) (available : List ℕ) → has_come now result ≡ true →
+        IsActive (view_of client available) (poll p now refuse Nothing (view_of client available))
 
   -- Whether a poll at this moment asks its link for a packet, unless the link refuses what the poll
   -- sends.
   pub record HasListening (now : ℕ) (result : Bool) (client : Client State Exchange) :
       Type 0 where
-    pub listening : (drawn : List ℕ) → result ≡ may_ask p now (view_of client drawn)
+    pub listening : (available : List ℕ) → result ≡ may_ask p now (view_of client available)
     -- a client that was polled in its state asks if and only if this is true
-    pub asking : is_unpolled client.standing.phase ≡ false → (drawn : List ℕ) →
-        result ≡ asks p now false (view_of client drawn)
+    pub asking : is_unpolled client.standing.phase ≡ false → (available : List ℕ) →
+        result ≡ asks p now false (view_of client available)
     -- if it is false no poll asks, over whatever link
-    pub deaf : result ≡ false → (refuse : Bool) (drawn : List ℕ) →
-        asks p now refuse (view_of client drawn) ≡ false
+    pub deaf : result ≡ false → (refuse : Bool) (available : List ℕ) →
+        asks p now refuse (view_of client available) ≡ false
 
 -- 2. The calls of a client with its configuration.
 
@@ -275,8 +277,9 @@ module _ {Config PublicState State Exchange Answer Lease : Type 0}
   pub record IsReplay {Returned : Type 0} (result : Result Returned ErrorParts)
       (items : Returned → List (NumberedReport PublicState Handed))
       (events : List (NumberedEvent Packet))
-      (old new : ClientParts Config State Exchange) (drawn left : Option (List ℕ)) : Type 0 where
-    pub plays : Plays (protocol old.config) result items events old.client new.client drawn left
+      (old new : ClientParts Config State Exchange)
+      (available left : Option (List ℕ)) : Type 0 where
+    pub plays : Plays (protocol old.config) result items events old.client new.client available left
     pub open plays use *
-    pub history : HasHistory (protocol old.config) result items events old.client drawn
+    pub history : HasHistory (protocol old.config) result items events old.client available
     pub config : new.config ≡ old.config

@@ -1,12 +1,12 @@
 -- The history of a script: the list of whole stays, each with all its attempts. A stay is the time
 -- that a client spends in one state.
 pub use Rattle.dhcp_history.specs.Window.{is_at_or_past, before, from, after_packet, number_of, moment_of, is_release}
-pub use Rattle.dhcp_history.specs.Stay.{Attempt, Act, Attempted, ReleaseRefused, LimitOver, Closing, Lasts, Cut, Answered, Ended, Setting, Stay, LastAttempt, NoneYet, Open, Unsent, is_open, is_none_yet, last_by, Progress, Outcome, Unanswered, AnsweredBy, RanOut, Heard, Finish, Course, Entry, Transition}
+pub use Rattle.dhcp_history.specs.Stay.{Attempt, Act, Attempted, ReleaseRefused, LimitOver, Closing, Lasts, Cut, Answered, Ended, Setting, Stay, LastAttempt, NoneYet, Open, Unsent, is_open, is_none_yet, last_by, Progress, Outcome, Unanswered, AnsweredBy, RanOut, Heard, Finish, Course, Entry, Transition, answer_or, with_acts, entry_of_next, setting_at}
 pub use Rattle.dhcp_history.specs.Reports.{act_outputs, closing_outputs, stay_outputs, outputs}
 use Rattle.std.specs.Prelude.{ℕ, suc, zero, ◌+◌, ◌*◌, Bool, true, false, not, ◌&&◌, ◌||◌, List, [], ◌∷◌, ◌++◌, length, flat_map, Option, Some, None, is_some, option_map, if◌then◌else◌}
 use Rattle.dhcp_history.specs.declared.rules.NewAttempt.{NewAttempt}
 use Rattle.dhcp_clock.specs.Words.{Drawn}
-use Rattle.dhcp_history.specs.Protocol.{Protocol, NextState, pause_of}
+use Rattle.dhcp_history.specs.Protocol.{Protocol, pause_of}
 use Rattle.dhcp_history.specs.Script.{Input, Nothing, Arrival, Release, CleanUp, NumberedEvent, Script, after_call}
 
 -- whether an event with this input cuts a stay: a clean-up does, and so does a release that the
@@ -22,29 +22,6 @@ abbrev pub limit_after : Bool → ℕ → ℕ → Option ℕ
 limit_after false timeout_sec entered = None
 limit_after true zero entered = None
 limit_after true (suc timeout_sec) entered = Some (entered + 1000 * suc timeout_sec)
-
--- an answer at the first of these events, or else what is heard later
-abbrev pub answer_or : {Packet Message Answer : Type 0} → Option Answer → List ℕ →
-    List (Act Message) → List (NumberedEvent Packet) → Heard Packet Message Answer →
-    Heard Packet Message Answer
-answer_or None words acts events later = record later { acts = acts ++ later.acts }
-answer_or (Some answer) words acts events later =
-    record { answer = Some answer; rest = events; words = words; acts = acts }
-
--- a course that begins with these acts
-abbrev pub with_acts : {Packet Message Exchange Answer : Type 0} → List (Act Message) →
-    Course Packet Message Exchange Answer → Course Packet Message Exchange Answer
-with_acts acts course = record course { acts = acts ++ course.acts }
-
--- what the next stay begins with, with these words left
-abbrev pub entry_of_next : {State Exchange : Type 0} → NextState State Exchange → List ℕ →
-    Entry State Exchange
-entry_of_next next words = record { state = next.state; exchange = next.exchange; words = words }
-
--- the setting of a stay that is entered at this moment
-abbrev pub setting_at : {State Exchange : Type 0} → ℕ → Entry State Exchange → ℕ → Setting State
-setting_at timeout_sec entry moment =
-    record { state = entry.state; entered = moment; timeout_sec = timeout_sec }
 
 module _ {PublicState Packet Message State Exchange Answer Lease : Type 0}
     (p : Protocol PublicState Packet Message State Exchange Answer Lease) where

@@ -243,7 +243,7 @@ module _ {PublicState Packet Message State Exchange Answer Lease : Type 0}
   -- after a poll that answers a change the client is polled again
   abbrev pub after_poll :
       (NumberedEvent Packet → View State Exchange →
-        EventEffect PublicState Message State Exchange) →
+      EventEffect PublicState Message State Exchange) →
       NumberedEvent Packet → Option State → PollEffect Packet Message State Exchange →
       EventEffect PublicState Message State Exchange
   after_poll again event None once = record {

@@ -65,7 +65,7 @@ pub record UsesLink (listens : Bool) (before after : Shown) : Type 0 where
 
 -- a fact for the words that are left and what a link shows, where they are known
 abbrev pub WhereKnown : Option (List ℕ) → Option Shown → (List ℕ → Shown → Type 0) → Type 0
-WhereKnown words shown P = IfSome words (λ drawn. IfSome shown (λ before. P drawn before))
+WhereKnown words shown P = IfSome words (λ available. IfSome shown (λ before. P available before))
 
 -- 2. A poll.
 
@@ -124,10 +124,10 @@ module _ {PublicState State Exchange Answer Lease : Type 0}
   -- what such a poll leaves: its answer and the client, with these words left; words and link are
   -- as they were
   pub record HasPolledQuietly (once : PollEffect Packet Handed State Exchange)
-      (result : Result (Option PublicState) RunError) (drawn : List ℕ)
+      (result : Result (Option PublicState) RunError) (available : List ℕ)
       (old new : Seen (Client State Exchange)) : Type 0 where
     pub answer : result ≡ answer_of once
-    pub client : view_of new.client drawn ≡ once.view
+    pub client : view_of new.client available ≡ once.view
     pub words : new.words ≡ old.words
     pub link : new.shown ≡ old.shown
     pub faults : new.faults ≡ old.faults
@@ -169,11 +169,11 @@ module _ {PublicState State Exchange Answer Lease : Type 0}
   -- Out of memory came right after the attempt of a client that was `first`: the link took the
   -- message, and the client listens.
   pub record IsSent (now : ℕ) (first : List ℕ → View State Exchange)
-      (client : Client State Exchange) (drawn : Option (List ℕ))
+      (client : Client State Exchange) (available : Option (List ℕ))
       (before after : Option Shown) : Type 0 where
     pub listens : is_listening client.standing.phase ≡ true
     pub moment : client.last_moment ≡ now
-    pub view : IfSome drawn (λ words. IfSome before (λ shown.
+    pub view : IfSome available (λ words. IfSome before (λ shown.
         view_of client (transmit p now shown.refuses (first words)).words ≡
         transmit p now shown.refuses (first words)))
     pub link : IfSome before (λ shown. IsSomeAnd after (λ later. HasHanded Taken shown later))

@@ -1,6 +1,7 @@
 -- A stay, the time that a client spends in one state, with all its attempts; and where it stands
 -- while it lasts.
-use Rattle.std.specs.Prelude.{ℕ, Bool, true, false, List, Option}
+use Rattle.std.specs.Prelude.{ℕ, Bool, true, false, List, ◌++◌, Option, Some, None}
+use Rattle.dhcp_history.specs.Protocol.{NextState}
 use Rattle.dhcp_history.specs.Script.{NumberedEvent}
 
 -- a message that was sent: at which event, at which moment, how long an answer is awaited, and
@@ -114,3 +115,26 @@ pub record Transition (Packet Message State Exchange : Type 0) : Type 0 where
   pub closing : Closing State Message
   pub entry : Entry State Exchange
   pub events : List (NumberedEvent Packet)
+
+-- an answer at the first of these events, or else what is heard later
+abbrev pub answer_or : {Packet Message Answer : Type 0} → Option Answer → List ℕ →
+    List (Act Message) → List (NumberedEvent Packet) → Heard Packet Message Answer →
+    Heard Packet Message Answer
+answer_or None words acts events later = record later { acts = acts ++ later.acts }
+answer_or (Some answer) words acts events later =
+    record { answer = Some answer; rest = events; words = words; acts = acts }
+
+-- a course that begins with these acts
+abbrev pub with_acts : {Packet Message Exchange Answer : Type 0} → List (Act Message) →
+    Course Packet Message Exchange Answer → Course Packet Message Exchange Answer
+with_acts acts course = record course { acts = acts ++ course.acts }
+
+-- what the next stay begins with, with these words left
+abbrev pub entry_of_next : {State Exchange : Type 0} → NextState State Exchange → List ℕ →
+    Entry State Exchange
+entry_of_next next words = record { state = next.state; exchange = next.exchange; words = words }
+
+-- the setting of a stay that is entered at this moment
+abbrev pub setting_at : {State Exchange : Type 0} → ℕ → Entry State Exchange → ℕ → Setting State
+setting_at timeout_sec entry moment =
+    record { state = entry.state; entered = moment; timeout_sec = timeout_sec }

@@ -65,8 +65,8 @@ pub(crate) fn transmit<R: Rules, W: Words, L: DhcpLink>(
     requires moment { now < 2 ^ 60 }
     requires small { begun.entered < 2 ^ 60 }
     ensures transmitted { OnOk result (WhereKnown
-        (W.left words.old) (L.shown link.old) (λ drawn before.
-        HasTransmitted (R.protocol rules.now) now (view_with client.old begun drawn)
+        (W.left words.old) (L.shown link.old) (λ available before.
+        HasTransmitted (R.protocol rules.now) now (view_with client.old begun available)
         (view_of client.new) (W.left words.new) before (L.shown link.new))) }
     ensures traced { OnOk result (Transmits (R.protocol rules.now) W.gives L.moves now
         (view_with client.old begun) (view_of client.new)
@@ -124,10 +124,10 @@ pub(crate) fn receive<R: Rules, W: Words, L: DhcpLink>(
 ) -> Result<Option<R::PublicState>, AllocError>
     requires { now < 2 ^ 60 }
     ensures received { IfOk result (λ change. WhereKnown
-        (W.left words.old) (L.shown link.old) (λ drawn before.
+        (W.left words.old) (L.shown link.old) (λ available before.
         HasReceived (R.protocol rules.now)
         (receive (R.protocol rules.now) now (input_of before.waiting) None
-        (view_of client.old drawn))
+        (view_of client.old available))
         change (view_of client.new) (W.left words.new) before (L.shown link.new))) }
     ensures traced { IfOk result (λ change. Hears (R.protocol rules.now) W.gives L.moves
         (is_listening client.old.standing.phase) now change

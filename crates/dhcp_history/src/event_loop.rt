@@ -157,10 +157,10 @@ fn poll_once<R: Rules, W: Words>(
 ) -> Result<bool, AllocError>
     requires moment { at.moment < 2 ^ 60 }
     requires empty { link.old.shown.handed ≡ [] }
-    ensures polled { IfOk result (λ again. IfSome (W.left words.old) (λ drawn.
+    ensures polled { IfOk result (λ again. IfSome (W.left words.old) (λ available.
         HasPolledOnce (R.protocol rules.now) at.number at.refuse
         (poll (R.protocol rules.now) at.moment link.old.shown.refuses
-        (input_of link.old.shown.waiting) (view_of client.old drawn))
+        (input_of link.old.shown.waiting) (view_of client.old available))
         again outputs.old.items outputs.new.items (view_of client.new) (W.left words.new)
         link.new.shown.waiting)) }
     ensures refuses { link.new.shown.refuses ≡ link.old.shown.refuses }
@@ -187,9 +187,9 @@ fn poll_event<R: Rules, W: Words>(
     requires moment { at.moment < 2 ^ 60 }
     requires empty { link.old.shown.handed ≡ [] }
     requires refuses { link.old.shown.refuses ≡ at.refuse }
-    ensures reported { OnOk result (IfSome (W.left words.old) (λ drawn.
+    ensures reported { OnOk result (IfSome (W.left words.old) (λ available.
         HasReported (polls_at (R.protocol rules.now) 7
-        (event_of at (input_of link.old.shown.waiting)) (view_of client.old drawn))
+        (event_of at (input_of link.old.shown.waiting)) (view_of client.old available))
         outputs.old.items outputs.new.items (view_of client.new) (W.left words.new))) }
     ensures moment { OnOk result (client.new.last_moment ≡ at.moment) }
     ensures armed { HasNextAttempt (R.protocol rules.now).has_attempts client.old →
@@ -214,9 +214,9 @@ fn release_event<R: Rules>(
 ) -> Result<(), AllocError>
     requires empty { link.old.shown.handed ≡ [] }
     requires refuses { link.old.shown.refuses ≡ at.refuse }
-    ensures called { OnOk result ((drawn : List ℕ) →
-        HasCalled (call_at (R.protocol rules.now) (event_of at Release) (view_of client.old drawn))
-        outputs.old.items outputs.new.items (view_of client.new drawn)) }
+    ensures called { OnOk result ((available : List ℕ) →
+        HasCalled (call_at (R.protocol rules.now) (event_of at Release) (view_of client.old available))
+        outputs.old.items outputs.new.items (view_of client.new available)) }
     ensures link { OnOk result (link.new.shown ≡ link.old.shown) }
     ensures armed { HasNextAttempt (R.protocol rules.now).has_attempts client.old →
         HasNextAttempt (R.protocol rules.now).has_attempts client.new }
@@ -239,9 +239,9 @@ fn call_event<R: Rules>(
     requires empty { link.old.shown.handed ≡ [] }
     requires refuses { link.old.shown.refuses ≡ at.refuse }
     requires no_packet { link.old.shown.waiting ≡ None }
-    ensures called { OnOk result ((drawn : List ℕ) →
-        HasCalled (call_at (R.protocol rules.now) (event_of at input) (view_of client.old drawn))
-        outputs.old.items outputs.new.items (view_of client.new drawn)) }
+    ensures called { OnOk result ((available : List ℕ) →
+        HasCalled (call_at (R.protocol rules.now) (event_of at input) (view_of client.old available))
+        outputs.old.items outputs.new.items (view_of client.new available)) }
     ensures empty { OnOk result (link.new.shown.handed ≡ []) }
     ensures refuses { OnOk result (link.new.shown.refuses ≡ at.refuse) }
     ensures packet { OnOk result (input_of link.new.shown.waiting ≡ input_after_call input) }
@@ -274,8 +274,8 @@ pub fn run_event<R: Rules, W: Words>(
     outputs: &mut Vec<NumberedReport<R::PublicState, Handed>>,
 ) -> Result<(), AllocError>
     requires { event.moment < 2 ^ 60 }
-    ensures reported { OnOk result (IfSome (W.left words.old) (λ drawn.
-        HasReported (event_at (R.protocol rules.now) event (view_of client.old drawn))
+    ensures reported { OnOk result (IfSome (W.left words.old) (λ available.
+        HasReported (event_at (R.protocol rules.now) event (view_of client.old available))
         outputs.old.items outputs.new.items (view_of client.new) (W.left words.new))) }
     ensures moment { OnOk result (client.new.last_moment ≡ event.moment) }
     ensures armed { HasNextAttempt (R.protocol rules.now).has_attempts client.old →
@@ -302,8 +302,8 @@ fn run_events<R: Rules, W: Words>(
     events: Vec<NumberedEvent<Packet>>,
 ) -> Result<Vec<NumberedReport<R::PublicState, Handed>>, AllocError>
     requires { All (λ event. event.moment < 2 ^ 60) events.items }
-    ensures reported { IfOk result (λ reported. IfSome (W.left words.old) (λ drawn.
-        HasReported (events_at (R.protocol rules.now) (view_of client.old drawn) events.items)
+    ensures reported { IfOk result (λ reported. IfSome (W.left words.old) (λ available.
+        HasReported (events_at (R.protocol rules.now) (view_of client.old available) events.items)
         [] reported.items (view_of client.new) (W.left words.new))) }
     ensures moment { OnOk result
         (client.new.last_moment ≡ last_moment client.old.last_moment events.items) }

@@ -53,8 +53,8 @@ pub(crate) fn limit_is_over<R: Rules>(
     client: &Client<R::State, R::Exchange>,
     now: u64,
 ) -> bool
-    ensures { (drawn : List ℕ) →
-        result ≡ limit_is_over (R.protocol rules.now) now (view_of client.now drawn) }
+    ensures { (available : List ℕ) →
+        result ≡ limit_is_over (R.protocol rules.now) now (view_of client.now available) }
 {
     client.standing.phase != Phase::Unpolled && has_come(now, limit_moment(rules, client))
 }
@@ -73,8 +73,8 @@ pub(crate) fn has_ended<R: Rules>(
     client: &Client<R::State, R::Exchange>,
     now: u64,
 ) -> bool
-    ensures { (drawn : List ℕ) →
-        result ≡ has_ended (R.protocol rules.now) now (view_of client.now drawn) }
+    ensures { (available : List ℕ) →
+        result ≡ has_ended (R.protocol rules.now) now (view_of client.now available) }
 {
     has_come(now, rules.ending_moment(&client.state))
         || (is_wait_over(client.standing, now)
@@ -103,10 +103,10 @@ fn end_state<R: Rules>(
     client: &mut Client<R::State, R::Exchange>,
     now: u64,
 ) -> R::PublicState
-    ensures client { (drawn : List ℕ) → view_of client.new drawn
+    ensures client { (available : List ℕ) → view_of client.new available
         ≡ enter ((R.protocol rules.now).after_end client.old.state
-        (exchange_at (R.protocol rules.now) now (view_of client.old drawn)))
-        (view_of client.old drawn) }
+        (exchange_at (R.protocol rules.now) now (view_of client.old available)))
+        (view_of client.old available) }
     ensures reported { result ≡ (R.protocol rules.now).public_state client.new.state }
     ensures unpolled { is_unpolled client.new.standing.phase ≡ true }
     ensures timeout { client.new.timeout_sec ≡ client.old.timeout_sec }
@@ -128,9 +128,9 @@ fn first_due<R: Rules, W: Words>(
     words: &mut W,
 ) -> Option<u64>
     requires { now < 2 ^ 60 }
-    ensures drawn { IfSome (W.left words.old) (λ drawn.
+    ensures drawn { IfSome (W.left words.old) (λ available.
         HasDue (R.protocol rules.now) now client.now.state
-        (pause_of (R.protocol rules.now) client.now.state client.now.standing.exchange drawn)
+        (pause_of (R.protocol rules.now) client.now.state client.now.standing.exchange available)
         result (W.left words.new)) }
     ensures taken { DrawsBy W.gives
         (due_of (R.protocol rules.now) now client.now.state client.now.standing.exchange)
@@ -156,8 +156,8 @@ fn begin_stay<R: Rules, W: Words>(
     words: &mut W,
 ) -> Standing<R::Exchange>
     requires { now < 2 ^ 60 }
-    ensures drawn { IfSome (W.left words.old) (λ drawn.
-        HasDrawn (begin_stay (R.protocol rules.now) now (view_of client.now drawn))
+    ensures drawn { IfSome (W.left words.old) (λ available.
+        HasDrawn (begin_stay (R.protocol rules.now) now (view_of client.now available))
         (view_with client.now result) (W.left words.new)) }
     ensures taken { StepsBy W.gives (begin_stay (R.protocol rules.now) now)
         (view_of client.now) (view_with client.now result) words.old words.new }

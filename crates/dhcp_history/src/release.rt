@@ -42,9 +42,9 @@ pub fn release_held<R: Rules, L: DhcpLink>(
     link: &mut L,
 ) -> Result<bool, ReleaseError>
     ensures released { UnlessOutOfMemory result
-        (IfSome (L.shown link.old) (λ before. (drawn : List ℕ) →
-        HasReleased (release_held (R.protocol rules.now) before.refuses (view_of client.old drawn))
-        result (view_of client.new drawn) before (L.shown link.new))) }
+        (IfSome (L.shown link.old) (λ before. (available : List ℕ) →
+        HasReleased (release_held (R.protocol rules.now) before.refuses (view_of client.old available))
+        result (view_of client.new available) before (L.shown link.new))) }
     ensures held { IfOk result (λ released.
         released ≡ is_some ((R.protocol rules.now).held_lease client.old.state)) }
     ensures needed { OnOutOfMemory result
@@ -53,10 +53,10 @@ pub fn release_held<R: Rules, L: DhcpLink>(
     ensures traced { TracesRelease L.moves
         (held_message (R.protocol rules.now) client.old.state client.old.standing.exchange)
         result link.old link.new }
-    ensures cleaned { IfOk result (λ released. (drawn : List ℕ) →
-        view_of client.new drawn ≡ (if released
-        then clean_up (R.protocol rules.now) (view_of client.old drawn)
-        else view_of client.old drawn)) }
+    ensures cleaned { IfOk result (λ released. (available : List ℕ) →
+        view_of client.new available ≡ (if released
+        then clean_up (R.protocol rules.now) (view_of client.old available)
+        else view_of client.old available)) }
     ensures anew { IfOk result (λ released. released ≡ true →
         client.new.standing ≡ unpolled client.new.standing.exchange) }
     ensures kept { KeepsClient (R.protocol rules.now) result client.old client.new }
@@ -80,8 +80,8 @@ pub fn release_by<R: Rules, L: DhcpLink>(
 ) -> Result<(), ReleaseError>
     ensures handed { HandsOver message (sent_when result) (L.shown link.old) (L.shown link.new) }
     ensures moved { L.moves (Hands message (sent_when result)) link.old link.new }
-    ensures cleaned { OnOk result ((drawn : List ℕ) → view_of client.new drawn
-        ≡ clean_up (R.protocol rules.now) (view_of client.old drawn)) }
+    ensures cleaned { OnOk result ((available : List ℕ) → view_of client.new available
+        ≡ clean_up (R.protocol rules.now) (view_of client.old available)) }
     ensures anew { OnOk result (client.new.standing ≡ unpolled client.new.standing.exchange) }
     ensures kept { KeepsClient (R.protocol rules.now) result client.old client.new }
     ensures moment { client.new.last_moment ≡ client.old.last_moment }

@@ -72,9 +72,9 @@ pub fn next_poll<R: Rules>(rules: &R, client: &Client<R::State, R::Exchange>) ->
 // Whether a poll neither sends nor takes a packet: an error is kept, the time limit is over, or the
 // state ends.
 fn is_over<R: Rules>(rules: &R, client: &Client<R::State, R::Exchange>, now: u64) -> bool
-    ensures { (drawn : List ℕ) → result ≡ (is_stopped client.now.standing.phase
-        || (limit_is_over (R.protocol rules.now) now (view_of client.now drawn)
-        || has_ended (R.protocol rules.now) now (view_of client.now drawn))) }
+    ensures { (available : List ℕ) → result ≡ (is_stopped client.now.standing.phase
+        || (limit_is_over (R.protocol rules.now) now (view_of client.now available)
+        || has_ended (R.protocol rules.now) now (view_of client.now available))) }
 {
     is_stopped(client.standing.phase)
         || (limit_is_over(rules, client, now) || has_ended(rules, client, now))

@@ -32,4 +32,4 @@ pub returns-clause-reported : goal.returns-clause-reported
 returns-clause-reported g c =
     let left = g.W.Words.left in
     loop_ends (g.R.Rules.protocol c.args.rules.now) (event_of c.args.at (input_of c.args.link.now.shown.waiting)) (left c.args.words.now) (left c.loop.words) (view_of c.args.client.now) (view_of c.loop.client)
-    (7 - c.loop.counter) c.loop.link.shown.waiting c.args.outputs.now.items c.loop.outputs.items (omega arith) (λ drawn. refl) c.loop.invariant.so_far
+    (7 - c.loop.counter) c.loop.link.shown.waiting c.args.outputs.now.items c.loop.outputs.items (omega arith) (λ available. refl) c.loop.invariant.so_far

@@ -13,8 +13,8 @@ invariant-loop g l =
     let p = g.R.Rules.protocol l.rules in
     let left = g.W.Words.left in
     record {
-      so_far : IfSome (left l.fn.words) (λ first. IsSomeAnd (left l.words) (λ drawn.
-          MakesUp (polls_at p (7 - l.counter) (event_of l.at (input_of l.link.shown.waiting)) (view_of l.client drawn))
+      so_far : IfSome (left l.fn.words) (λ first. IsSomeAnd (left l.words) (λ available.
+          MakesUp (polls_at p (7 - l.counter) (event_of l.at (input_of l.link.shown.waiting)) (view_of l.client available))
           (polls_at p 7 (event_of l.at (input_of l.fn.link.shown.waiting)) (view_of l.fn.client first)) l.outputs.items l.fn.outputs.items));
       empty : l.link.shown.handed ≡ [];
       refuses : l.link.shown.refuses ≡ l.at.refuse;

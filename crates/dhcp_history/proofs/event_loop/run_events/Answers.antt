@@ -18,8 +18,8 @@ loop-event-preserved g c =
     record {
       so_far = events_go_on p (left c.args.words.now) (left c.loop-event.words) (left c.run_event.new.words) (view_of c.args.client.now) (view_of c.loop-event.client) (view_of c.run_event.new.client)
           c.in-Some.event rest whole [] c.loop-event.outputs.items c.run_event.new.outputs.items
-          (subst (λ (events : List (NumberedEvent Packet)). IfSome (left c.args.words.now) (λ words. IsSomeAnd (left c.loop-event.words) (λ drawn.
-          MakesUp (events_at p (view_of c.loop-event.client drawn) events) (events_at p (view_of c.args.client.now words) whole) c.loop-event.outputs.items [])))
+          (subst (λ (events : List (NumberedEvent Packet)). IfSome (left c.args.words.now) (λ words. IsSomeAnd (left c.loop-event.words) (λ available.
+          MakesUp (events_at p (view_of c.loop-event.client available) events) (events_at p (view_of c.args.client.now words) whole) c.loop-event.outputs.items [])))
           c.in-Some.ensures.steps.0 c.loop-event.invariant.so_far)
           c.in_ok-run_event.ensures.reported;
       moment = rw c.in_ok-run_event.ensures.moment

@@ -13,8 +13,8 @@ invariant-loop-event g l =
     let p = g.R.Rules.protocol l.rules in
     let left = g.W.Words.left in
     record {
-      so_far : IfSome (left l.fn.words) (λ first. IsSomeAnd (left l.words) (λ drawn.
-          MakesUp (events_at p (view_of l.client drawn) (into_iter_items l.event-iterator)) (events_at p (view_of l.fn.client first) l.fn.events.items) l.outputs.items []));
+      so_far : IfSome (left l.fn.words) (λ first. IsSomeAnd (left l.words) (λ available.
+          MakesUp (events_at p (view_of l.client available) (into_iter_items l.event-iterator)) (events_at p (view_of l.fn.client first) l.fn.events.items) l.outputs.items []));
       moment : last_moment l.client.last_moment (into_iter_items l.event-iterator) ≡ last_moment l.fn.client.last_moment l.fn.events.items;
       armed : HasNextAttempt p.has_attempts l.fn.client → HasNextAttempt p.has_attempts l.client;
       keeps : Keeps p l.fn.client.state l.client.state;

@@ -40,8 +40,8 @@ pub returns-then-is_stopped-clause-polls : goal.returns-then-is_stopped-clause-p
 returns-then-is_stopped-clause-polls g c = record {
   polled = search rules;
   quiet =
-      λ drawn.
-      rw (quiet_stopped (g.R.Rules.protocol c.args.rules.now) c.args.now (view_of c.args.client.now drawn) (sym c.is_stopped.ensures ∙ c.if-is_stopped.true))
+      λ available.
+      rw (quiet_stopped (g.R.Rules.protocol c.args.rules.now) c.args.now (view_of c.args.client.now available) (sym c.is_stopped.ensures ∙ c.if-is_stopped.true))
       (record { answer = refl; client = rw (stopped_phase c.args.client.now.standing.phase (sym c.is_stopped.ensures ∙ c.if-is_stopped.true)); words = refl; link = refl; faults = refl });
   cause = search rules;
   timeout = search rules;
@@ -63,8 +63,8 @@ pub returns-then-limit_is_over-clause-polls : goal.returns-then-limit_is_over-cl
 returns-then-limit_is_over-clause-polls g c = record {
   polled = search rules;
   quiet =
-      λ drawn.
-      rw (quiet_over (g.R.Rules.protocol c.args.rules.now) c.args.now (view_of c.args.client.now drawn) (sym c.is_stopped.ensures ∙ c.if-is_stopped.false) (sym (c.limit_is_over.ensures drawn) ∙ c.if-limit_is_over.true))
+      λ available.
+      rw (quiet_over (g.R.Rules.protocol c.args.rules.now) c.args.now (view_of c.args.client.now available) (sym c.is_stopped.ensures ∙ c.if-is_stopped.false) (sym (c.limit_is_over.ensures available) ∙ c.if-limit_is_over.true))
       (record { answer = refl; client = refl; words = refl; link = refl; faults = refl });
   cause = search rules;
   timeout = search rules;
@@ -92,12 +92,12 @@ returns-then-has_ended-clause-polls g c = record {
       c.end_state.result (λ words. sym c.is_stopped.ensures ∙ c.if-is_stopped.false) (λ words. sym (c.limit_is_over.ensures words) ∙ c.if-limit_is_over.false) (λ words. sym (c.has_ended.ensures words) ∙ c.if-has_ended.true)
       c.end_state.ensures.client (λ words. c.end_state.ensures.reported);
   quiet =
-      λ drawn.
+      λ available.
       let p = g.R.Rules.protocol c.args.rules.now in
-      rw (quiet_ended p c.args.now (view_of c.args.client.now drawn) (sym c.is_stopped.ensures ∙ c.if-is_stopped.false) (sym (c.limit_is_over.ensures drawn) ∙ c.if-limit_is_over.false) (sym (c.has_ended.ensures drawn) ∙ c.if-has_ended.true))
+      rw (quiet_ended p c.args.now (view_of c.args.client.now available) (sym c.is_stopped.ensures ∙ c.if-is_stopped.false) (sym (c.limit_is_over.ensures available) ∙ c.if-limit_is_over.false) (sym (c.has_ended.ensures available) ∙ c.if-has_ended.true))
       (record {
-        answer = ap (λ (r : _). Ok (Some r)) (c.end_state.ensures.reported ∙ ap (λ (v : View _ _). p.public_state v.state) (c.end_state.ensures.client drawn));
-        client = c.end_state.ensures.client drawn;
+        answer = ap (λ (r : _). Ok (Some r)) (c.end_state.ensures.reported ∙ ap (λ (v : View _ _). p.public_state v.state) (c.end_state.ensures.client available));
+        client = c.end_state.ensures.client available;
         words = refl;
         link = refl;
         faults = refl;
@@ -130,10 +130,10 @@ returns-then-has_come-clause-polls g c = record {
       c.transmit_due.result (λ words. sym c.is_stopped.ensures ∙ c.if-is_stopped.false) (λ words. sym (c.limit_is_over.ensures words) ∙ c.if-limit_is_over.false) (λ words. sym (c.has_ended.ensures words) ∙ c.if-has_ended.false)
       c.begin_stay-begun.ensures.drawn) c.transmit_due.ensures.worked.polled;
   quiet =
-      λ drawn.
+      λ available.
       let p = g.R.Rules.protocol c.args.rules.now in
-      rw (quiet_busy p c.args.now (view_of c.args.client.now drawn) (sym c.is_stopped.ensures ∙ c.if-is_stopped.false) (sym (c.limit_is_over.ensures drawn) ∙ c.if-limit_is_over.false) (sym (c.has_ended.ensures drawn) ∙ c.if-has_ended.false)
-      (due_busy p c.args.now c.args.client.now c.begin_stay-begun.result drawn c.begin_stay-begun.ensures.polled c.begin_stay-begun.ensures.silent (sym c.has_come.ensures ∙ c.if-has_come.true)))
+      rw (quiet_busy p c.args.now (view_of c.args.client.now available) (sym c.is_stopped.ensures ∙ c.if-is_stopped.false) (sym (c.limit_is_over.ensures available) ∙ c.if-limit_is_over.false) (sym (c.has_ended.ensures available) ∙ c.if-has_ended.false)
+      (due_busy p c.args.now c.args.client.now c.begin_stay-begun.result available c.begin_stay-begun.ensures.polled c.begin_stay-begun.ensures.silent (sym c.has_come.ensures ∙ c.if-has_come.true)))
       tt;
   cause = search rules;
   timeout = search rules;
@@ -170,11 +170,11 @@ returns-clause-polls g c = record {
       c.receive_early.result (λ words. sym c.is_stopped.ensures ∙ c.if-is_stopped.false) (λ words. sym (c.limit_is_over.ensures words) ∙ c.if-limit_is_over.false) (λ words. sym (c.has_ended.ensures words) ∙ c.if-has_ended.false)
       c.begin_stay-begun.ensures.drawn) c.receive_early.ensures.worked.polled;
   quiet =
-      λ drawn.
+      λ available.
       early_quiet (g.R.Rules.protocol c.args.rules.now) c.args.now c.args.client.now c.receive_early.new.client c.begin_stay-begun.result c.receive_early.result
       (g.W.Words.left c.args.words.now) (g.W.Words.left c.begin_stay-begun.new.words) (g.W.Words.left c.receive_early.new.words) (g.L.DhcpLink.shown c.args.link.now) (g.L.DhcpLink.shown c.receive_early.new.link)
-      (g.L.DhcpLink.faults c.args.link.now) (g.L.DhcpLink.faults c.receive_early.new.link) drawn
-      (sym c.is_stopped.ensures ∙ c.if-is_stopped.false) (sym (c.limit_is_over.ensures drawn) ∙ c.if-limit_is_over.false) (sym (c.has_ended.ensures drawn) ∙ c.if-has_ended.false)
+      (g.L.DhcpLink.faults c.args.link.now) (g.L.DhcpLink.faults c.receive_early.new.link) available
+      (sym c.is_stopped.ensures ∙ c.if-is_stopped.false) (sym (c.limit_is_over.ensures available) ∙ c.if-limit_is_over.false) (sym (c.has_ended.ensures available) ∙ c.if-has_ended.false)
       c.begin_stay-begun.ensures.polled c.begin_stay-begun.ensures.silent c.receive_early.ensures.worked.timeout c.receive_early.ensures.shut;
   cause = search rules;
   timeout = search rules;

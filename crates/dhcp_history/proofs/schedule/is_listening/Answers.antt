@@ -8,10 +8,10 @@ pub returns-then-not-is_over : goal.returns-then-not-is_over
 returns-then-not-is_over g c =
     let going : c.is_over.result ≡ false = grind arith in
     listening_of (g.R.Rules.protocol c.args.rules.now) c.args.now c.has_attempt.result c.args.client.now
-    (λ drawn. ready_asks (g.R.Rules.protocol c.args.rules.now) c.args.now c.has_attempt.result c.args.client.now drawn (sym (c.is_over.ensures drawn) ∙ going) c.has_attempt.ensures)
+    (λ available. ready_asks (g.R.Rules.protocol c.args.rules.now) c.args.now c.has_attempt.result c.args.client.now available (sym (c.is_over.ensures available) ∙ going) c.has_attempt.ensures)
 
 pub returns-else-not-is_over : goal.returns-else-not-is_over
 returns-else-not-is_over g c =
     let over : c.is_over.result ≡ true = grind arith in
     listening_of (g.R.Rules.protocol c.args.rules.now) c.args.now (not c.is_over.result) c.args.client.now
-    (λ drawn. ap not over ∙ over_deaf (g.R.Rules.protocol c.args.rules.now) c.args.now c.args.client.now drawn (sym (c.is_over.ensures drawn) ∙ over))
+    (λ available. ap not over ∙ over_deaf (g.R.Rules.protocol c.args.rules.now) c.args.now c.args.client.now available (sym (c.is_over.ensures available) ∙ over))
