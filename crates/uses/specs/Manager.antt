@@ -1,5 +1,5 @@
 -- What a network manager does with what its client reports.
-use Rattle.std.specs.Prelude.{◌≡◌, ◌<◌, ◌⊎◌, ℕ, Bool, List, [], ◌∷◌, ◌++◌, length, map, Option, Some, None, Result, Ok, Err, count_ones}
+use Rattle.std.specs.Prelude.{◌≡◌, ◌<◌, ◌⊎◌, ◌&&◌, ◌||◌, ℕ, Bool, not, is_some, List, [], ◌∷◌, ◌++◌, length, map, Option, Some, None, Result, Ok, Err, count_ones}
 use Rattle.std.specs.Net.Addr.{ipv4_bits}
 use Rattle.std.specs.declared.net.Ipv4Addr.{Ipv4Addr}
 use Rattle.std.specs.declared.net.Ipv6Addr.{Ipv6Addr}
@@ -10,6 +10,7 @@ use Rattle.dhcp_clock.specs.Leads.{Leads}
 use Rattle.dhcp_clock.specs.Link.{Shown, Turn}
 use Rattle.dhcp_history.specs.Calls.{Polls}
 use Rattle.dhcp_history.specs.Errors.{run_answer}
+use Rattle.dhcp_history.specs.Machine.{is_stopped, is_unpolled}
 use Rattle.dhcp_history.specs.Protocol.{Protocol}
 use Rattle.dhcp_history.specs.RealCalls.{Call, CallsLead}
 use Rattle.dhcp_history.specs.Run.{UnlessNoMemory}
@@ -17,6 +18,7 @@ use Rattle.dhcp_history.specs.Schedule.{IsSettled}
 use Rattle.dhcp_history.specs.Seen.{seen}
 use Rattle.dhcp_history.specs.Traced.{Traces}
 use Rattle.dhcp_history.specs.declared.client.Client.{Client}
+use Rattle.dhcp_history.specs.declared.client.Standing.{Standing}
 use Rattle.dhcp4_client.specs.declared.state.PlainState as plain4
 use Rattle.dhcp4_client.specs.declared.state.PlainState.TheVariants as states4
 use Rattle.dhcp6_client.specs.declared.state.PlainState as plain6
@@ -83,6 +85,19 @@ pub record Linked (State Exchange Source Link : Type 0) : Type 0 where
 abbrev pub linked : {State Exchange Source Link : Type 0} → Client State Exchange → Source →
     Link → Linked State Exchange Source Link
 linked client words link = record { client = client; words = words; link = link }
+
+-- whether a client that was polled in its state has a next attempt there
+abbrev pub has_attempt_ahead : {Exchange : Type 0} → Standing Exchange → Bool
+has_attempt_ahead standing = not (is_unpolled standing.phase) && is_some standing.deadline
+
+-- Whether a client does nothing any more without a packet: it keeps an error, or its state lasts
+-- for ever and no attempt lies ahead in it. Of a client whose states all end, that is whether it
+-- keeps an error.
+abbrev pub rests_for_ever : {State Exchange : Type 0} → (State → Bool) → Client State Exchange →
+    Bool
+rests_for_ever lasts_for_ever client =
+    (lasts_for_ever client.state && not (has_attempt_ahead client.standing))
+    || is_stopped client.standing.phase
 
 -- the calls at a moment that return these changes, one after the other
 abbrev pub calls_at : {PublicState : Type 0} → ℕ → List (Option PublicState) →

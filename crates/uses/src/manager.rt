@@ -5,12 +5,11 @@ mod interface;
 #[cfg(test)]
 mod tests;
 
-ghost use Rattle.std.specs.Prelude.{◌≡◌, ◌<◌, ◌^◌, ◌⊎◌, ◌||◌, Bool, IfErr, IfOk, false, is_some, true};
+ghost use Rattle.std.specs.Prelude.{◌≡◌, ◌<◌, ◌^◌, ◌⊎◌, Bool, IfErr, IfOk, is_some, not};
 ghost use Rattle.dhcp_wire.specs.Error.{no_memory};
 ghost use Rattle.dhcp_history.specs.Calls.{HasNextPoll};
 ghost use Rattle.dhcp_history.specs.Errors.{timed_out};
-ghost use Rattle.dhcp_history.specs.Machine.{is_stopped};
-ghost use Rattle.uses.specs.Manager.{HasTurned, Polled, linked};
+ghost use Rattle.uses.specs.Manager.{HasTurned, Polled, linked, rests_for_ever};
 
 pub use clients::{new_client, new_client6, new_info_client};
 use dhcp_clock::{DhcpLink, Words};
@@ -22,10 +21,9 @@ pub trait ManagedClient {
     ghost use Rattle.dhcp_clock.specs.declared.link.Handed.{Handed};
     ghost use Rattle.dhcp_clock.specs.declared.link.Packet.{Packet};
     ghost use Rattle.dhcp_history.specs.Calls.{HasNextPoll};
-    ghost use Rattle.dhcp_history.specs.Machine.{is_stopped};
     ghost use Rattle.dhcp_history.specs.Protocol.{Protocol};
     ghost use Rattle.dhcp_history.specs.declared.client.Client.{Client};
-    ghost use Rattle.uses.specs.Manager.{Polled, linked};
+    ghost use Rattle.uses.specs.Manager.{Polled, linked, rests_for_ever};
 
     /// A state that it reports.
     type State: Drop;
@@ -74,12 +72,11 @@ pub trait ManagedClient {
         ensures needs { needs_memory self.new ≡ needs_memory self.old }
         ensures errors { IfErr result (λ error. (error ≡ timed_out) ⊎ (error ≡ no_memory)) };
 
-    /// The moment, in milliseconds, before which it has nothing to do without a packet; none only
-    /// if it keeps an error, or its state lasts for ever.
+    /// The moment, in milliseconds, before which it has nothing to do without a packet; none if and
+    /// only if it keeps an error, or its state lasts for ever and no attempt lies ahead in it.
     fn next_poll(&self) -> Option<u64>
         ensures next { HasNextPoll (protocol self.now) result (client self.now) }
-        ensures none { is_some result ≡ false → (is_stopped (client self.now).standing.phase
-            || lasts_for_ever (client self.now).state) ≡ true };
+        ensures none { is_some result ≡ not (rests_for_ever lasts_for_ever (client self.now)) };
 }
 
 /// What is set up as the states of a client ask.
@@ -94,8 +91,9 @@ pub trait Follow<S> {
 
 /// One turn of the loop, now and whenever a packet comes: polls until nothing changes any more, at
 /// most seven times, since one packet changes the state at most six times. The interface follows
-/// each new state. Returns the moment, in milliseconds, until which the manager may sleep; none
-/// only if the client keeps an error, or its state lasts for ever.
+/// each new state. Returns the moment, in milliseconds, until which the manager may sleep; none if
+/// and only if the client keeps an error, or its state lasts for ever and no attempt lies ahead in
+/// it.
 pub fn turn<C: ManagedClient, I: Follow<C::State>, W: Words, L: DhcpLink>(
     client: &mut C,
     interface: &mut I,
@@ -112,9 +110,8 @@ pub fn turn<C: ManagedClient, I: Follow<C::State>, W: Words, L: DhcpLink>(
     ensures same { C.protocol client.new ≡ C.protocol client.old }
     ensures next { IfOk result (λ moment.
         HasNextPoll (C.protocol client.new) moment (C.client client.new)) }
-    ensures none { IfOk result (λ moment. is_some moment ≡ false →
-        (is_stopped (C.client client.new).standing.phase
-        || C.lasts_for_ever (C.client client.new).state) ≡ true) }
+    ensures none { IfOk result (λ moment.
+        is_some moment ≡ not (rests_for_ever C.lasts_for_ever (C.client client.new))) }
     ensures errors { IfErr result (λ error. (error ≡ timed_out) ⊎ (error ≡ no_memory)) }
 {
     for _ in 0..7u32 {
