@@ -215,7 +215,8 @@ fn release_event<R: Rules>(
     requires empty { link.old.shown.handed ≡ [] }
     requires refuses { link.old.shown.refuses ≡ at.refuse }
     ensures called { OnOk result ((available : List ℕ) →
-        HasCalled (call_at (R.protocol rules.now) (event_of at Release) (view_of client.old available))
+        HasCalled (call_at (R.protocol rules.now) (event_of at Release)
+        (view_of client.old available))
         outputs.old.items outputs.new.items (view_of client.new available)) }
     ensures link { OnOk result (link.new.shown ≡ link.old.shown) }
     ensures armed { HasNextAttempt (R.protocol rules.now).has_attempts client.old →
@@ -240,7 +241,8 @@ fn call_event<R: Rules>(
     requires refuses { link.old.shown.refuses ≡ at.refuse }
     requires no_packet { link.old.shown.waiting ≡ None }
     ensures called { OnOk result ((available : List ℕ) →
-        HasCalled (call_at (R.protocol rules.now) (event_of at input) (view_of client.old available))
+        HasCalled (call_at (R.protocol rules.now) (event_of at input)
+        (view_of client.old available))
         outputs.old.items outputs.new.items (view_of client.new available)) }
     ensures empty { OnOk result (link.new.shown.handed ≡ []) }
     ensures refuses { OnOk result (link.new.shown.refuses ≡ at.refuse) }

@@ -43,7 +43,8 @@ pub fn release_held<R: Rules, L: DhcpLink>(
 ) -> Result<bool, ReleaseError>
     ensures released { UnlessOutOfMemory result
         (IfSome (L.shown link.old) (λ before. (available : List ℕ) →
-        HasReleased (release_held (R.protocol rules.now) before.refuses (view_of client.old available))
+        HasReleased (release_held (R.protocol rules.now) before.refuses
+        (view_of client.old available))
         result (view_of client.new available) before (L.shown link.new))) }
     ensures held { IfOk result (λ released.
         released ≡ is_some ((R.protocol rules.now).held_lease client.old.state)) }
