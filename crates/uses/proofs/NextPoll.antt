@@ -1,5 +1,5 @@
 -- When a client for configuration alone has no next poll.
-use Rattle.std.proofs.Common.{◌≡◌, ℕ, Bool, true, false, refl, sym, ap, ◌∙◌}
+use Rattle.std.proofs.Common.{◌≡◌, ℕ, Bool, true, false, refl, ap, ◌∙◌}
 use Rattle.std.specs.Prelude.{◌&&◌, ◌||◌, not, Option, Some, None, is_some, if◌then◌else◌}
 use Rattle.dhcp_history.specs.declared.client.Client.{Client}
 use Rattle.dhcp_history.specs.declared.client.Phase.{Phase}
@@ -13,7 +13,7 @@ use Rattle.dhcp6_info.specs.declared.client_state.ClientState.TheVariants.{Infor
 use Rattle.dhcp6_info.specs.declared.client_state.Exchange.{Exchange}
 use Rattle.dhcp6_info.specs.Client.{lasts_for_ever}
 use Rattle.dhcp6_info.specs.Rules.{protocol, ending_moment, has_attempts, refresh_moment}
-use Rattle.uses.specs.Manager.{has_attempt_ahead, rests_for_ever}
+use Rattle.uses.specs.Manager.{rests_for_ever}
 
 -- a moment is there if its absence is refused
 is_there : (moment : Option ℕ) → (is_some moment ≡ false → false ≡ true) → is_some moment ≡ true

@@ -146,6 +146,7 @@ impl ManagedClient for DhcpV6InfoClient {
         DhcpV6InfoClient::run(self, now, words, link)
     }
 
+    #[tactic(auto, using(crate::proofs::NextPoll::rests_without_a_moment))]
     fn next_poll(&self) -> Option<u64> {
         DhcpV6InfoClient::next_poll(self)
     }
