@@ -13,6 +13,7 @@ use Rattle.dhcp4_client.specs.Rules.{protocol}
 use Rattle.dhcp4_client.specs.declared.state.PlainState.{PlainState}
 use Rattle.dhcp4_net.specs.declared.peer.Peer.{Peer}
 use Rattle.dhcp4_msg.specs.declared.option_code.DhcpV4OptionCode.{DhcpV4OptionCode}
+use Rattle.dhcp4_lease.specs.declared.message_forms.DhcpV4MessageForms.TheVariants.{Mozim}
 use Rattle.dhcp4_lease.specs.Config as configs
 use Rattle.dhcp4_lease.specs.Config.{Config, rising_codes}
 use Rattle.dhcp4_client.specs.Client.{first_exchange}
@@ -27,7 +28,7 @@ use Rattle.dhcp4_net.specs.declared.script.NetEvent.{NetEvent}
 
 -- past the last client
 abbrev pub no_client : NetClient
-no_client = record { mac = replicate 6 0; words = [] }
+no_client = record { mac = replicate 6 0; message_forms = Mozim; words = [] }
 
 abbrev pub client_at : List NetClient → ℕ → NetClient
 client_at clients number = slice_index_or clients number no_client
@@ -36,10 +37,15 @@ client_at clients number = slice_index_or clients number no_client
 abbrev pub codes : List DhcpV4OptionCode
 codes = rising_codes (1 ∷ 3 ∷ 6 ∷ [])
 
--- a configuration with what it has of its own: interface 1, its MAC address, and these options
+-- a configuration with what it has of its own: interface 1, its MAC address, the forms of its
+-- messages, and these options
 abbrev pub with_fields : NetClient → Config → Config
-with_fields client config =
-    record config { iface_index = 1; src_mac = client.mac; request_opts = codes }
+with_fields client config = record config {
+  iface_index = 1;
+  src_mac = client.mac;
+  message_forms = client.message_forms;
+  request_opts = codes;
+}
 
 -- its configuration; the interface has no name
 unfoldable pub config_of : NetClient → Config

@@ -57,6 +57,7 @@ fn put_fields(alloc: Global, config: &mut DhcpV4Config, client: &NetClient) -> R
     ensures { Becomes result config.new (clients.with_fields client.now config.old) }
 {
     config.iface_index = 1;
+    config.set_message_forms(client.message_forms);
     let mac = client.mac;
     put_mac(config, &mac)?;
     put_codes(alloc, config)

@@ -6,6 +6,7 @@ ghost use Rattle.dhcp4_net.specs.Clients as clients;
 ghost use Rattle.dhcp4_net.specs.Script as scripts;
 
 use dhcp_wire::Sequence;
+use dhcp4_lease::DhcpV4MessageForms;
 use dhcp4_server::ServerConfig;
 
 /// How many clients a network has at most.
@@ -23,6 +24,8 @@ const MOMENT_LIMIT: u64 = 1 << 60;
 pub struct NetClient {
     /// Its MAC address.
     pub mac: [u8; 6],
+    /// The forms of the messages that it sends.
+    pub message_forms: DhcpV4MessageForms,
     /// The random words that it draws, in order; after the last one each is 0. The first one is its
     /// transaction id.
     pub words: Sequence<u32>,

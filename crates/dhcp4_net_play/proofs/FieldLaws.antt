@@ -2,7 +2,6 @@
 use Rattle.std.proofs.Common.{◌≡◌, ◌≢◌, ◌⊎◌, inl, inr, ℕ, ◌<◌, ◌≤◌, Bool, true, false, cond, List, [], ◌∷◌, ◌++◌, length, Some, None, refl, sym, ap, ◌∙◌, append_assoc, length-append, arith, codes}
 use Rattle.std.specs.Prelude.{OnOk, Result, Ok, Err}
 use Rattle.std.specs.Fmt.{decimal}
-use Rattle.std.specs.Int.{w32}
 use Rattle.std.specs.Str.{bytes_eq}
 use Rattle.std.proofs.lemmas.Slice.Eq.{bytes_eq-Decides}
 use Rattle.hex.specs.Hex.{encode_lower}
@@ -12,12 +11,13 @@ use Rattle.dhcp_stream.specs.Line.{line}
 use Rattle.dhcp_stream.specs.TextReader.{Takes, after_tag, both, field_at, in_field, mac_in, made_of, tag_at}
 use Rattle.dhcp_stream.specs.declared.text_reader.ReadError.{ReadError}
 use Rattle.dhcp_stream.proofs.CodecLaws.{HasNo-test, IsCodec, IsCodec-after_tag, IsCodec-as, IsCodec-both, IsCodec-in_field, IsCodec-made_of, bind_some, field_at-sound, map_some, moved, same_read, tag_at-sound}
-use Rattle.dhcp_stream.proofs.ValueLemmas.{IsValue-mac, IsValue-number, IsValue-words}
+use Rattle.dhcp_stream.proofs.ValueLemmas.{IsValue-mac, IsValue-number}
 use Rattle.dhcp_script.specs.FieldReader.{flag_in, if_tag, u32_at}
 use Rattle.dhcp_script.proofs.ChoiceLaws.{IsCodec-choice}
-use Rattle.dhcp_script.proofs.Clear.{HasNo-decimal, HasNo-encode_lower, HasNo-flag, HasNo-numbers_text}
+use Rattle.dhcp_script.proofs.Clear.{HasNo-decimal, HasNo-encode_lower, HasNo-flag}
 use Rattle.dhcp_script.proofs.FieldLemmas.{IsValue-flag}
 use Rattle.dhcp_script.proofs.ValueLaws.{u32_field}
+use Rattle.dhcp4_lease.specs.declared.message_forms.DhcpV4MessageForms.{DhcpV4MessageForms}
 use Rattle.dhcp4_net.specs.declared.script.NetAct.{NetAct}
 use Rattle.dhcp4_net.specs.declared.script.NetAct.TheVariants.{Nothing, Deliver, Release, CleanUp}
 use Rattle.dhcp4_net.specs.declared.script.NetClient.{NetClient}
@@ -26,6 +26,7 @@ use Rattle.dhcp4_net.specs.declared.script.NetWho.{NetWho}
 use Rattle.dhcp4_net.specs.declared.script.NetWho.TheVariants.{Client, Server}
 use Rattle.dhcp4_net_play.specs.NetScript.{IsAct, IsClient, IsEvent, IsWho, act_text, client_text, event_text, who_text}
 use Rattle.dhcp4_net_play.specs.Reader.{act_at, call_in, client_at, client_event_at, client_of, event_at, event_of, u64_at, who_at, who_of}
+use Rattle.dhcp4_net_play.proofs.ClientLaws.{IsValue-words_and_forms, no_line_feed}
 
 -- ---- fields
 
@@ -46,13 +47,13 @@ no_longer is (Err e) old new h = tt
 
 -- ---- a client
 
-client_parts : NetClient → List ℕ × List ℕ
-client_parts client = (client.mac, client.words)
+client_parts : NetClient → List ℕ × (List ℕ × DhcpV4MessageForms)
+client_parts client = (client.mac, (client.words, client.message_forms))
 
 pub IsCodec-client : IsCodec (λ client. line (client_text client)) IsClient client_at
 unfolding client_at client_parts
 IsCodec-client =
-    IsCodec-as (IsCodec-made_of (IsCodec-both mac_field (IsCodec-in_field IsValue-words 10 (λ words fits. HasNo-numbers_text w32 10 words (omega arith)))) client_of client_parts (λ x. refl) (λ y. refl))
+    IsCodec-as (IsCodec-made_of (IsCodec-both mac_field (IsCodec-in_field IsValue-words_and_forms 10 (λ parts fits. no_line_feed parts))) client_of client_parts (λ x. refl) (λ y. refl))
     (λ client. simp append_assoc)
     (λ client fits. record { mac = fits.0; words = fits.1 })
     (λ client fits. (fits.mac, fits.words))

@@ -1,3 +1,4 @@
+mod ClientLaws
 mod FieldLaws
 mod LineLaws
 mod NetScriptLaws

@@ -9,6 +9,8 @@ use Rattle.dhcp_stream.specs.HexText.{AreWords, IsMac, words_text}
 use Rattle.dhcp_stream.specs.Line.{line, spaced}
 use Rattle.dhcp_stream.specs.Number.{address_text}
 use Rattle.dhcp_script.specs.Field.{flag_text}
+use Rattle.dhcp4_lease.specs.declared.message_forms.DhcpV4MessageForms.{DhcpV4MessageForms}
+use Rattle.dhcp4_lease.specs.declared.message_forms.DhcpV4MessageForms.TheVariants.{Mozim, Rfc2131}
 use Rattle.dhcp4_server.specs.declared.config.ServerConfig.{ServerConfig}
 use Rattle.dhcp4_net.specs.declared.script.NetAct.{NetAct}
 use Rattle.dhcp4_net.specs.declared.script.NetAct.TheVariants.{Nothing, Deliver, Release, CleanUp}
@@ -30,9 +32,16 @@ server_text server =
     ∷ address_text server.first ∷ decimal server.count ∷ decimal server.lease_sec
     ∷ decimal server.bound_ms ∷ [])
 
--- a client: its MAC address and its random words
+-- what a line says of the forms of a client's messages: nothing of those of mozim
+abbrev pub forms_text : DhcpV4MessageForms → List ℕ
+forms_text Mozim = []
+forms_text Rfc2131 = codes " rfc2131"
+
+-- a client: its MAC address, its random words, and the forms of its messages
 abbrev pub client_text : NetClient → List ℕ
-client_text client = spaced (encode_lower client.mac ∷ words_text client.words ∷ [])
+client_text client =
+    spaced (encode_lower client.mac ∷ words_text client.words ∷ [])
+    ++ forms_text client.message_forms
 
 abbrev pub client_line : NetClient → List ℕ
 client_line client = codes "client " ++ line (client_text client)

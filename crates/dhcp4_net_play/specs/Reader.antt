@@ -1,10 +1,12 @@
 -- The reading of the script of a network.
-use Rattle.std.specs.Prelude.{ℕ, ◌==◌, Bool, if◌then◌else◌, List, codes, length, Option, Some, None}
+use Rattle.std.specs.Prelude.{ℕ, ◌==◌, Bool, if◌then◌else◌, List, codes, length, Option, Some, None, option_map}
 use Rattle.std.specs.Str.{bytes_eq}
 use Rattle.std.specs.declared.net.Ipv4Addr.{Ipv4Addr}
 use Rattle.dhcp_wire.specs.Field.{Read, ◌>>=◌}
-use Rattle.dhcp_stream.specs.TextReader.{address_in, after_tag, both, in_field, mac_in, made_of, number_in, tag_at, words_in}
+use Rattle.dhcp_stream.specs.TextReader.{address_in, after_tag, both, field_at, in_field, mac_in, made_of, number_in, tag_at, words_in}
 use Rattle.dhcp_script.specs.FieldReader.{flag_in, if_tag, u32_at}
+use Rattle.dhcp4_lease.specs.declared.message_forms.DhcpV4MessageForms.{DhcpV4MessageForms}
+use Rattle.dhcp4_lease.specs.declared.message_forms.DhcpV4MessageForms.TheVariants.{Mozim, Rfc2131}
 use Rattle.dhcp4_server.specs.declared.config.ServerConfig.{ServerConfig}
 use Rattle.dhcp4_net.specs.declared.script.NetAct.{NetAct}
 use Rattle.dhcp4_net.specs.declared.script.NetAct.TheVariants.{Nothing, Deliver, Release, CleanUp}
@@ -45,12 +47,28 @@ server_at text =
     (both (in_field address_in 32) (both (in_field mac_in 32) (both (in_field address_in 32)
     (both (in_field address_in 32) (both (u32_at 32) (both (u32_at 32) (u64_at 10)))))))) text
 
-abbrev pub client_of : List ℕ × List ℕ → NetClient
-client_of parts = record { mac = parts.0; words = parts.1 }
+-- the forms of messages that a line says after a space
+abbrev pub forms_in : List ℕ → Option DhcpV4MessageForms
+forms_in field = if bytes_eq field (codes "rfc2131") then Some Rfc2131 else None
+
+-- random words and the forms of messages, of the field before the first space and of what follows
+-- it, if there is a space
+abbrev pub parted_in : Read (List ℕ) → List ℕ → Option (List ℕ × DhcpV4MessageForms)
+parted_in None field = option_map (λ words. (words, Mozim)) (words_in field)
+parted_in (Some parts) field = do
+  forms ← forms_in parts.1
+  option_map (λ words. (words, forms)) (words_in parts.0)
+
+unfoldable pub words_and_forms_in : List ℕ → Option (List ℕ × DhcpV4MessageForms)
+words_and_forms_in field = parted_in (field_at 32 field) field
+
+abbrev pub client_of : List ℕ × (List ℕ × DhcpV4MessageForms) → NetClient
+client_of parts = record { mac = parts.0; message_forms = parts.1.1; words = parts.1.0 }
 
 -- the line of a client, after `client `
 unfoldable pub client_at : List ℕ → Read NetClient
-client_at text = made_of client_of (both (in_field mac_in 32) (in_field words_in 10)) text
+client_at text =
+    made_of client_of (both (in_field mac_in 32) (in_field words_and_forms_in 10)) text
 
 -- what comes without a packet
 abbrev pub call_in : List ℕ → Option NetAct

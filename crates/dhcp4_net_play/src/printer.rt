@@ -11,6 +11,7 @@ ghost use Rattle.dhcp4_net_play.specs.NetScript.{
   event_text,
   events_text,
   first_lines,
+  forms_text,
   net_script_text,
   server_text,
   who_text,
@@ -21,6 +22,7 @@ use dhcp_script::field::{Field, push_three_more};
 use dhcp_script::life::printer::push_flag;
 use dhcp_script::push_numbers;
 use dhcp_stream::push_octets;
+use dhcp4_lease::DhcpV4MessageForms;
 use dhcp4_net::{NetAct, NetClient, NetEvent, NetScript, NetWho};
 use dhcp4_server::ServerConfig;
 use std::alloc::AllocError;
@@ -105,7 +107,19 @@ pub(crate) fn push_client(text: &mut String, client: &NetClient) -> Result<(), A
     push_octets(text, &client.mac)?;
     text.push(' ')?;
     push_numbers(text, client.words.as_slice())?;
-    text.push('\n')
+    push_forms(text, client.message_forms)
+}
+
+// Puts what the line of a client says of the forms of its messages at the end of a text, and ends
+// the line.
+fn push_forms(text: &mut String, forms: DhcpV4MessageForms) -> Result<(), AllocError>
+    ensures { OnOk result (string_bytes text.new
+        ≡ string_bytes text.old ++ line (forms_text forms)) }
+{
+    match forms {
+        DhcpV4MessageForms::Mozim => text.push('\n'),
+        DhcpV4MessageForms::Rfc2131 => text.push_str(" rfc2131\n"),
+    }
 }
 
 /// Puts the line of an event, after `at `, at the end of a text. After an error, which is out of

@@ -1,24 +1,28 @@
 //! The reader of the script of a network.
 
 ghost use Rattle.std.specs.Prelude.{◌≡◌};
-ghost use Rattle.dhcp_stream.specs.TextReader.{Finds, Takes};
+ghost use Rattle.dhcp_stream.specs.TextReader.{Finds, Takes, words_in};
 ghost use Rattle.dhcp4_net_play.specs.Reader.{
   act_at,
   call_in,
   client_at,
   client_event_at,
   event_at,
+  forms_in,
   script_at,
   script_in,
   server_at,
   who_at,
+  words_and_forms_in,
 };
 
 use crate::lines::{Line, read_lines};
 use crate::printer::{push_client, push_event};
 use dhcp_script::field::flag;
 use dhcp_script::script::reader::at_end;
-use dhcp_stream::{ReadError, TextReader};
+use dhcp_stream::{ReadError, TextReader, cut_field, found, words_field};
+use dhcp_wire::Sequence;
+use dhcp4_lease::DhcpV4MessageForms;
 use dhcp4_net::{NetAct, NetClient, NetEvent, NetScript, NetWho};
 use dhcp4_server::ServerConfig;
 use std::alloc::{AllocError, Global};
@@ -115,8 +119,46 @@ fn read_client(alloc: Global, text: &mut TextReader) -> Result<NetClient, ReadEr
     ensures { Takes result text.new (client_at text.old) }
 {
     let mac = text.mac(b' ')?;
-    let words = text.words(alloc, b'\n')?;
-    Ok(NetClient { mac, words })
+    let (words, message_forms) = words_and_forms(alloc, text.field(b'\n')?)?;
+    Ok(NetClient {
+        mac,
+        message_forms,
+        words,
+    })
+}
+
+// The random words of a client and the forms of its messages, which are those of mozim where the
+// field has no space; else what follows the first one says them.
+#[tactic(auto, unfolding(crate::specs::Reader::words_and_forms_in))]
+fn words_and_forms(
+    alloc: Global,
+    field: &[u8],
+) -> Result<(Sequence<u32>, DhcpV4MessageForms), ReadError>
+    ensures { Finds result (words_and_forms_in field.now) }
+{
+    let Some((before, word)) = cut_field(field, b' ') else {
+        return Ok((words(alloc, field)?, DhcpV4MessageForms::Mozim));
+    };
+    let forms = forms(word)?;
+    Ok((words(alloc, before)?, forms))
+}
+
+// The random words of a client.
+fn words(alloc: Global, field: &[u8]) -> Result<Sequence<u32>, ReadError>
+    ensures { Finds result (words_in field.now) }
+{
+    found(words_field(alloc, field))
+}
+
+// The forms of messages that the line of a client says.
+fn forms(word: &[u8]) -> Result<DhcpV4MessageForms, ReadError>
+    ensures { Finds result (forms_in word.now) }
+{
+    if word == b"rfc2131".as_slice() {
+        Ok(DhcpV4MessageForms::Rfc2131)
+    } else {
+        Err(ReadError::Malformed)
+    }
 }
 
 // Reads the line of an event, after `at `.

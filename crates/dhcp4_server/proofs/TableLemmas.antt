@@ -1,7 +1,10 @@
 -- The lowest number that passes a test, found one by one; a table with one binding changed.
 use Rattle.std.proofs.Common.{◌≡◌, ℕ, suc, zero, ◌+◌, ◌-◌, ◌<◌, ◌≤◌, List, [], ◌∷◌, length, refl, sym, ap, arith, Bool, true, false, ◌∙◌, subst}
-use Rattle.std.specs.Prelude.{Option, Some, None, nat_le, option_map, slice_get, slice_set, if◌then◌else◌}
+use Rattle.std.specs.Prelude.{Option, Some, None, nat_le, nat_lt, option_map, slice_get, slice_set, if◌then◌else◌}
 use Rattle.std.proofs.lemmas.Bool.Decides.{nat_tests}
+use Rattle.std.proofs.lemmas.Grind.{get_or-set_at}
+use Rattle.std.proofs.lemmas.List.{get_or-set_other, length-set}
+use Rattle.std.proofs.lemmas.Option.{slice_get-get_or, slice_get_past}
 use Rattle.dhcp4_server.specs.declared.binding.Binding.{Binding}
 use Rattle.dhcp4_server.specs.Binding.{Rebinds, bound_at, bound_in, is_free_by, is_over_by, is_own_by}
 use Rattle.dhcp4_server.specs.Decision.{lowest}
@@ -28,17 +31,23 @@ lowest_none test first (suc count) before =
     let moved : (k : ℕ) → suc first + k ≡ first + suc k = λ k. omega arith in
     rw passed (lowest_none test (suc first) count (λ k less. subst (λ (place : ℕ). test place ≡ false) (sym (moved k)) (before (suc k) (omega (arith, less)))))
 
+-- what is at a place of a list with one place changed: there, and elsewhere
 get_set : {A : Type 0} (xs : List A) (i : ℕ) (x : A) → i < length xs → slice_get (slice_set xs i x) i ≡ Some x
-get_set [] i x below = absurd (omega (arith, below))
-get_set (y ∷ ys) zero x below = refl
-get_set (y ∷ ys) (suc i) x below = get_set ys i x (omega (arith, below))
+get_set {A} xs i x below =
+    let inside : i < length (slice_set xs i x) = omega (arith, length-set xs i x, below) in
+    slice_get-get_or (slice_set xs i x) i x inside ∙ ap (λ (one : A). Some one) (get_or-set_at xs i i x x refl below)
 
 get_other : {A : Type 0} (xs : List A) (i k : ℕ) (x : A) → (k ≡ i → ⊥) → slice_get (slice_set xs i x) k ≡ slice_get xs k
-get_other [] i k x other = refl
-get_other (y ∷ ys) zero zero x other = absurd (other refl)
-get_other (y ∷ ys) zero (suc k) x other = refl
-get_other (y ∷ ys) (suc i) zero x other = refl
-get_other (y ∷ ys) (suc i) (suc k) x other = get_other ys i k x (λ same. other (ap suc same))
+get_other {A} xs i k x other = go (nat_lt k (length xs)) refl
+  where
+    go : (test : Bool) → nat_lt k (length xs) ≡ test → slice_get (slice_set xs i x) k ≡ slice_get xs k
+    go true is =
+        let inside : k < length xs = grind (arith, nat_tests) in
+        let still : k < length (slice_set xs i x) = omega (arith, length-set xs i x, inside) in
+        slice_get-get_or (slice_set xs i x) k x still ∙ ap (λ (one : A). Some one) (get_or-set_other xs i k x x other) ∙ sym (slice_get-get_or xs k x inside)
+    go false is =
+        let past : length xs ≤ k = grind (arith, nat_tests) in
+        slice_get_past (slice_set xs i x) k (omega (arith, length-set xs i x, past)) ∙ sym (slice_get_past xs k past)
 
 pub table_rebound : (first address place : ℕ) (places : List (Option Binding)) (binding : Binding) → first ≤ address → place ≡ address - first → place < length places →
     Rebinds address binding (bound_in first places) (bound_in first (slice_set places place (Some binding)))

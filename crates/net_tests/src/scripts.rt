@@ -1,6 +1,7 @@
 //! Scripts of networks.
 
 use dhcp_wire::{DhcpError, Sequence};
+use dhcp4_lease::DhcpV4MessageForms;
 use dhcp4_net::{NetAct, NetClient, NetEvent, NetScript, NetWho};
 use dhcp4_server::ServerConfig;
 use std::alloc::Global;
@@ -31,6 +32,7 @@ pub fn server(moment: u64, packet: u32) -> NetEvent {
 fn net_client(alloc: Global, last: u8, xid: u32) -> Result<NetClient, DhcpError> {
     Ok(NetClient {
         mac: [2, 0, 0, 0, 0, last],
+        message_forms: DhcpV4MessageForms::Mozim,
         words: Sequence::from(vec![in alloc; xid]?),
     })
 }

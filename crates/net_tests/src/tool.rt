@@ -5,13 +5,24 @@ use dhcp_wire::DhcpError;
 use dhcp4_net_play::{net_tool, read_net_script, write_net_script};
 use std::alloc::Global;
 
-// The lines of two clients and a server with this count of addresses, leases of 100 seconds and
+// Two clients with the message forms of mozim.
+const CLIENTS: &str = "client 020000000001 12345678\nclient 020000000003 12345679\n";
+
+// Two clients, of which the second has the message forms of RFC 2131.
+const BOTH_FORMS: &str = "client 020000000001 12345678\nclient 020000000003 12345679 rfc2131\n";
+
+// The lines of these clients and a server with this count of addresses, leases of 100 seconds and
 // packets that take a second at most.
-fn head(alloc: Global, count: u32) -> Result<String, DhcpError> {
+fn head_of(alloc: Global, count: u32, clients: &str) -> Result<String, DhcpError> {
     Ok(format!(in alloc;
         "net4 1\nserver 192.0.2.1 020000000002 255.255.255.0 192.0.2.10 {count} 100 1000\n\
-         client 020000000001 12345678\nclient 020000000003 12345679\nstart 0\n"
+         {clients}start 0\n"
     )?)
+}
+
+// The same of the clients with the message forms of mozim.
+fn head(alloc: Global, count: u32) -> Result<String, DhcpError> {
+    head_of(alloc, count, CLIENTS)
 }
 
 // Both clients ask for an address, the first gets it, and the second is refused.
@@ -47,7 +58,12 @@ fn run(
 fn answers(alloc: Global, events: &str, more: &str, output: &str) -> Result<bool, DhcpError> {
     let head = head(alloc, 1)?;
     let input = format!(in alloc; "{head}{events}{more}end\n")?;
-    let (status, taken) = run(alloc, &["run"], input.as_str(), [9, 9])?;
+    prints(alloc, input.as_str(), output)
+}
+
+// Whether this input is answered by this text.
+fn prints(alloc: Global, input: &str, output: &str) -> Result<bool, DhcpError> {
+    let (status, taken) = run(alloc, &["run"], input, [9, 9])?;
     let wanted = format!(in alloc; "{output}ok\n")?;
     Ok(status == 0 && taken.as_slice() == wanted.as_bytes())
 }
@@ -83,6 +99,34 @@ fn a_released_address_is_kept_until_its_lease_and_the_bound_are_over(rt: HostRun
          6 hold 0 192.0.2.10 40 100040\n8 failed 0 io_error\n9 sent 5\n9 sent 6\n11 sent 7\n\
          13 sent 8\n15 sent 9\n16 sent 10\n17 sent 11\n18 hold 1 192.0.2.10 101060 201060\n";
     assert!(rt; answers(rt.alloc(), events, more, output).expect(&rt, "memory"));
+}
+
+// Both clients go through the same: their first Discover is lost, and so is the first Ack. The one
+// with mozim's forms waits 15 seconds for it, since its attempts count on from the Discover; the one
+// with those of RFC 2131 waits three (section 4.1). Both renewals are payloads that the server
+// acknowledges, the second by `ciaddr` alone, and the server takes a Release without an answer.
+#[test]
+fn each_client_has_its_own_message_forms(rt: HostRuntime) {
+    let alloc = rt.alloc();
+    let head = head_of(alloc, 2, BOTH_FORMS).expect(&rt, "memory");
+    let events = "at 0 client 0 ok none\nat 0 client 1 ok none\nat 3000 client 0 ok none\n\
+         at 3000 client 1 ok none\nat 3000 server deliver 2\nat 3000 client 0 ok deliver 4\n\
+         at 3000 server deliver 5\nat 3000 server deliver 3\nat 3000 client 1 ok deliver 7\n\
+         at 3000 server deliver 8\nat 6000 client 0 ok none\nat 6000 client 1 ok none\n\
+         at 6000 server deliver 10\nat 6000 client 1 ok deliver 11\nat 18000 client 0 ok none\n\
+         at 18000 server deliver 12\nat 18000 client 0 ok deliver 13\n";
+    let more = "at 56000 client 1 ok none\nat 56000 server deliver 14\n\
+         at 56000 client 1 ok deliver 15\nat 68000 client 0 ok none\nat 68000 server deliver 16\n\
+         at 68000 client 0 ok deliver 17\nat 68000 client 1 ok release\n\
+         at 68000 server deliver 18\nend\n";
+    let input = format!(in alloc; "{head}{events}{more}").expect(&rt, "memory");
+    let output = "1 sent 0\n2 sent 1\n3 sent 2\n4 sent 3\n5 sent 4\n6 sent 5\n7 sent 6\n\
+         8 sent 7\n9 sent 8\n10 sent 9\n12 sent 10\n13 sent 11\n\
+         14 hold 1 192.0.2.11 6000 106000\n15 sent 12\n16 sent 13\n\
+         17 hold 0 192.0.2.10 18000 118000\n18 sent 14\n19 sent 15\n\
+         20 hold 1 192.0.2.11 56000 156000\n21 sent 16\n22 sent 17\n\
+         23 hold 0 192.0.2.10 68000 168000\n24 sent 18\n24 sent 19\n";
+    assert!(rt; prints(alloc, input.as_str(), output).expect(&rt, "memory"));
 }
 
 // Whether a run ends with this status and writes nothing.
@@ -152,6 +196,26 @@ fn other_lines_are_no_script(rt: HostRuntime) {
     assert!(rt; ends(rt.alloc(), &["run"], "", 2).expect(&rt, "memory"));
 }
 
+#[test]
+fn a_client_says_its_message_forms_in_one_way(rt: HostRuntime) {
+    let alloc = rt.alloc();
+    let cases = [
+        "client 020000000001 - mozim\n",
+        "client 020000000001 - \n",
+        "client 020000000001 -  rfc2131\n",
+        "client 020000000001 - rfc2131 \n",
+        "client 020000000001 - RFC2131\n",
+        "client 020000000001 rfc2131\n",
+        "client 020000000001 rfc2131 -\n",
+    ];
+    for line in cases {
+        let head = head_of(alloc, 1, line).expect(&rt, "memory");
+        let input = format!(in alloc; "{head}end\n").expect(&rt, "memory");
+        let is = ends(alloc, &["run"], input.as_str(), 2).expect(&rt, "memory");
+        assert!(rt; is, "{line}");
+    }
+}
+
 // Whether a script that was read is written as the same text.
 fn is_written_back(alloc: Global, input: &str) -> Result<bool, DhcpError> {
     match read_net_script(alloc, input.as_bytes())? {
@@ -163,7 +227,8 @@ fn is_written_back(alloc: Global, input: &str) -> Result<bool, DhcpError> {
 #[test]
 fn a_script_is_written_as_it_was_read(rt: HostRuntime) {
     let input = "net4 1\nserver 0.0.0.0 0123456789ab 255.255.255.255 10.0.0.1 0 0 0\n\
-         client ffffffffffff -\nclient 000000000000 0000000012345678\nstart 7\n\
+         client ffffffffffff -\nclient 000000000000 0000000012345678\n\
+         client 000000000000 - rfc2131\nclient 000000000001 00000001 rfc2131\nstart 7\n\
          at 7 client 0 refuse deliver 4294967295\nat 5 client 9 ok release\n\
          at 18446744073709551615 client 1 ok cleanup\nat 0 server deliver 3\nend\n";
     assert!(rt; is_written_back(rt.alloc(), input).expect(&rt, "memory"));
