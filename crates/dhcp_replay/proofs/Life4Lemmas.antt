@@ -34,7 +34,7 @@ module _ (config : Config) (lease : Option Lease) (events : List Event) where
     xid = client.client.standing.exchange.xid
 
     -- a client that begins is the one with which its life begins
-    begun : lives.Begun protocol drawn_word own life xid client.config client.client
+    pub begun : lives.Begun protocol drawn_word own life xid client.config client.client
     begun words is = record {
       view = begun_view client.client (first_state lease) (first_exchange (next_of words)) config.timeout_sec (drop 1 words) begins.state (begins.standing ∙ ap (λ (id : ℕ). unpolled (first_exchange id)) is) begins.timeout;
       config = begins.config;

@@ -30,7 +30,7 @@ module _ (config : Config) (lease : Option Lease) (start : ℕ) (events : List E
 
   module _ (client : ClientParts) (before after : Option (List ℕ)) (drawn : GivesDrawn (first_draws config) before (drawn_for client) after) (begins : Begins config lease start client) where
     -- a client that begins is the one with which its life begins
-    begun : lives.Begun protocol (first_draws config) (config_in config) life (drawn_for client) client.config client.client
+    pub begun : lives.Begun protocol (first_draws config) (config_in config) life (drawn_for client) client.config client.client
     begun words is = record {
       view = begun_view client.client (first_state config.mode lease start) (first_exchange (first_draws config words).value.xid) config.timeout_sec (first_draws config words).left
           begins.state (begins.standing ∙ ap (λ (draws : FirstDraws). unpolled (first_exchange draws.xid)) is) begins.timeout;

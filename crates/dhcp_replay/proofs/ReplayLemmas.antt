@@ -32,14 +32,13 @@ numbered_more i events event below is =
     ap (λ (all : List Event). numbered 1 all) longer ∙ numbered-append 1 (take i events) event ∙ ap (λ (n : ℕ). numbered 1 (take i events) ++ numbered_event (1 + n) event ∷ []) count
 
 -- and so where it is put at the end of those made so far
-pub numbered_push : (i : ℕ) (events : List Event) (event : Event) (made items : List (NumberedEvent Packet)) (number : ℕ) (input : Input Packet) →
-    i < length events → event ≡ get_or events i event → made ≡ numbered 1 (take i events) → number ≡ 1 + i → input ≡ input_of event.what →
-    items ≡ made ++ record { number = number; moment = event.moment; refuse = event.refuse; input = input } ∷ [] → items ≡ numbered 1 (take (i + 1) events)
-numbered_push i events event made items number input below is made_is number_is input_is pushed =
-    let entry : ℕ → Input Packet → NumberedEvent Packet = λ n brought. record { number = n; moment = event.moment; refuse = event.refuse; input = brought } in
-    pushed ∙ ap (λ (front : List (NumberedEvent Packet)). front ++ entry number input ∷ []) made_is
-    ∙ ap (λ (n : ℕ). numbered 1 (take i events) ++ entry n input ∷ []) number_is
-    ∙ ap (λ (brought : Input Packet). numbered 1 (take i events) ++ entry (1 + i) brought ∷ []) input_is
+pub numbered_push : (i : ℕ) (events : List Event) (event : Event) (made items : List (NumberedEvent Packet)) (number : ℕ) (entry : NumberedEvent Packet) →
+    i < length events → event ≡ get_or events i event → made ≡ numbered 1 (take i events) → number ≡ 1 + i → entry ≡ numbered_event number event →
+    items ≡ made ++ entry ∷ [] → items ≡ numbered 1 (take (i + 1) events)
+numbered_push i events event made items number entry below is made_is number_is entry_is pushed =
+    pushed ∙ ap (λ (front : List (NumberedEvent Packet)). front ++ entry ∷ []) made_is
+    ∙ ap (λ (last : NumberedEvent Packet). numbered 1 (take i events) ++ last ∷ []) entry_is
+    ∙ ap (λ (n : ℕ). numbered 1 (take i events) ++ numbered_event n event ∷ []) number_is
     ∙ sym (numbered_more i events event below is)
 
 -- every moment is below 2^60

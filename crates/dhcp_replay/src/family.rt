@@ -20,7 +20,7 @@ pub trait FamilyClient: Drop {
     ghost use Rattle.std.specs.Prelude.{◌<◌, ◌^◌, All};
     ghost use Rattle.dhcp_clock.specs.declared.link.Handed.{Handed};
     ghost use Rattle.dhcp_clock.specs.declared.link.Packet.{Packet};
-    ghost use Rattle.dhcp_history.specs.Calls.{ClientParts, IsReplay};
+    ghost use Rattle.dhcp_history.specs.Calls.{ClientParts, HasNextPoll, IsListening, IsReplay};
     ghost use Rattle.dhcp_history.specs.Protocol.{Protocol};
 
     /// A state as it reports it.
@@ -52,6 +52,15 @@ pub trait FamilyClient: Drop {
         requires { All (λ event. event.moment < 2 ^ 60) events.items }
         ensures { IsReplay protocol result (λ reported. reported.items) events.items
             (parts self.old) (parts self.new) (W.left words.old) (W.left words.new) };
+
+    /// The moment, in milliseconds, at which a poll next does something without a packet; none if
+    /// no poll does. Does not allocate.
+    fn next_poll(&self) -> Option<u64>
+        ensures { HasNextPoll (protocol (parts self.now).config) result (parts self.now).client };
+
+    /// Whether a packet may be asked for at a moment, in milliseconds. Does not allocate.
+    fn is_listening(&self, now: u64) -> bool
+        ensures { IsListening protocol now result (parts self.now) };
 }
 
 impl FamilyClient for DhcpV4Client {
@@ -85,6 +94,14 @@ impl FamilyClient for DhcpV4Client {
     ) -> Result<Vec<dhcp_history::NumberedReport<Self::Reported, Handed>>, DhcpError> {
         self.replay(words, events)
     }
+
+    fn next_poll(&self) -> Option<u64> {
+        self.next_poll()
+    }
+
+    fn is_listening(&self, now: u64) -> bool {
+        self.is_listening(now)
+    }
 }
 
 impl FamilyClient for DhcpV6Client {
@@ -116,6 +133,14 @@ impl FamilyClient for DhcpV6Client {
         events: Vec<dhcp_history::NumberedEvent<Packet>>,
     ) -> Result<Vec<dhcp_history::NumberedReport<Self::Reported, Handed>>, DhcpError> {
         self.replay(words, events)
+    }
+
+    fn next_poll(&self) -> Option<u64> {
+        self.next_poll()
+    }
+
+    fn is_listening(&self, now: u64) -> bool {
+        self.is_listening(now)
     }
 }
 
@@ -149,6 +174,14 @@ impl FamilyClient for DhcpV6InfoClient {
         events: Vec<dhcp_history::NumberedEvent<Packet>>,
     ) -> Result<Vec<dhcp_history::NumberedReport<Self::Reported, Handed>>, DhcpError> {
         self.replay(words, events)
+    }
+
+    fn next_poll(&self) -> Option<u64> {
+        self.next_poll()
+    }
+
+    fn is_listening(&self, now: u64) -> bool {
+        self.is_listening(now)
     }
 }
 

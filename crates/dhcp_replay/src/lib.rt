@@ -24,8 +24,8 @@ pub use dhcp_stream::{
 };
 pub use dhcp_tool::{Status, status_without_words};
 pub use family::{FamilyClient, boxed, play};
-pub use life::FamilyState;
+pub use life::{FamilyState, numbered_event, outputs_of};
 pub use replayed::{Replayed, replay};
-pub use replayed4::{Replayed4, replay4};
-pub use replayed6::{Replayed6, replay6};
+pub use replayed4::{Replayed4, begun4, replay4};
+pub use replayed6::{Replayed6, begun6, replay6};
 pub use tool::replay_tool;

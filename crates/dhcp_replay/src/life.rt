@@ -70,15 +70,26 @@ pub fn numbered(
     let mut made = Vec::new(alloc);
     let mut number = 1u32;
     for event in events {
-        made.push(dhcp_history::NumberedEvent {
-            number,
-            moment: event.moment,
-            refuse: event.refuse,
-            input: input_of(alloc, &event.what)?,
-        })?;
+        made.push(numbered_event(alloc, number, event)?)?;
         number += 1;
     }
     Ok(made)
+}
+
+/// An event by its number. Out of memory is the only error.
+pub fn numbered_event(
+    alloc: Global,
+    number: u32,
+    event: &Event,
+) -> Result<dhcp_history::NumberedEvent<Packet>, AllocError>
+    ensures { IfOk result (λ made. made ≡ lives.numbered_event number event.now) }
+{
+    Ok(dhcp_history::NumberedEvent {
+        number,
+        moment: event.moment,
+        refuse: event.refuse,
+        input: input_of(alloc, &event.what)?,
+    })
 }
 
 // What an event brings to the client.

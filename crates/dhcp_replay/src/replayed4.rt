@@ -57,8 +57,10 @@ pub fn replay4<W: Words>(
     Ok(Replayed4 { outputs, client })
 }
 
-// A client that begins, in a box, if start and events are within the limits of a script.
-fn begun4<W: Words>(
+/// A client that begins, in a box, if start and events are within the limits of a script.
+/// `InvalidArgument` if and only if they are not, or the client cannot begin so; else out of memory
+/// is the only error.
+pub fn begun4<W: Words>(
     alloc: Global,
     config: DhcpV4Config,
     lease: Option<DhcpV4Lease>,

@@ -65,8 +65,10 @@ pub fn replay6<W: Words>(
     Ok(Replayed6 { outputs, client })
 }
 
-// A client that begins, in a box, if all that it is given is within the limits of a script.
-fn begun6<W: Words>(
+/// A client that begins, in a box, if all that it is given is within the limits of a script.
+/// `InvalidArgument` if and only if it is not, or the client cannot begin so; else out of memory is
+/// the only error.
+pub fn begun6<W: Words>(
     alloc: Global,
     config: DhcpV6Config,
     lease: Option<DhcpV6Lease>,

@@ -1,5 +1,5 @@
-//! Tests of dhcp_replay, dhcp_output and dhcp_tool: whole lives of clients, from the text of a
-//! script to the text of what is printed, and the exit statuses of the program.
+//! Tests of dhcp_replay, dhcp_live, dhcp_output and dhcp_tool: whole lives of clients, from the text
+//! of a script to the text of what is printed, and the exit statuses of the program.
 #![tactic(auto)]
 
 #[cfg(test)]
@@ -10,6 +10,8 @@ mod lease4;
 mod lease6;
 #[cfg(test)]
 mod limits6;
+#[cfg(test)]
+mod live;
 #[cfg(test)]
 mod outputs;
 #[cfg(test)]

@@ -1,9 +1,12 @@
 //! The program, over a source and a sink in memory.
 
+use dhcp_dialogue::StdDialogue;
+use dhcp_live::live_tool;
 use dhcp_replay::replay_tool;
 use dhcp_stream::{MemSink, MemSource};
 use dhcp_wire::DhcpError;
 use std::alloc::{AllocError, Global};
+use std::io::Cursor;
 
 // The exit status of a run that is out of memory.
 const NO_MEMORY: u8 = 5;
@@ -70,6 +73,19 @@ pub fn run_with_faults(
     let mut sink = MemSink::new(alloc, ROOM, vec![in alloc; faults.write]?)?;
     let status = replay_tool(alloc, words.as_slice(), &mut source, &mut sink);
     Ended::new(alloc, status, sink.bytes())
+}
+
+/// A session over these bytes, which are heard line by line.
+pub fn live(alloc: Global, input: &[u8]) -> Result<Ended, DhcpError> {
+    let mut said = Vec::with_capacity(alloc, ROOM)?;
+    let status = hold(alloc, input, &mut said)?;
+    Ended::new(alloc, status, said.as_slice())
+}
+
+// Holds it, and returns its status.
+fn hold(alloc: Global, input: &[u8], said: &mut Vec<u8>) -> Result<u8, DhcpError> {
+    let mut dialogue = StdDialogue::new(alloc, Cursor::new(input), said)?;
+    Ok(live_tool(alloc, &mut dialogue))
 }
 
 // The words as the program is given them.

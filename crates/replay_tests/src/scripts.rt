@@ -1,6 +1,6 @@
 //! Scripts of a client, and what is printed for them.
 
-use crate::program::run;
+use crate::program::{live, run};
 use crate::words::push_line;
 use dhcp_wire::DhcpError;
 use std::alloc::{AllocError, Global};
@@ -75,12 +75,33 @@ pub struct Life {
     pub goes_on: &'static str,
 }
 
-/// Whether the script of a life is printed as the life says.
+/// Whether the script of a life is printed as the life says, and a client that is told its lines
+/// one at a time says the same.
 pub fn is_printed(alloc: Global, family: &Family, life: &Life) -> Result<bool, DhcpError> {
     let lines = format!(in alloc; "{}{}", life.begins, life.goes_on)?;
     let text = script(alloc, family, life.line, lines.as_str())?;
     let printed = printed(alloc, lines.as_str())?;
-    Ok(run(alloc, &["run"], text.as_bytes())?.is(0, printed.as_str()))
+    let is_run = run(alloc, &["run"], text.as_bytes())?.is(0, printed.as_str());
+    Ok(is_run && is_said(alloc, text.as_str(), printed.as_str())?)
+}
+
+// Whether a client that is told these lines says this, but for the lines `next`.
+fn is_said(alloc: Global, text: &str, printed: &str) -> Result<bool, DhcpError> {
+    let ended = live(alloc, text.as_bytes())?;
+    let said = without_next(alloc, ended.text.as_slice())?;
+    Ok(ended.status == 0 && said.as_str() == printed)
+}
+
+// What is said without the lines `next`.
+fn without_next(alloc: Global, said: &[u8]) -> Result<String, AllocError> {
+    let mut text = String::new(alloc);
+    for line in std::str::from_utf8(said).unwrap_or("").lines() {
+        if !line.starts_with("next ") {
+            text.push_str(line)?;
+            text.push_str("\n")?;
+        }
+    }
+    Ok(text)
 }
 
 /// The text of a script with this line, in place of the usual one with the same tag, and with the

@@ -1,0 +1,11 @@
+pub mod AnswerLemmas
+pub mod BeginLemmas
+pub mod HeadLemmas
+pub mod Script4Lemmas
+pub mod Script6Lemmas
+pub mod ScriptLemmas
+pub mod SessionLemmas
+pub mod ToolLemmas
+pub mod TranscriptLaw
+pub mod TranscriptLemmas
+pub mod TurnLemmas

@@ -1,0 +1,53 @@
+-- The script of what was heard of a session.
+use Rattle.std.proofs.Common.{◌≡◌, ◌≤◌, ℕ, Bool, true, List, [], ◌∷◌, ◌++◌, Option, Some, refl, sym, ap, subst, ◌∙◌, append_assoc, codes, length, arith}
+use Rattle.std.specs.Prelude.{◌&&◌, ◌==◌, map, nat_le, nat_lt, not, option_map}
+use Rattle.std.specs.Fmt.{decimal}
+use Rattle.std.specs.List.{flat_map, list_all}
+use Rattle.std.proofs.lemmas.Bool.{and_from, and_parts, le-leb}
+use Rattle.std.proofs.lemmas.List.{append_cancel_right, length-map}
+use Rattle.dhcp_clock.specs.declared.link.Handed.{Handed}
+use Rattle.dhcp_clock.specs.declared.link.Packet.{Packet}
+use Rattle.dhcp_history.specs.EventLoop.{HasReported, events_at}
+use Rattle.dhcp_history.specs.History.{history, outputs}
+use Rattle.dhcp_history.specs.Machine.{View, first_view}
+use Rattle.dhcp_history.specs.Protocol.{Lawful, Protocol}
+use Rattle.dhcp_history.specs.Script as life
+use Rattle.dhcp_history.proofs.Looping.{loop_history}
+use Rattle.dhcp_stream.specs.Line.{line}
+use Rattle.dhcp_script.specs.Event.{are_in_order, are_valid, is_within_limits, moment_limit, most_events}
+use Rattle.dhcp_script.specs.Life.{event_line, events_text}
+use Rattle.dhcp_script.specs.declared.event.Event.{Event}
+use Rattle.dhcp_dialogue.specs.Dialogue.{Turn}
+use Rattle.dhcp_live.specs.Tool.{end_line}
+use Rattle.dhcp_live.specs.Transcript.{Told, events_in, heard_in, turns_of}
+
+-- what is heard are the lines of the events, and the last line
+pub heard-turns_of : (told : List Told) → heard_in (turns_of told) ≡ events_text (events_in told)
+heard-turns_of [] = refl
+heard-turns_of (one ∷ told) = ap (λ (text : List ℕ). event_line one.event ++ text) (heard-turns_of told) ∙ sym (append_assoc (event_line one.event) (flat_map event_line (events_in told)) (line (codes "end")))
+
+-- a text whose events are none, and the same with events
+pub longer_text : (front middle head lines : List ℕ) → front ++ (middle ++ end_line) ≡ head ++ end_line → front ++ (middle ++ lines) ≡ head ++ lines
+longer_text front middle head lines is =
+    let cut : front ++ middle ≡ head = append_cancel_right (front ++ middle) head end_line (append_assoc front middle end_line ∙ is) in
+    sym (append_assoc front middle lines) ∙ ap (λ (text : List ℕ). text ++ lines) cut
+
+-- the events that were told are valid, if there are not too many
+pub are_valid_told : (start : ℕ) (told : List Told) → are_valid start [] ≡ true → length told ≤ most_events → list_all is_within_limits (events_in told) ≡ true → are_in_order start (events_in told) ≡ true → are_valid start (events_in told) ≡ true
+unfolding are_valid
+are_valid_told start told begins few within in_order =
+    let first = and_parts (nat_lt start moment_limit) (nat_le 0 most_events) (and_parts (nat_lt start moment_limit && nat_le 0 most_events) true (and_parts (nat_lt start moment_limit && nat_le 0 most_events && true) true begins).0).0 in
+    let count : nat_le (length (events_in told)) most_events ≡ true = le-leb (length (events_in told)) most_events (subst (λ (n : ℕ). n ≤ most_events) (sym (length-map told (λ (one : Told). one.event))) few) in
+    and_from (nat_lt start moment_limit && nat_le (length (events_in told)) most_events && list_all is_within_limits (events_in told)) (are_in_order start (events_in told))
+    (and_from (nat_lt start moment_limit && nat_le (length (events_in told)) most_events) (list_all is_within_limits (events_in told))
+    (and_from (nat_lt start moment_limit) (nat_le (length (events_in told)) most_events) first.0 count)
+    within) in_order
+
+-- what a client reports over the events of a life is what the history of that life reports
+module _ {PublicState State Exchange Answer Lease : Type 0} (p : Protocol PublicState Packet Handed State Exchange Answer Lease) where
+  pub reports_history : Lawful p → (script : life.Script Packet State Exchange) → (events_at p (first_view script) script.events).outputs ≡ outputs p (history p script)
+  reports_history lawful script =
+      let first = first_view script in
+      let once = events_at p (first_view script) script.events in
+      loop_history p (Some []) (Some once.view.words) (λ words. first_view script) (λ words. (events_at p (first_view script) script.events).view) script.events once.outputs
+      (record { outputs = refl; client = refl; words = refl }) lawful script refl refl

@@ -1,0 +1,6 @@
+pub mod Answer
+pub mod Begin
+pub mod Live
+pub mod Session
+pub mod Tool
+pub mod Transcript

@@ -1,0 +1,5 @@
+-- By what the client itself promises.
+use Rattle.dhcp_replay.proofs.family.DhcpV6InfoClientFamilyClient.next_poll.Goals as goal
+
+pub returns : goal.returns
+returns c = c.next_poll.ensures.next

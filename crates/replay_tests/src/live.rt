@@ -1,0 +1,107 @@
+//! Sessions: what is said besides the outputs, and how they end.
+
+use crate::program::live;
+use crate::scripts::{IPV4, USUAL, script};
+use crate::words::push_line;
+use dhcp_wire::DhcpError;
+use std::alloc::{AllocError, Global};
+
+// Random words, the second of which draws a pause of five milliseconds; further ones are added.
+const HEAD: &str = "
+    dhcp4 2
+    iface 1 020000000001 0 0
+    host -
+    client -
+    codes 010306
+    lease none
+    words 1234567800000005
+    start 0
+";
+
+const TOLD: &str = "
+    at 0 ok none
+    words 0000000000000007
+    at 5 ok none
+    at 3004 ok none
+    end
+";
+
+const SAID: &str = "
+    next 5 deaf 0
+    2 handed frame DISCOVER
+    next 3005 listening 1
+    next 3005 listening 1
+    ok
+";
+
+// These lines, with their words in capitals replaced.
+fn lines(alloc: Global, parts: &[&str]) -> Result<String, AllocError> {
+    let mut text = String::new(alloc);
+    for part in parts {
+        for line in part.lines() {
+            push_line(&mut text, line.trim())?;
+        }
+    }
+    Ok(text)
+}
+
+// Whether a session over these lines ends with a status, and this is said.
+fn is_said(alloc: Global, told: &[&str], status: u8, said: &str) -> Result<bool, DhcpError> {
+    let told = lines(alloc, told)?;
+    let said = lines(alloc, &[said])?;
+    Ok(live(alloc, told.as_bytes())?.is(status, said.as_str()))
+}
+
+#[test]
+fn words_are_added_behind_those_that_are_left(rt: HostRuntime) {
+    let is_said = is_said(rt.alloc(), &[HEAD, TOLD], 0, SAID).expect(&rt, "memory");
+    assert!(rt; is_said);
+}
+
+#[test]
+fn what_was_said_stays(rt: HostRuntime) {
+    let cases = [
+        ("", 2),
+        ("end of it", 2),
+        ("start 0", 2),
+        ("words 0000", 2),
+        ("at 1 ok none at 2 ok none", 2),
+        ("at 1152921504606846976 ok none", 7),
+    ];
+    for (line, status) in cases {
+        let told = [HEAD, "at 0 ok none", line];
+        let is_said = is_said(rt.alloc(), &told, status, "next 5 deaf 0").expect(&rt, "memory");
+        assert!(rt; is_said, "{line}");
+    }
+}
+
+// Whether a session over the script with these events ends with this status.
+fn ends_with(alloc: Global, line: &str, events: &str, status: u8) -> Result<bool, DhcpError> {
+    let text = script(alloc, &IPV4, line, events)?;
+    Ok(live(alloc, text.as_bytes())?.status == status)
+}
+
+#[test]
+fn each_status_has_its_cause(rt: HostRuntime) {
+    let cases = [
+        (USUAL, "", 0),
+        (USUAL, "at 5 ok none\nat 4 ok none", 7),
+        ("start 1", "at 0 ok none", 7),
+        ("iface 0 020000000001 0 0", "", 7),
+        ("iface 1 02000000000A 0 0", "", 2),
+        ("host 6", "", 2),
+    ];
+    for (line, events, status) in cases {
+        let ends = ends_with(rt.alloc(), line, events, status).expect(&rt, "memory");
+        assert!(rt; ends, "{line} {events}");
+    }
+}
+
+#[test]
+fn a_session_has_more_events_than_a_script(rt: HostRuntime) {
+    let events = "at 0 ok none\n"
+        .repeat(rt.alloc(), 20_001)
+        .expect(&rt, "memory");
+    let ends = ends_with(rt.alloc(), USUAL, events.as_str(), 0).expect(&rt, "memory");
+    assert!(rt; ends);
+}
