@@ -102,8 +102,8 @@ fn a_released_address_is_kept_until_its_lease_and_the_bound_are_over(rt: HostRun
 }
 
 // Both clients go through the same: their first Discover is lost, and so is the first Ack. The one
-// with mozim's forms waits 15 seconds for it, since its attempts count on from the Discover; the one
-// with those of RFC 2131 waits three (section 4.1). Both renewals are payloads that the server
+// with mozim's forms waits 15 seconds for it, since its attempts count on from the Discover; the
+// one with those of RFC 2131 waits three (section 4.1). Both renewals are payloads that the server
 // acknowledges, the second by `ciaddr` alone, and the server takes a Release without an answer.
 #[test]
 fn each_client_has_its_own_message_forms(rt: HostRuntime) {

@@ -1,5 +1,5 @@
-//! Tests of dhcp_replay, dhcp_live, dhcp_output and dhcp_tool: whole lives of clients, from the text
-//! of a script to the text of what is printed, and the exit statuses of the program.
+//! Tests of dhcp_replay, dhcp_live, dhcp_output and dhcp_tool: whole lives of clients, from the
+//! text of a script to the text of what is printed, and the exit statuses of the program.
 #![tactic(auto)]
 
 #[cfg(test)]
