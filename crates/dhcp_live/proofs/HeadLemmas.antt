@@ -13,7 +13,7 @@ use Rattle.dhcp_tool.specs.declared.status.Status.TheVariants.{NoMemory, TooLong
 use Rattle.dhcp_dialogue.specs.Dialogue.{IsLine, Turn, Hears, Misses, most_line_bytes, status_of}
 use Rattle.dhcp_stream.specs.TextReader.{field_at}
 use Rattle.dhcp_dialogue.specs.declared.dialogue.Unheard.{Unheard}
-use Rattle.dhcp_live.specs.Tool.{HearsHead, IsAfterHead, IsHead, IsLive, end_line, goes_on, has_head, is_last_of_head, is_too_long, misses, runs_out}
+use Rattle.dhcp_live.specs.Tool.{HearsHead, IsHead, IsLive, end_line, goes_on, has_head, is_last_of_head, is_too_long, misses, runs_out}
 use Rattle.std.proofs.Common.{Ok, Err}
 use Rattle.dhcp_live.proofs.TurnLemmas.{Leads-append}
 

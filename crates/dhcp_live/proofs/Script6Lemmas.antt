@@ -1,12 +1,9 @@
 -- An IPv6 script of what was heard of a session.
-use Rattle.std.proofs.Common.{◌≡◌, ◌≤◌, ℕ, zero, suc, Bool, true, List, [], ◌∷◌, ◌++◌, Option, refl, sym, ap, subst, ◌∙◌, codes, length}
-use Rattle.std.specs.Prelude.{◌&&◌, ◌==◌, map, nat_le, not, option_map}
+use Rattle.std.proofs.Common.{◌≡◌, ◌≤◌, ℕ, suc, Bool, true, List, [], ◌++◌, refl, sym, ap, subst, ◌∙◌, codes, length}
+use Rattle.std.specs.Prelude.{◌&&◌, ◌==◌, map, not, option_map}
 use Rattle.std.specs.Fmt.{decimal}
 use Rattle.std.specs.List.{list_all}
 use Rattle.std.proofs.lemmas.Bool.{and_from, and_parts}
-use Rattle.dhcp_clock.specs.declared.link.Packet.{Packet}
-use Rattle.dhcp_history.specs.EventLoop.{events_at}
-use Rattle.dhcp_history.specs.History.{outputs, history}
 use Rattle.dhcp_history.specs.Client.{view_of}
 use Rattle.dhcp_history.specs.Machine.{View, first_view}
 use Rattle.dhcp_history.specs.Protocol.{Lawful}
@@ -17,7 +14,7 @@ use Rattle.dhcp6_client.specs.declared.client_state.ClientState.{ClientState}
 use Rattle.dhcp6_client.specs.declared.client_state.Exchange.{Exchange}
 use Rattle.dhcp6_msg.specs.Config.{Config}
 use Rattle.dhcp_output.specs.Output.{PlainOutput, changed_v6}
-use Rattle.dhcp_replay.specs.Life.{numbered, output_of}
+use Rattle.dhcp_replay.specs.Life.{output_of}
 use Rattle.dhcp_replay.specs.Replayed.{outputs_of_v6}
 use Rattle.dhcp_replay.specs.Replayed6 as lives
 use Rattle.dhcp_replay.specs.Replayed6.{outputs6}
@@ -28,7 +25,7 @@ use Rattle.dhcp_script.specs.Codes.{are_few, listed_text}
 use Rattle.dhcp_script.specs.Duid.{is_duid_or_none}
 use Rattle.dhcp_script.specs.Field.{unless_none}
 use Rattle.dhcp_script.specs.Lease6.{lease_with, versioned_lease_text}
-use Rattle.dhcp_script.specs.Life.{events_text, life_text}
+use Rattle.dhcp_script.specs.Life.{events_text}
 use Rattle.dhcp_script.specs.Script6 as scripts
 use Rattle.dhcp_script.specs.declared.event.Event.{Event}
 use Rattle.dhcp_script.specs.declared.script6.Script6.{Script6}
@@ -36,9 +33,9 @@ use Rattle.dhcp_script.specs.declared.version.Version.TheVariants.{Later}
 use Rattle.dhcp_live.specs.Begin.{Begins6}
 use Rattle.dhcp_live.specs.Live.{LiveParts}
 use Rattle.dhcp_live.specs.Tool.{end_line}
-use Rattle.dhcp_live.specs.Transcript.{Told, events_in, outputs_in}
+use Rattle.dhcp_live.specs.Transcript.{Told, events_in}
 use Rattle.dhcp_live.proofs.ScriptLemmas.{are_valid_told, longer_text, reports_history}
-use Rattle.dhcp_live.proofs.TranscriptLemmas.{IsTold, reports}
+use Rattle.dhcp_live.proofs.TranscriptLemmas.{reports}
 
 -- the same with events
 abbrev pub with_events6 : List Event → Script6 → Script6

@@ -1,23 +1,20 @@
 -- The script of what was heard of a session.
-use Rattle.std.proofs.Common.{◌≡◌, ◌≤◌, ℕ, Bool, true, List, [], ◌∷◌, ◌++◌, Option, Some, refl, sym, ap, subst, ◌∙◌, append_assoc, codes, length, arith}
-use Rattle.std.specs.Prelude.{◌&&◌, ◌==◌, map, nat_le, nat_lt, not, option_map}
-use Rattle.std.specs.Fmt.{decimal}
+use Rattle.std.proofs.Common.{◌≡◌, ◌≤◌, ℕ, true, List, [], ◌∷◌, ◌++◌, Some, refl, sym, ap, subst, ◌∙◌, append_assoc, codes, length}
+use Rattle.std.specs.Prelude.{◌&&◌, nat_le, nat_lt}
 use Rattle.std.specs.List.{flat_map, list_all}
 use Rattle.std.proofs.lemmas.Bool.{and_from, and_parts, le-leb}
 use Rattle.std.proofs.lemmas.List.{append_cancel_right, length-map}
 use Rattle.dhcp_clock.specs.declared.link.Handed.{Handed}
 use Rattle.dhcp_clock.specs.declared.link.Packet.{Packet}
-use Rattle.dhcp_history.specs.EventLoop.{HasReported, events_at}
+use Rattle.dhcp_history.specs.EventLoop.{events_at}
 use Rattle.dhcp_history.specs.History.{history, outputs}
-use Rattle.dhcp_history.specs.Machine.{View, first_view}
+use Rattle.dhcp_history.specs.Machine.{first_view}
 use Rattle.dhcp_history.specs.Protocol.{Lawful, Protocol}
 use Rattle.dhcp_history.specs.Script as life
 use Rattle.dhcp_history.proofs.Looping.{loop_history}
 use Rattle.dhcp_stream.specs.Line.{line}
 use Rattle.dhcp_script.specs.Event.{are_in_order, are_valid, is_within_limits, moment_limit, most_events}
 use Rattle.dhcp_script.specs.Life.{event_line, events_text}
-use Rattle.dhcp_script.specs.declared.event.Event.{Event}
-use Rattle.dhcp_dialogue.specs.Dialogue.{Turn}
 use Rattle.dhcp_live.specs.Tool.{end_line}
 use Rattle.dhcp_live.specs.Transcript.{Told, events_in, heard_in, turns_of}
 

@@ -1,6 +1,5 @@
 -- The program, part by part.
 use Rattle.std.proofs.Common.{◌≡◌, ℕ, Bool, true, false, List, [], ◌++◌, Ok, Err, refl, sym, subst, inl, inr}
-use Rattle.dhcp_clock.specs.Leads.{Leads}
 use Rattle.dhcp4_client.specs.Rules as rules4
 use Rattle.dhcp4_client.specs.declared.client_state.ClientState as state4
 use Rattle.dhcp4_client.specs.declared.client_state.Exchange as exchange4

@@ -1,5 +1,5 @@
 -- A transcript is a script.
-use Rattle.std.proofs.Common.{◌≡◌, ℕ, true, List, [], ◌++◌, refl, sym, ap, subst, ◌∙◌}
+use Rattle.std.proofs.Common.{◌≡◌, ℕ, true, List, ◌++◌, refl, sym, ap, subst, ◌∙◌}
 use Rattle.dhcp_history.specs.Protocol.{Lawful}
 use Rattle.dhcp4_client.specs.Rules as rules4
 use Rattle.dhcp4_lease.specs.Config as config4

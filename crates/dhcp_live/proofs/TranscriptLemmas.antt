@@ -1,7 +1,7 @@
 -- A session without further words, event by event.
-use Rattle.std.proofs.Common.{◌≡◌, ℕ, zero, suc, Bool, true, List, [], ◌∷◌, ◌++◌, refl, sym, ap, subst, ◌∙◌}
+use Rattle.std.proofs.Common.{◌≡◌, ℕ, suc, true, List, [], ◌∷◌, ◌++◌, refl, sym, ap, subst, ◌∙◌}
 use Rattle.std.specs.Prelude.{◌&&◌, map, nat_le, nat_lt}
-use Rattle.std.specs.List.{flat_map, list_all}
+use Rattle.std.specs.List.{list_all}
 use Rattle.std.proofs.lemmas.Bool.{and_from, and_parts}
 use Rattle.std.proofs.lemmas.List.{map-append}
 use Rattle.dhcp_clock.specs.declared.link.Handed.{Handed}
@@ -18,7 +18,7 @@ use Rattle.dhcp_script.specs.declared.event.Event.{Event}
 use Rattle.dhcp_script.specs.LiveLine.{live_line_text}
 use Rattle.dhcp_script.specs.declared.live_line.LiveLine.TheVariants as lines
 use Rattle.dhcp_tool.specs.declared.status.Status.{Status}
-use Rattle.dhcp_tool.specs.declared.status.Status.TheVariants.{Done, NoScript, WriteFault, NoMemory, Invalid}
+use Rattle.dhcp_tool.specs.declared.status.Status.TheVariants.{Done}
 use Rattle.dhcp_dialogue.specs.Dialogue.{Turn, Hears, Says, status_of}
 use Rattle.dhcp_dialogue.specs.declared.dialogue.Unheard.{Unheard}
 use Rattle.dhcp_dialogue.specs.declared.dialogue.Unheard.TheVariants as unheard

@@ -1,5 +1,5 @@
 -- Turns of a dialogue, one after the other.
-use Rattle.std.proofs.Common.{◌≡◌, List, [], ◌∷◌, ◌++◌, sym, subst}
+use Rattle.std.proofs.Common.{List, [], ◌∷◌, ◌++◌, subst}
 use Rattle.dhcp_clock.specs.Leads.{Leads}
 
 -- steps, and then further ones

@@ -15,7 +15,7 @@ use Rattle.dhcp_tool.specs.Status.{status_number}
 use Rattle.dhcp_tool.specs.declared.status.Status.{Status}
 use Rattle.dhcp_tool.specs.declared.status.Status.TheVariants.{NoScript, NoMemory, TooLong, Invalid}
 use Rattle.dhcp_live.specs.Begin.{Begins4, Begins6}
-use Rattle.dhcp_dialogue.specs.Dialogue.{Turn, Hears, Misses, Says, most_line_bytes, status_of}
+use Rattle.dhcp_dialogue.specs.Dialogue.{Turn, Hears, Misses, most_line_bytes, status_of}
 use Rattle.dhcp_live.specs.Session.{IsSession, most_lines}
 use Rattle.dhcp_dialogue.specs.declared.dialogue.Unheard.{Unheard}
 

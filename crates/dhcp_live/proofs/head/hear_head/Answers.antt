@@ -1,8 +1,6 @@
 -- Line by line.
-use Rattle.std.proofs.Common.{◌≡◌, ◌++◌, ◌≤◌, true, false, length, List, ℕ, Err, Ok, subst, sym, ap, ◌∙◌, arith}
-use Rattle.std.specs.Prelude.{Result}
+use Rattle.std.proofs.Common.{◌≡◌, ◌≤◌, true, false, length, List, ℕ, Ok, subst, sym, ap, ◌∙◌, arith}
 use Rattle.dhcp_dialogue.specs.Dialogue.{most_line_bytes, status_of}
-use Rattle.dhcp_tool.specs.declared.status.Status.{Status}
 use Rattle.dhcp_live.specs.Tool.{HearsHead, is_last_of_head}
 use Rattle.dhcp_live.proofs.HeadLemmas.{HeadSoFar, ended_so, last_line, line_some, no_line, no_memory_left, one_line_more, put_behind, shorter, too_long}
 use Rattle.dhcp_live.proofs.head.hear_head.Goals as goal

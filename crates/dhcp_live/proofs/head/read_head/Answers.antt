@@ -1,5 +1,5 @@
 -- Whether a script was read, and whether it has events.
-use Rattle.std.proofs.Common.{inr, inl, refl}
+use Rattle.std.proofs.Common.{inr, refl}
 use Rattle.std.proofs.lemmas.Bool.{iff_false}
 use Rattle.dhcp_live.proofs.HeadLemmas.{has_events, is_head}
 use Rattle.dhcp_live.proofs.head.read_head.Goals as goal
