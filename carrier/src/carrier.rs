@@ -95,18 +95,18 @@ impl Carrier {
         match report {
             Report::Send(to, bytes) => {
                 if let Err(error) = self.sockets.send(to, &bytes) {
-                    self.interface.log(&format!("a message was not sent: {error}"));
+                    self.interface.log(&format!("no message sent: {error}"));
                 }
             }
             Report::State(state, fields) => {
                 let lease = Lease::read(&fields);
                 let address = lease.as_ref().map_or("", |lease| &lease.address);
-                self.interface.log(&format!("{state} {address}"));
+                self.interface.log(format!("{state} {address}").trim_end());
                 if lease.is_some() || matches!(state.as_str(), "init_reboot" | "solicit") {
                     self.hold(lease);
                 }
             }
-            Report::Failure(what) => self.interface.log(&format!("failed: {what}")),
+            Report::Failure(what) => self.interface.log(&what),
         }
     }
 

@@ -20,7 +20,7 @@ pub enum Report {
     Send(Option<SocketAddr>, Vec<u8>),
     /// The client is in another state. In `done` it has the lease with these fields; else none.
     State(String, String),
-    /// Something failed: this.
+    /// Something failed, which this says.
     Failure(String),
 }
 
@@ -138,8 +138,8 @@ fn report(words: &[&str]) -> Option<Report> {
         }
         [_, "handed", "udp6", bytes] => send(Some((ALL_SERVERS, 547).into()), bytes),
         [_, "state", state, lease @ ..] => Some(Report::State(state.to_string(), lease.join(" "))),
-        [_, "refused", ..] => Some(Report::Failure("a message: the link is down".into())),
-        [_, "failed", why] => Some(Report::Failure(why.to_string())),
+        [_, "refused", ..] => Some(Report::Failure("the link is down: no message sent".into())),
+        [_, "failed", why] => Some(Report::Failure(format!("failed: {why}"))),
         _ => None,
     }
 }
