@@ -25,7 +25,7 @@ mount -t sysfs sysfs /sys
 # The client's namespace is this one; the server's is that of a process that sleeps.
 unshare -n sleep 60 &
 server=$!
-sleep 0.2
+until [ "$(readlink "/proc/$server/ns/net")" != "$(readlink /proc/self/ns/net)" ]; do sleep 0.1; done
 ip link set lo up
 ip link add cli0 type veth peer name srv0 netns "$server"
 in_server() { nsenter --net="/proc/$server/ns/net" "$@"; }

@@ -58,7 +58,7 @@ impl Carrier {
         loop {
             let reports = self.program.event(now(), self.interface.takes(), &what)?;
             reports.into_iter().for_each(|report| self.carry_out(report));
-            if what == "release" {
+            if what == "release" || what == "cleanup" {
                 self.hold(None);
             }
             if what == "release" || (self.once && self.is_bound) {
@@ -84,10 +84,11 @@ impl Carrier {
                 None => {}
             }
             let left = self.program.next.map(|moment| moment.saturating_sub(now()));
-            if left == Some(0) {
+            if left == Some(0) || !self.program.is_running() {
                 return "none".into();
             }
-            self.sockets.wait(self.signals.as_raw_fd(), left, self.program.is_listening);
+            let others = [self.signals.as_raw_fd(), self.program.output()];
+            self.sockets.wait(others, left, self.program.is_listening);
         }
     }
 
@@ -110,18 +111,18 @@ impl Carrier {
         }
     }
 
-    // Sets the interface as a lease says, or takes off what the last one gave; and keeps the lease.
+    // Keeps a lease and sets the interface as it says, or, without one, takes off what the last gave.
     fn hold(&mut self, lease: Option<Lease>) {
         let (before, after) = (self.store.lease.as_ref(), lease.as_ref());
         if before.map(|(_, lease)| &lease.address) != after.map(|lease| &lease.address) {
             self.unbind();
         }
-        if let Some(lease) = &lease {
-            self.interface.set(if self.is_bound { "renew" } else { "bound" }, lease);
-            self.is_bound = true;
-        }
         if let Err(error) = self.store.keep(lease.map(|lease| (now(), lease))) {
             self.interface.log(&format!("the lease was not kept: {error}"));
+        }
+        if let Some((_, lease)) = &self.store.lease {
+            self.interface.set(if self.is_bound { "renew" } else { "bound" }, lease);
+            self.is_bound = true;
         }
     }
 

@@ -5,8 +5,11 @@
 use std::fs::File;
 use std::io::{BufRead, BufReader, Error, Result, Write};
 use std::net::{Ipv4Addr, Ipv6Addr, SocketAddr};
+use std::os::fd::{AsRawFd, RawFd};
 use std::os::unix::process::CommandExt;
 use std::process::{Child, ChildStdin, ChildStdout, Command, Stdio};
+use std::thread::sleep;
+use std::time::Duration;
 
 /// The longest packet that an event may carry, in bytes.
 pub const MAX_PACKET: usize = 1500;
@@ -94,7 +97,17 @@ impl Program {
         if last == "ok" && self.child.wait()?.success() { Ok(()) } else { Err(self.death()) }
     }
 
-    /// The last lines that went either way.
+    /// What can be read only if the program has ended, since no answer is due.
+    pub fn output(&self) -> RawFd {
+        self.output.get_ref().as_raw_fd()
+    }
+
+    /// Whether the program has not ended.
+    pub fn is_running(&mut self) -> bool {
+        matches!(self.child.try_wait(), Ok(None))
+    }
+
+    /// The beginnings of the last lines that went either way.
     pub fn last_lines(&self) -> String {
         self.last_lines.join("\n")
     }
@@ -116,15 +129,19 @@ impl Program {
 
     fn remember(&mut self, line: &str) {
         self.last_lines.rotate_left(1);
-        self.last_lines[7] = line.into();
+        self.last_lines[7] = line.get(..160).unwrap_or(line).into();
     }
 
-    // How the program ended, once a pipe is closed; if it goes on, it is ended here.
+    // How the program ended, once a pipe is closed; if it goes on after that, it is ended here.
     fn death(&mut self) -> Error {
-        match self.child.kill().and_then(|()| self.child.wait()) {
-            Ok(status) => Error::other(format!("the program ended with {status}")),
-            Err(error) => error,
+        for _ in 0..10 {
+            sleep(Duration::from_millis(20));
+            if let Ok(Some(status)) = self.child.try_wait() {
+                return Error::other(format!("the program ended with {status}"));
+            }
         }
+        let ended = self.child.kill().and_then(|()| self.child.wait());
+        Error::other(format!("the program closed a pipe, and was ended: {ended:?}"))
     }
 }
 

@@ -77,11 +77,11 @@ impl Sockets {
         (length <= MAX_PACKET).then(|| format!("{kind} {}", hex(&room[..length])))
     }
 
-    /// Waits until another file can be read, so many milliseconds are over, or a packet is there, if
-    /// one is listened for.
-    pub fn wait(&self, other: RawFd, milliseconds: Option<u64>, is_listening: bool) {
+    /// Waits until one of the other files can be read, so many milliseconds are over, or a packet is
+    /// there, if one is listened for.
+    pub fn wait(&self, others: [RawFd; 2], milliseconds: Option<u64>, is_listening: bool) {
         let sockets = [self.frames.as_ref().map(File::as_raw_fd), Some(self.payloads.as_raw_fd())];
-        let files = sockets.into_iter().flatten().filter(|_| is_listening).chain([other]);
+        let files = sockets.into_iter().flatten().filter(|_| is_listening).chain(others);
         let mut files: Vec<_> = files.map(|file| PollFile(file, POLLIN, 0)).collect();
         let limit = milliseconds.map_or(-1, |left| left.min(i32::MAX as u64) as i32);
         unsafe { poll(files.as_mut_ptr(), files.len() as u64, limit) };
