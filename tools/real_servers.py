@@ -98,6 +98,8 @@ subnet {network(4, low)} netmask 255.255.255.0 {{
 """
     else:
         number = "01" if address == ADDRESSES[6][0] else "99"
+        # the identifier stands in the file of leases too
+        lab.edit(f"leases-{device}", r"(?m)^server-duid .*\n", "")
         text = common + f"""default-lease-time 40; preferred-lifetime 30;
 option dhcp-renewal-time 8; option dhcp-rebinding-time 16;
 server-duid LL ethernet 02:00:00:00:01:{number};
@@ -271,9 +273,8 @@ class Server:
     def up(self, pool="plain", elsewhere=False):
         """Starts it, with a pool, and maybe under another address and identity."""
         address = ADDRESSES[self.family][elsewhere]
-        if address != self.address and self.kind.name != "networkd":
-            if self.address:
-                self.lab.inside("server", f"ip addr del {self.address}/{LENGTHS[self.family]} dev srv0")
+        if address != self.address:
+            self.lab.inside("server", "ip addr flush dev srv0 scope global")
             self.lab.inside("server", f"ip addr add {address}/{LENGTHS[self.family]} dev srv0")
         self.address = address
         words = self.kind.start(self.lab, self.family, pool, address, "srv0")
@@ -347,10 +348,10 @@ set -o pipefail
             return self.states()
         return self.states()[done[number - 2] + 1 if number > 1 else 0:done[number - 1]]
 
-    def nacks(self):
-        """How many Nacks of DHCPv4 the client was told of (option 53, first after the cookie, 6)."""
+    def has_nack(self):
+        """Whether a Nack of DHCPv4 came: option 53, the first after the cookie, is 6."""
         with open(self.lab.path(self.parts[-1][0])) as file:
-            return sum("63825363350106" in line for line in file)
+            return "63825363350106" in file.read()
 
     def took(self, number=1):
         """How many seconds passed from the first event to lease number `number`."""
@@ -471,7 +472,7 @@ def try_refusal(lab, server, words, rows):
     verdict = "otherwise" if not new() and client.leases()[1:] else "works" if new() and gone else "fails"
     rows.append(("server that has forgotten, with another pool", verdict,
                  f"{new()[0]} after {time.time() - begun:.0f} s, by {', '.join(client.way(number))}, "
-                 f"{client.nacks()} Nacks, the old address is off: {gone}" if new() else
+                 f"{'a Nack' if client.has_nack() else 'no Nack'}, the old address is off: {gone}" if new() else
                  f"the server renews {first}: {len(client.leases()) - 1} times"))
 
 

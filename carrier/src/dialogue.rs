@@ -48,7 +48,8 @@ impl Program {
     pub fn start(path: &str, head: &str, transcript: Option<&str>) -> Result<Self> {
         let mut command = Command::new(path);
         command.arg("live").stdin(Stdio::piped()).stdout(Stdio::piped()).process_group(0);
-        let mut child = command.spawn()?;
+        let failed = |error| Error::other(format!("{path} does not start: {error}"));
+        let mut child = command.spawn().map_err(failed)?;
         let pipes = child.stdin.take().zip(child.stdout.take());
         let (input, output) = pipes.ok_or_else(|| Error::other("the program has no pipes"))?;
         let mut program = Program {

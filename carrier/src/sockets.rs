@@ -105,17 +105,13 @@ fn open(family: u16, kind: i32, options: &[(i32, &[u8])], parts: &[&[u8]]) -> Re
 #[repr(C)]
 struct Instruction(u16, u8, u8, u32);
 
-// Takes the IPv4 frames to UDP port 68 that are no later fragments, so that nothing else wakes us.
-static PORT_68: [Instruction; 11] = [
-    Instruction(0x28, 0, 0, 12),              // the type of the frame
-    Instruction(0x15, 0, 8, ETH_P_IP as u32), // is it IPv4?
-    Instruction(0x30, 0, 0, 23),              // the protocol
-    Instruction(0x15, 0, 6, 17),              // is it UDP?
-    Instruction(0x28, 0, 0, 20),              // flags and offset of the fragment
-    Instruction(0x45, 4, 0, 0x1fff),          // is it a later one?
-    Instruction(0xb1, 0, 0, 14),              // the length of the IPv4 header
-    Instruction(0x48, 0, 0, 16),              // the port that it goes to
-    Instruction(0x15, 0, 1, 68),              // is it 68?
-    Instruction(0x06, 0, 0, 65535),           // take it
-    Instruction(0x06, 0, 0, 0),               // drop it
+// Takes, of IPv4 frames, those to UDP port 68, so that nothing else wakes us.
+static PORT_68: [Instruction; 7] = [
+    Instruction(0x30, 0, 0, 23),    // the protocol
+    Instruction(0x15, 0, 4, 17),    // is it UDP?
+    Instruction(0xb1, 0, 0, 14),    // the length of the IPv4 header
+    Instruction(0x48, 0, 0, 16),    // the port that it goes to
+    Instruction(0x15, 0, 1, 68),    // is it 68?
+    Instruction(0x06, 0, 0, 65535), // take it
+    Instruction(0x06, 0, 0, 0),     // drop it
 ];
