@@ -107,7 +107,7 @@ impl Carrier {
                     self.hold(lease);
                 }
             }
-            Report::Failure(what) => self.interface.log(&what),
+            Report::Note(what) => self.interface.log(&what),
         }
     }
 

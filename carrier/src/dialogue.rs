@@ -23,8 +23,8 @@ pub enum Report {
     Send(Option<SocketAddr>, Vec<u8>),
     /// The client is in another state. In `done` it has the lease with these fields; else none.
     State(String, String),
-    /// Something failed, which this says.
-    Failure(String),
+    /// What else a log has to say.
+    Note(String),
 }
 
 /// The running program.
@@ -156,8 +156,9 @@ fn report(words: &[&str]) -> Option<Report> {
         }
         [_, "handed", "udp6", bytes] => send(Some((ALL_SERVERS, 547).into()), bytes),
         [_, "state", state, lease @ ..] => Some(Report::State(state.to_string(), lease.join(" "))),
-        [_, "refused", ..] => Some(Report::Failure("the link is down: no message sent".into())),
-        [_, "failed", why] => Some(Report::Failure(format!("failed: {why}"))),
+        [_, "refused", ..] => Some(Report::Note("the link is down: no message sent".into())),
+        [_, "failed", why] => Some(Report::Note(format!("failed: {why}"))),
+        ["dropped", _, why @ ..] => Some(Report::Note(format!("a packet dropped: {}", why.join(" ")))),
         _ => None,
     }
 }

@@ -52,7 +52,7 @@ fn run(options: &Options) -> Result<()> {
     } else {
         let mut command = Command::new(current_exe()?);
         command.arg("--foreground").args(args().skip(1)).process_group(0);
-        println!("{}", command.stdin(Stdio::null()).spawn()?.id());
+        println!("{}", command.stdin(Stdio::null()).stdout(Stdio::null()).spawn()?.id());
     }
     Ok(())
 }
