@@ -275,7 +275,8 @@ class Server:
         address = ADDRESSES[self.family][elsewhere]
         if address != self.address:
             self.lab.inside("server", "ip addr flush dev srv0 scope global")
-            self.lab.inside("server", f"ip addr add {address}/{LENGTHS[self.family]} dev srv0")
+            if self.kind.name != "networkd":  # which sets it itself
+                self.lab.inside("server", f"ip addr add {address}/{LENGTHS[self.family]} dev srv0")
         self.address = address
         words = self.kind.start(self.lab, self.family, pool, address, "srv0")
         self.process = self.lab.begin("server", words, "server.log", box=True)
@@ -353,13 +354,15 @@ set -o pipefail
         with open(self.lab.path(self.parts[-1][0])) as file:
             return "63825363350106" in file.read()
 
-    def took(self, number=1):
-        """How many seconds passed from the first event to lease number `number`."""
+    def took(self):
+        """How many seconds passed from the first event to the first lease, once that is told of."""
         with open(self.lab.path(self.parts[-1][0])) as file:
             moments = [int(line.split()[1]) for line in file if line.startswith("at ")]
-        with open(self.lab.path(self.parts[-1][1])) as file:
-            events = [int(line.split()[0]) for line in file if " state done " in line]
-        return (moments[events[number - 1] - 1] - moments[0]) / 1000
+        events = []
+        while not events:
+            with open(self.lab.path(self.parts[-1][1])) as file:
+                events = [int(line.split()[0]) for line in file if " state done " in line]
+        return (moments[events[0] - 1] - moments[0]) / 1000
 
     def addresses(self):
         shown = subprocess.run(["ip", "-n", self.lab.spaces["client"], "-o", f"-{self.family}", "addr", "show", "dev",

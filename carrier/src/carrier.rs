@@ -84,11 +84,11 @@ impl Carrier {
                 None => {}
             }
             let left = self.program.next.map(|moment| moment.saturating_sub(now()));
-            if left == Some(0) || !self.program.is_running() {
+            let others = [self.program.output(), self.signals.as_raw_fd()];
+            let has_ended = self.sockets.wait(others, left, self.program.is_listening);
+            if left == Some(0) || has_ended {
                 return "none".into();
             }
-            let others = [self.signals.as_raw_fd(), self.program.output()];
-            self.sockets.wait(others, left, self.program.is_listening);
         }
     }
 

@@ -98,14 +98,9 @@ impl Program {
         if last == "ok" && self.child.wait()?.success() { Ok(()) } else { Err(self.death()) }
     }
 
-    /// What can be read only if the program has ended, since no answer is due.
+    /// The file of the answers. When none is due, it can be read only if the program has ended.
     pub fn output(&self) -> RawFd {
         self.output.get_ref().as_raw_fd()
-    }
-
-    /// Whether the program has not ended.
-    pub fn is_running(&mut self) -> bool {
-        matches!(self.child.try_wait(), Ok(None))
     }
 
     /// The beginnings of the last lines that went either way.
@@ -135,14 +130,11 @@ impl Program {
 
     // How the program ended, once a pipe is closed; if it goes on after that, it is ended here.
     fn death(&mut self) -> Error {
-        for _ in 0..10 {
-            sleep(Duration::from_millis(20));
-            if let Ok(Some(status)) = self.child.try_wait() {
-                return Error::other(format!("the program ended with {status}"));
-            }
+        sleep(Duration::from_millis(200));
+        match self.child.kill().and_then(|()| self.child.wait()) {
+            Ok(status) => Error::other(format!("the program ended with {status}")),
+            Err(error) => error,
         }
-        let ended = self.child.kill().and_then(|()| self.child.wait());
-        Error::other(format!("the program closed a pipe, and was ended: {ended:?}"))
     }
 }
 

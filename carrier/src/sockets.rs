@@ -78,13 +78,14 @@ impl Sockets {
     }
 
     /// Waits until one of the other files can be read, so many milliseconds are over, or a packet is
-    /// there, if one is listened for.
-    pub fn wait(&self, others: [RawFd; 2], milliseconds: Option<u64>, is_listening: bool) {
+    /// there, if one is listened for. Returns whether the first of the other files can be read.
+    pub fn wait(&self, others: [RawFd; 2], milliseconds: Option<u64>, is_listening: bool) -> bool {
         let sockets = [self.frames.as_ref().map(File::as_raw_fd), Some(self.payloads.as_raw_fd())];
-        let files = sockets.into_iter().flatten().filter(|_| is_listening).chain(others);
+        let sockets = sockets.into_iter().flatten().filter(|_| is_listening);
+        let files = others.into_iter().chain(sockets);
         let mut files: Vec<_> = files.map(|file| PollFile(file, POLLIN, 0)).collect();
         let limit = milliseconds.map_or(-1, |left| left.min(i32::MAX as u64) as i32);
-        unsafe { poll(files.as_mut_ptr(), files.len() as u64, limit) };
+        unsafe { poll(files.as_mut_ptr(), files.len() as u64, limit) > 0 && files[0].2 != 0 }
     }
 }
 
