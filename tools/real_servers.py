@@ -637,7 +637,7 @@ def replays(lab, transcript, answers):
     with open(lab.path(transcript)) as file:
         script = as_script(file.read())
     with open(lab.path(answers)) as file:
-        said = [line for line in file.read().splitlines() if not line.startswith(("next ", "dropped "))]
+        said = [line for line in file.read().splitlines() if not line.startswith("next ")]
     played = subprocess.run([PROGRAM, "run"], input=script, capture_output=True, text=True, check=False)
     return played.returncode == 0 and played.stdout.splitlines() == said + ["ok"] * (said[-1:] != ["ok"])
 

@@ -60,7 +60,7 @@ cat "$work/log"
 
 leases=$(grep -c 'done 192\.0\.2\.' "$work/log")
 "$program" run <"$work/transcript" >"$work/replayed"
-grep -v '^next \|^dropped ' "$work/answers" | cmp - "$work/replayed" && same=yes || same=no
+grep -v '^next ' "$work/answers" | cmp - "$work/replayed" && same=yes || same=no
 echo "leases $leases, on the interface: $(grep -c 'inet 192\.0\.2\.' "$work/address")," \
     "exit status $status, transcript of $(wc -l <"$work/transcript") lines, replayed alike: $same"
 [ "$leases" -ge 3 ] && grep -q 'inet 192\.0\.2\.' "$work/address" && [ "$status" = 0 ] &&

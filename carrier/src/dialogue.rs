@@ -150,7 +150,6 @@ fn report(words: &[&str]) -> Option<Report> {
         [_, "state", state, lease @ ..] => Some(Report::State(state.to_string(), lease.join(" "))),
         [_, "refused", ..] => Some(Report::Note("the link is down: no message sent".into())),
         [_, "failed", why] => Some(Report::Note(format!("failed: {why}"))),
-        ["dropped", _, why @ ..] => Some(Report::Note(format!("a packet dropped: {}", why.join(" ")))),
         _ => None,
     }
 }
