@@ -1,5 +1,5 @@
-# The hook of the carrier where --hook names none: sets an interface by `ip` as a lease says. It gets
-# `bound`, `renew` or `deconfig`, and the lease in variables with the names of udhcpc's scripts.
+# The hook of the carrier where --hook names none: sets an interface by `ip` as a lease says. It
+# gets `bound`, `renew` or `deconfig`, and the lease in variables named as for udhcpc's scripts.
 
 address=${ip:-$ipv6}
 family=$([ -n "$ip" ] && echo -4 || echo -6)

@@ -23,19 +23,21 @@ CLIENT, SERVER = bytes([192, 0, 2, 10]), bytes([192, 0, 2, 1])
 
 def message(kind, number=ID, length=0):
     """A reply of a server: a lease of 100 seconds with T1 50 and T2 80, filled up to a length."""
-    head = struct.pack(">BBBBIHH4s4s4s4s16s192xI", 2, 1, 6, 0, number, 0, 0, bytes(4), CLIENT, SERVER, bytes(4),
-                       bytes.fromhex(MAC), 0x63825363)
+    head = struct.pack(">BBBBIHH4x", 2, 1, 6, 0, number, 0, 0) + CLIENT + SERVER
+    head += struct.pack(">4x16s192xI", bytes.fromhex(MAC), 0x63825363)
     options = bytes([53, 1, kind, 54, 4]) + SERVER
     if not length:
-        options += b"".join(struct.pack(">BBI", code, 4, value) for code, value in ((51, 100), (58, 50), (59, 80)))
+        times = ((51, 100), (58, 50), (59, 80))
+        options += b"".join(struct.pack(">BBI", code, 4, seconds) for code, seconds in times)
     return (head + options + b"\xff").ljust(length, b"\0")
 
 
 def frame(payload):
     """A payload in an Ethernet frame to UDP port 68; the client tests no checksum."""
     udp = struct.pack(">HHHH", 67, 68, 8 + len(payload), 0) + payload
-    internet = struct.pack(">BBHHHBBH4s4s", 0x45, 0, 20 + len(udp), 0, 0, 64, 17, 0, SERVER, b"\xff" * 4)
-    return b"\xff" * 6 + bytes.fromhex("020000000002") + b"\x08\x00" + internet + udp
+    internet = struct.pack(">BBHHHBBH", 0x45, 0, 20 + len(udp), 0, 0, 64, 17, 0)
+    link = b"\xff" * 6 + bytes.fromhex("020000000002") + b"\x08\x00"
+    return link + internet + SERVER + b"\xff" * 4 + udp
 
 
 FOREIGN = "frame " + frame(message(2, ID + 1, 300 - 42)).hex()
@@ -48,10 +50,11 @@ class Program:
     """The running program, with the moment of the last event."""
 
     def __init__(self, path):
-        self.process = subprocess.Popen([path, "live"], stdin=subprocess.PIPE, stdout=subprocess.PIPE)
+        pipes = {"stdin": subprocess.PIPE, "stdout": subprocess.PIPE}
+        self.process = subprocess.Popen([path, "live"], **pipes)
         self.moment = 0
-        self.write(f"dhcp4 3\niface 1 {MAC} 0 0\nforms rfc2131\nhost -\nclient -\ncodes default\nlease none\n"
-                   f"words {ID:08x}{'00000000' * 999}\nstart 0\n")
+        client = f"dhcp4 3\niface 1 {MAC} 0 0\nforms rfc2131\nhost -\nclient -\ncodes default\n"
+        self.write(f"{client}lease none\nwords {ID:08x}{'00000000' * 999}\nstart 0\n")
 
     def write(self, text):
         self.process.stdin.write(text.encode())
@@ -100,7 +103,8 @@ class Program:
 
 def show(name, times):
     times = sorted(1e6 * seconds for seconds in times)
-    print(f"{name}: median {statistics.median(times):.1f} us, nine in ten within {times[len(times) * 9 // 10]:.1f} us")
+    median, most = statistics.median(times), times[len(times) * 9 // 10]
+    print(f"{name}: median {median:.1f} us, nine in ten within {most:.1f} us")
 
 
 def main():

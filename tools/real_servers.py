@@ -4,14 +4,15 @@
 usage: real_servers.py PROGRAM CARRIER [--only WORD]... [--jobs N] [--work FOLDER] [--table FILE]
 
 PROGRAM is dhcp_main, CARRIER the built carrier. Each server that is installed of dnsmasq, Kea, ISC
-dhcpd, udhcpd and systemd-networkd is tried in network namespaces of its own, which are removed at the
-end: nothing of the machine's network is touched. WORD chooses the tries whose name has it, as
+dhcpd, udhcpd and systemd-networkd is tried in network namespaces of its own, which are removed at
+the end: nothing of the machine's network is touched. WORD chooses the tries whose name has it, as
 `4-kea` or `loss`. Needs root, `ip` and `ethtool`. The table goes to standard output, or to a file.
 """
 
 import argparse
 import concurrent.futures
 import glob
+import ipaddress
 import itertools
 import json
 import os
@@ -32,10 +33,17 @@ os.environ["PATH"] += ":" + PATHS
 
 # What every server is given to serve: pools of the network, by what a try needs.
 POOLS = {
-    4: {"plain": ("198.51.100.50", "198.51.100.99"), "other": ("198.51.100.150", "198.51.100.199"),
-        "one": ("198.51.100.50", "198.51.100.50"), "second": ("203.0.113.50", "203.0.113.99")},
-    6: {"plain": ("2001:db8:1::1000", "2001:db8:1::1fff"), "other": ("2001:db8:1::2000", "2001:db8:1::2fff"),
-        "one": ("2001:db8:1::1000", "2001:db8:1::1000")},
+    4: {
+        "plain": ("198.51.100.50", "198.51.100.99"),
+        "other": ("198.51.100.150", "198.51.100.199"),
+        "one": ("198.51.100.50", "198.51.100.50"),
+        "second": ("203.0.113.50", "203.0.113.99"),
+    },
+    6: {
+        "plain": ("2001:db8:1::1000", "2001:db8:1::1fff"),
+        "other": ("2001:db8:1::2000", "2001:db8:1::2fff"),
+        "one": ("2001:db8:1::1000", "2001:db8:1::1000"),
+    },
 }
 # The server's address, and that of the server that comes in its place.
 ADDRESSES = {4: ("198.51.100.1", "198.51.100.2"), 6: ("2001:db8:1::1", "2001:db8:1::2")}
@@ -54,43 +62,59 @@ exec "$@"
 
 def dnsmasq(lab, family, pool, address, device):
     low, high = POOLS[family][pool]
-    words = ["dnsmasq", "--keep-in-foreground", "--conf-file=/dev/null", "--port=0", "--bind-interfaces",
-             f"--interface={device}", "--no-ping", "--no-hosts", "--no-resolv", "--log-dhcp", "--log-facility=-",
-             "--user=root", "--pid-file=", "--dhcp-authoritative", f"--dhcp-leasefile={lab.path('leases-' + device)}"]
+    leases = f"leases-{device}"
+    words = ["dnsmasq", "--keep-in-foreground", "--conf-file=/dev/null", "--port=0"]
+    words += [f"--interface={device}", "--bind-interfaces", "--no-ping", "--no-hosts"]
+    words += ["--no-resolv", "--log-dhcp", "--log-facility=-", "--user=root", "--pid-file="]
+    words += ["--dhcp-authoritative", f"--dhcp-leasefile={lab.path(leases)}"]
     if family == 6:
         if address == ADDRESSES[6][1]:
             # its identifier stands in the file of leases
-            lab.edit("leases-" + device, r"(?m)^duid .*", "duid 00:03:00:01:02:00:00:00:01:99")
-        return words + [f"--dhcp-range={low},{high},64,2m", "--dhcp-option=option6:dns-server,[2001:db8:1::53]"]
-    return words + [f"--dhcp-range={low},{high},255.255.255.0,2m", f"--dhcp-option=option:dns-server,{address}",
-                    "--dhcp-option=option:T1,8s", "--dhcp-option=option:T2,16s"]
+            lab.edit(leases, r"(?m)^duid .*", "duid 00:03:00:01:02:00:00:00:01:99")
+        words += [f"--dhcp-range={low},{high},64,2m"]
+        return words + ["--dhcp-option=option6:dns-server,[2001:db8:1::53]"]
+    words += [f"--dhcp-range={low},{high},255.255.255.0,2m", "--dhcp-option=option:T1,8s"]
+    return words + ["--dhcp-option=option:T2,16s", f"--dhcp-option=option:dns-server,{address}"]
 
 
 def kea(lab, family, pool, address, device):
     low, high = POOLS[family][pool]
-    subnet = {"id": 1, "pools": [{"pool": f"{low} - {high}"}], "interface": device,
-              "subnet": f"{network(family, low)}/{LENGTHS[family]}"}
-    rest = {"interfaces-config": {"interfaces": [device]}, "renew-timer": 8, "rebind-timer": 16,
-            "lease-database": {"type": "memfile", "persist": False},
-            "loggers": [{"name": f"kea-dhcp{family}", "severity": "INFO", "output_options": [{"output": "stdout"}]}]}
+    subnet = {
+        "id": 1,
+        "interface": device,
+        "subnet": f"{network(family, low)}/{LENGTHS[family]}",
+        "pools": [{"pool": f"{low} - {high}"}],
+    }
+    output = {"output_options": [{"output": "stdout"}]}
+    conf = {
+        "interfaces-config": {"interfaces": [device]},
+        "lease-database": {"type": "memfile", "persist": False},
+        "renew-timer": 8,
+        "rebind-timer": 16,
+        "loggers": [{"name": f"kea-dhcp{family}", "severity": "INFO", **output}],
+        f"subnet{family}": [subnet],
+    }
     if family == 4:
-        rest |= {"authoritative": True, "valid-lifetime": 24, "min-valid-lifetime": 24, "max-valid-lifetime": 24}
-        rest["interfaces-config"]["dhcp-socket-type"] = "raw"
-        subnet["option-data"] = [{"name": "routers", "data": address}, {"name": "domain-name-servers", "data": address}]
+        conf["interfaces-config"]["dhcp-socket-type"] = "raw"
+        conf |= {"authoritative": True, "valid-lifetime": 24}
+        names = ("routers", "domain-name-servers")
+        subnet["option-data"] = [{"name": name, "data": address} for name in names]
     else:
         number = "0102" if address == ADDRESSES[6][0] else "0304"
-        rest |= {"preferred-lifetime": 30, "valid-lifetime": 40,
-                 "server-id": {"type": "EN", "enterprise-id": 32473, "identifier": number, "persist": False}}
-        subnet["pd-pools"] = [{"prefix": "2001:db8:f000::", "prefix-len": 48, "delegated-len": 56}]
-    conf = lab.write(f"kea{family}.json", json.dumps({f"Dhcp{family}": {**rest, f"subnet{family}": [subnet]}}))
-    return [f"kea-dhcp{family}", "-c", conf]
+        identity = {"type": "EN", "enterprise-id": 32473, "identifier": number, "persist": False}
+        conf |= {"preferred-lifetime": 30, "valid-lifetime": 40, "server-id": identity}
+        prefixes = {"prefix": "2001:db8:f000::", "prefix-len": 48, "delegated-len": 56}
+        subnet["pd-pools"] = [prefixes]
+    path = lab.write(f"kea{family}.json", json.dumps({f"Dhcp{family}": conf}))
+    return [f"kea-dhcp{family}", "-c", path]
 
 
 def isc(lab, family, pool, address, device):
     low, high = POOLS[family][pool]
     common = "authoritative; ddns-update-style none;\n"
     if family == 4:
-        text = common + f"""ping-check false; default-lease-time 24; max-lease-time 24; min-lease-time 24;
+        text = common + f"""ping-check false;
+default-lease-time 24; max-lease-time 24; min-lease-time 24;
 option dhcp-renewal-time 8; option dhcp-rebinding-time 16;
 subnet {network(4, low)} netmask 255.255.255.0 {{
   range {low} {high}; option routers {address}; option domain-name-servers {address};
@@ -103,12 +127,15 @@ subnet {network(4, low)} netmask 255.255.255.0 {{
         text = common + f"""default-lease-time 40; preferred-lifetime 30;
 option dhcp-renewal-time 8; option dhcp-rebinding-time 16;
 server-duid LL ethernet 02:00:00:00:01:{number};
-subnet6 {network(6, low)}/64 {{ range6 {low} {high}; prefix6 2001:db8:f000:: 2001:db8:f000:ff00:: /56; }}
+subnet6 {network(6, low)}/64 {{
+  range6 {low} {high};
+  prefix6 2001:db8:f000:: 2001:db8:f000:ff00:: /56;
+}}
 """
     leases = lab.path(f"leases-{device}")
     open(leases, "a").close()
-    return ["dhcpd", f"-{family}", "-d", "-f", "-cf", lab.write(f"dhcpd-{device}.conf", text), "-lf", leases,
-            "-pf", lab.path(f"dhcpd-{device}.pid"), device]
+    words = ["dhcpd", f"-{family}", "-d", "-f", "-cf", lab.write(f"dhcpd-{device}.conf", text)]
+    return words + ["-lf", leases, "-pf", lab.path(f"dhcpd-{device}.pid"), device]
 
 
 def udhcpd(lab, family, pool, address, device):
@@ -152,40 +179,37 @@ DNS={address}
 
 def network(family, address):
     """The network in which an address is."""
-    length = LENGTHS[family]
-    kind = socket.AF_INET if family == 4 else socket.AF_INET6
-    bits = int.from_bytes(socket.inet_pton(kind, address), "big") >> (32 if family == 4 else 128) - length
-    whole = (bits << (32 if family == 4 else 128) - length).to_bytes(4 if family == 4 else 16, "big")
-    return socket.inet_ntop(kind, whole)
+    return str(ipaddress.ip_network(f"{address}/{LENGTHS[family]}", strict=False).network_address)
 
 
 class Kind:
-    """A kind of server: its program, the families it serves, and how long its leases last."""
+    """A kind of server: its program, what shows its version, and for each family that it serves how
+    long its leases last, and their T1, in seconds."""
 
-    def __init__(self, name, start, families, program, version, lease, forgets):
-        self.name, self.start, self.families, self.program = name, start, families, program
-        self.version, self.lease, self.forgets = version, lease, forgets
+    def __init__(self, name, words, program, version, leases):
+        self.name, self.words, self.program = name, words, program
+        self.version, self.leases = [program, version], leases
 
 
 KINDS = [
-    # of each family the length of a lease and its T1, in seconds; whether a restart forgets leases
-    Kind("dnsmasq", dnsmasq, (4, 6), "dnsmasq", ["dnsmasq", "--version"], {4: (120, 8), 6: (120, 60)}, False),
-    Kind("kea", kea, (4, 6), "kea-dhcp4", ["kea-dhcp4", "-V"], {4: (24, 8), 6: (40, 8)}, True),
-    Kind("isc", isc, (4, 6), "dhcpd", ["dhcpd", "--version"], {4: (24, 8), 6: (40, 8)}, False),
-    Kind("udhcpd", udhcpd, (4,), "udhcpd", ["udhcpd", "--help"], {4: (24, 12)}, False),
-    Kind("networkd", networkd, (4,), "systemd-networkd", ["systemd-networkd", "--version"], {4: (24, 12)}, True),
+    Kind("dnsmasq", dnsmasq, "dnsmasq", "--version", {4: (120, 8), 6: (120, 60)}),
+    Kind("kea", kea, "kea-dhcp4", "-V", {4: (24, 8), 6: (40, 8)}),
+    Kind("isc", isc, "dhcpd", "--version", {4: (24, 8), 6: (40, 8)}),
+    Kind("udhcpd", udhcpd, "udhcpd", "--help", {4: (24, 12)}),
+    Kind("networkd", networkd, "systemd-networkd", "--version", {4: (24, 12)}),
 ]
 
 
 # The laboratory
 
 class Lab:
-    """Namespaces for a server, a client and, if asked for, what is between them; and a work folder."""
+    """Namespaces for a server, a client and, if asked for, what is between them; and a folder."""
 
     def __init__(self, name, number, folder, middle):
         self.name, self.folder = name, os.path.join(folder, name)
         tag = f"jig{os.getpid()}x{number}"
-        self.spaces = {side: tag + side[0] for side in ("server", "client") + (("middle",) if middle else ())}
+        sides = ("server", "client", "middle") if middle else ("server", "client")
+        self.spaces = {side: tag + side[0] for side in sides}
         self.processes = []
 
     def __enter__(self):
@@ -194,9 +218,9 @@ class Lab:
         for space in self.spaces.values():
             run("ip", "netns", "add", space)
             self.inside(space, "ip link set lo up")
-            for setting in ("accept_dad=0", "dad_transmits=0", "accept_ra=0", "router_solicitations=0"):
+            for name in ("accept_dad", "dad_transmits", "accept_ra", "router_solicitations"):
                 for part in ("all", "default"):
-                    self.inside(space, f"sysctl -qw net.ipv6.conf.{part}.{setting}")
+                    self.inside(space, f"sysctl -qw net.ipv6.conf.{part}.{name}=0")
         if "middle" in self.spaces:
             self.link("server", "srv0", "02:00:00:00:01:01", "middle", "up0", "02:00:00:00:03:01")
             self.link("middle", "down0", "02:00:00:00:03:02", "client", "cli0", "02:00:00:00:02:01")
@@ -215,8 +239,9 @@ class Lab:
         run("ip", "netns", "exec", self.spaces.get(space, space), *words.split())
 
     def link(self, side, name, mac, other, other_name, other_mac):
-        run("ip", "-n", self.spaces[side], "link", "add", "name", name, "address", mac, "type", "veth", "peer",
-            "name", other_name, "address", other_mac, "netns", self.spaces[other])
+        peer = ("peer", "name", other_name, "address", other_mac, "netns", self.spaces[other])
+        device = ("link", "add", name, "address", mac, "type", "veth")
+        run("ip", "-n", self.spaces[side], *device, *peer)
         for space, device in ((side, name), (other, other_name)):
             # a checksum that is left to the hardware would never be made
             self.inside(space, f"ethtool -K {device} tx off")
@@ -238,16 +263,24 @@ class Lab:
 
     def begin(self, side, words, log, box=False):
         boxed = ["sh", "-c", BOX, self.folder] if box else []
-        variables = dict(os.environ, KEA_LOCKFILE_DIR=self.folder, KEA_PIDFILE_DIR=self.folder, LC_ALL="C")
+        inside = ["ip", "netns", "exec", self.spaces[side], *boxed, *words]
+        variables = {"KEA_LOCKFILE_DIR": self.folder, "KEA_PIDFILE_DIR": self.folder, "LC_ALL": "C"}
         with open(self.path(log), "ab") as file:
-            process = subprocess.Popen(["ip", "netns", "exec", self.spaces[side], *boxed, *words], stdout=file,
-                                       stderr=file, stdin=subprocess.DEVNULL, env=variables, cwd=self.folder)
+            streams = {"stdin": subprocess.DEVNULL, "stdout": file, "stderr": file}
+            variables = {**os.environ, **variables}
+            process = subprocess.Popen(inside, **streams, env=variables, cwd=self.folder)
         self.processes.append(process)
         return process
 
 
 def run(*words):
     subprocess.run(words, check=True, stdout=subprocess.DEVNULL)
+
+
+def output_of(*words):
+    """The lines that a command writes."""
+    pipes = {"stdout": subprocess.PIPE, "stderr": subprocess.STDOUT}
+    return subprocess.run(words, text=True, check=False, **pipes).stdout.splitlines()
 
 
 def stop(process, how=signal.SIGTERM, seconds=10):
@@ -267,7 +300,7 @@ class Server:
 
     def __init__(self, lab, kind, family):
         self.lab, self.kind, self.family = lab, kind, family
-        self.lease, self.t1 = kind.lease[family]
+        self.lease, self.t1 = kind.leases[family]
         self.process, self.address = None, None
 
     def up(self, pool="plain", elsewhere=False):
@@ -278,7 +311,7 @@ class Server:
             if self.kind.name != "networkd":  # which sets it itself
                 self.lab.inside("server", f"ip addr add {address}/{LENGTHS[self.family]} dev srv0")
         self.address = address
-        words = self.kind.start(self.lab, self.family, pool, address, "srv0")
+        words = self.kind.words(self.lab, self.family, pool, address, "srv0")
         self.process = self.lab.begin("server", words, "server.log", box=True)
         time.sleep(2)
 
@@ -304,16 +337,17 @@ class Client:
 
     def start(self):
         number = next(self.numbers)
-        self.transcript, answers, self.log_name = (f"{part}-{number}" for part in ("transcript", "answers", "carrier"))
+        transcript, answers = f"transcript-{number}", f"answers-{number}"
+        self.parts.append((transcript, answers))
+        self.log_name = f"carrier-{number}"
         program = self.lab.write(f"program-{number}", f"""#!/bin/bash
 set -o pipefail
 {PROGRAM} "$@" | tee {self.lab.path(answers)}
 """)
         os.chmod(program, 0o755)
-        self.process = self.lab.begin("client", [
-            CARRIER, "--foreground", f"-{self.family}", "--program", program, "--lease", self.lease, "--transcript",
-            self.lab.path(self.transcript), *self.words, self.device], self.log_name)
-        self.parts.append((self.transcript, answers))
+        words = [CARRIER, "--foreground", f"-{self.family}", "--program", program, *self.words]
+        words += ["--lease", self.lease, "--transcript", self.lab.path(transcript), self.device]
+        self.process = self.lab.begin("client", words, self.log_name)
 
     def lines(self, pattern):
         with open(self.lab.path(self.log_name), errors="replace") as file:
@@ -365,19 +399,19 @@ set -o pipefail
         return (moments[events[0] - 1] - moments[0]) / 1000
 
     def addresses(self):
-        shown = subprocess.run(["ip", "-n", self.lab.spaces["client"], "-o", f"-{self.family}", "addr", "show", "dev",
-                                self.device, "scope", "global"], capture_output=True, text=True, check=False).stdout
-        return [line.split()[3] for line in shown.splitlines()]
+        words = ["ip", "-n", self.lab.spaces["client"], "-o", f"-{self.family}", "addr", "show"]
+        lines = output_of(*words, "dev", self.device, "scope", "global")
+        return [line.split()[3] for line in lines]
 
     def sent(self):
-        """How many messages went out since the start, and how many did not since the link was down."""
+        """How many messages went out since the start, and how many the link did not take."""
         with open(self.lab.path(self.parts[-1][1]), errors="replace") as file:
             kinds = [line.split()[1] for line in file if re.match(r"\d+ (handed|refused)", line)]
         return kinds.count("handed"), kinds.count("refused")
 
 
-# What is tried. Each function is given the laboratory, a server that is down, the client's words and
-# rows; it adds to these what each phase came to: (phase, verdict, what was seen).
+# What is tried. Each function gets the laboratory, a server that is down, the client's words and
+# rows, to which it adds what each phase came to: (phase, verdict, what was seen).
 
 SEARCHES = ("init_reboot", "solicit")
 
@@ -386,8 +420,10 @@ def obtained(client, rows, phase="obtain", seconds=40):
     """The first lease, which must be on the interface."""
     address = client.wait_for_lease(1, seconds)
     bound = client.wait(lambda: address in client.addresses(), 10) is not None
-    verdict = "works" if address and bound else "fails"
-    rows.append((phase, verdict, f"{address} after {client.took():.1f} s" if address else f"no lease in {seconds} s"))
+    if not address:
+        rows.append((phase, "fails", f"no lease in {seconds} s"))
+        return None
+    rows.append((phase, "works" if bound else "fails", f"{address} after {client.took():.1f} s"))
     return address
 
 
@@ -396,9 +432,14 @@ def kept(client, server, rows, phase, number, way):
     before = client.leases()[-1]
     address = client.wait_for_lease(number, server.lease + 30)
     went = client.way(number)
-    verdict = "fails" if not address else "works" if went == way and address == before else "otherwise"
-    rows.append((phase, verdict, f"{address}, by {', '.join(went)}"))
+    works = went == way and address == before
+    rows.append((phase, verdict_of(address, works), f"{address}, by {', '.join(went)}"))
     return address
+
+
+def verdict_of(address, works):
+    """What a phase that ends with a lease came to."""
+    return "fails" if not address else "works" if works else "otherwise"
 
 
 def renewing(server):
@@ -417,34 +458,39 @@ def try_life(lab, server, words, rows):
     add_second_interface(lab)
     other = Client(lab, server.family, words, "cli1")
     second = obtained(other, [], seconds=30)
-    rows.append(("two clients", "works" if second not in (None, first) else "fails", f"{first} and {second}"))
+    verdict = "works" if second not in (None, first) else "fails"
+    rows.append(("two clients", verdict, f"{first} and {second}"))
     kept(client, server, rows, "renew beside the other", len(client.leases()) + 1, renewing(server))
     begun = len(server.log())
     status = stop(client.process)
     time.sleep(1)
-    said = [line.strip() for line in server.log()[begun:].splitlines() if re.search("(?i)releas", line)]
-    verdict = "works" if status == 0 and not client.addresses() else "fails"
-    noticed = "the server logs: " + said[0][-90:] if said else "the server logs nothing"
-    rows.append(("release", verdict, f"exit status {status}, addresses left: {len(client.addresses())}; {noticed}"))
+    said = [line for line in server.log()[begun:].splitlines() if re.search("(?i)releas", line)]
+    left = len(client.addresses())
+    noticed = "the server logs it" if said else "the server logs nothing"
+    verdict = "works" if status == 0 and not left else "fails"
+    rows.append(("release", verdict, f"exit status {status}, addresses left: {left}; {noticed}"))
 
 
 def add_second_interface(lab):
-    for words in ("link add cli1 link cli0 type macvlan mode bridge", "link set cli1 address 02:00:00:00:02:02",
-                  "link set cli1 up"):
-        lab.inside("client", "ip " + words)
+    lab.inside("client", "ip link add cli1 link cli0 type macvlan mode bridge")
+    lab.inside("client", "ip link set cli1 address 02:00:00:00:02:02")
+    lab.inside("client", "ip link set cli1 up")
     time.sleep(1)
 
 
 def try_free(lab, server, words, rows):
-    """A pool of one address: does a release free it for another client?"""
+    """A pool of one address: does a release free it for another client, before the lease's end?"""
     server.up("one")
     client = Client(lab, server.family, words)
     first = obtained(client, [])
     add_second_interface(lab)
     stop(client.process)
-    second = obtained(Client(lab, server.family, words, "cli1"), [], seconds=40)
-    rows.append(("release, a pool of one address", "works" if first and second == first else "fails",
-                 f"another client has {second} then"))
+    other = Client(lab, server.family, words, "cli1")
+    second = obtained(other, [], seconds=40)
+    took = other.took() if second else 0
+    freed = first and second == first and took < server.lease / 2
+    seen = f"another client has {second} after {took:.1f} s" if second else "none for another"
+    rows.append(("release, a pool of one address", "works" if freed else "fails", seen))
 
 
 def try_rebind(lab, server, words, rows):
@@ -456,7 +502,7 @@ def try_rebind(lab, server, words, rows):
     server.up(elsewhere=True)
     second = client.wait_for_lease(2, server.lease + 60)
     way = ["renewing", "rebinding"] if server.family == 4 else ["renew", "rebind"]
-    verdict = "fails" if not second else "works" if client.way(2) == way and second == first else "otherwise"
+    verdict = verdict_of(second, client.way(2) == way and second == first)
     rows.append(("rebind at another server", verdict, f"{second}, by {', '.join(client.way(2))}"))
 
 
@@ -468,15 +514,21 @@ def try_refusal(lab, server, words, rows):
     server.down(forget=True)
     server.up("other")
     begun = time.time()
-    new = lambda: [address for address in client.leases() if address != first]
-    client.wait(new, server.lease + 90)
-    number = client.leases().index(new()[0]) + 1 if new() else 99
+    new = []
+    while not new and time.time() < begun + server.lease + 90:
+        client.wait(lambda: False, 0.2)
+        new = [address for address in client.leases() if address != first]
+    phase, took = "server that has forgotten", time.time() - begun
+    if not new:
+        again = len(client.leases()) - 1
+        verdict = verdict_of(again, False)
+        rows.append((phase, verdict, f"the server grants {first} again, {again} times"))
+        return
     gone = client.wait(lambda: first not in client.addresses(), 10) is not None
-    verdict = "otherwise" if not new() and client.leases()[1:] else "works" if new() and gone else "fails"
-    rows.append(("server that has forgotten, with another pool", verdict,
-                 f"{new()[0]} after {time.time() - begun:.0f} s, by {', '.join(client.way(number))}, "
-                 f"{'a Nack' if client.has_nack() else 'no Nack'}, the old address is off: {gone}" if new() else
-                 f"the server renews {first}: {len(client.leases()) - 1} times"))
+    way = ", ".join(client.way(client.leases().index(new[0]) + 1))
+    nack = "a Nack came" if client.has_nack() else "no Nack came"
+    seen = f"{new[0]} after {took:.0f} s, by {way}; {nack}; the old address is off: {gone}"
+    rows.append((phase, "works" if gone else "fails", seen))
 
 
 def try_restart(lab, server, words, rows):
@@ -484,41 +536,44 @@ def try_restart(lab, server, words, rows):
     server.up()
     client = Client(lab, server.family, words)
     first = obtained(client, [])
-    for phase, pool in (("restart with the held lease", "plain"), ("restart, the held lease refused", "other")):
+    for pool in ("plain", "other"):
         stop(client.process, signal.SIGKILL)
         if pool == "other":
             server.down(forget=True)
             server.up(pool)
         client.start()
         address = client.wait_for_lease(1, 100)
-        same, way = address == first, client.way(1)
+        way = client.way(1)
         if pool == "plain":
-            verdict = "works" if same and not way else "fails"
+            phase, works = "restart with the held lease", address == first and not way
         else:
-            gone = client.wait(lambda: address in client.addresses() and first not in client.addresses(), 10)
-            verdict = "fails" if not address else "otherwise" if same else "works" if gone is not None else "fails"
-        rows.append((phase, verdict, f"{address} after {client.took():.1f} s, by {', '.join(way) or 'no other state'}"
-                     if address else "no lease"))
+            phase, works = "restart, the held lease refused", address != first
+            gone = client.wait(lambda: client.addresses() == [address], 10)
+            works = works and gone is not None
+        took = f" after {client.took():.1f} s" if address else ""
+        seen = f"{address}{took}, by {', '.join(way) or 'no other state'}"
+        rows.append((phase, verdict_of(address, works), seen))
 
 
 def try_end(lab, server, words, rows):
-    """No server any more: the address is taken off when the lease ends, and had anew when one is there."""
+    """No server any more: the address goes when the lease ends; then a server is there again."""
     server.up()
     client = Client(lab, server.family, words)
     obtained(client, [])
     begun = time.time()
     server.down()
-    client.wait(lambda: [state for state in client.states() if state in SEARCHES], server.lease + 60)
+    client.wait(lambda: set(client.states()) & set(SEARCHES), server.lease + 60)
     lasted = time.time() - begun
     gone = client.wait(lambda: not client.addresses(), 10) is not None
-    right = gone and abs(lasted - server.lease) < 5
-    rows.append(("end of the lease", "works" if right else "fails",
-                 f"the address is off {lasted:.0f} s after a lease of {server.lease} s: {gone}"))
+    works = gone and abs(lasted - server.lease) < 5
+    seen = f"after {lasted:.0f} s of {server.lease} the address is off: {gone}"
+    rows.append(("end of the lease", "works" if works else "fails", seen))
     count = len(client.leases())
     server.up()
     begun = time.time()
     again = client.wait_for_lease(count + 1, 90)
-    rows.append(("server back", "works" if again else "fails", f"{again} after {time.time() - begun:.0f} s"))
+    seen = f"{again} after {time.time() - begun:.0f} s"
+    rows.append(("server back", "works" if again else "fails", seen))
 
 
 def try_link(lab, server, words, rows):
@@ -532,8 +587,8 @@ def try_link(lab, server, words, rows):
         lab.inside("server", "ip link set srv0 up")
         begun = time.time()
         address = client.wait_for_lease(1, 90)
-        rows.append(("link down at the start", "works" if address else "fails",
-                     f"{address} {time.time() - begun:.0f} s after the link came up, {refused} messages not sent"))
+        seen = f"{address} {time.time() - begun:.0f} s after the link is up, {refused} not sent"
+        rows.append(("link down at the start", "works" if address else "fails", seen))
     else:
         client = Client(lab, 6, words)
         client.wait_for_lease(1, 40)
@@ -546,14 +601,15 @@ def try_link(lab, server, words, rows):
         lab.inside("server", f"ip addr replace {server.address}/64 dev srv0")
     address = client.wait_for_lease(count + 1, server.lease + 60)
     lost = any(state in SEARCHES for state in client.way(count + 1))
-    rows.append(("link down over T1", "fails" if not address else "otherwise" if lost else "works",
-                 f"{address}, by {', '.join(client.way(count + 1))}, {refused} messages not sent"))
+    seen = f"{address}, by {', '.join(client.way(count + 1))}, {refused} not sent"
+    rows.append(("link down over T1", verdict_of(address, not lost), seen))
 
 
 def try_loss(lab, server, words, rows):
     """A program between server and client loses 30 % of the messages, each way."""
     server.up()
-    lab.begin("middle", [sys.executable, os.path.abspath(__file__), "--lossy", "up0", "down0", "0.3", lab.name], "lossy.log")
+    words_of_loss = [sys.executable, os.path.abspath(__file__), "--lossy", "up0", "down0", "0.3"]
+    lab.begin("middle", [*words_of_loss, lab.name], "lossy.log")
     time.sleep(1)
     client = Client(lab, server.family, words)
     address = obtained(client, rows, "obtain, 30 % lost", 300)
@@ -562,26 +618,28 @@ def try_loss(lab, server, words, rows):
     seconds = 4 * server.lease if server.lease < 60 else 150
     client.wait(lambda: False, seconds)
     ends = sum(state in SEARCHES for state in client.states())
-    rows.append((f"hold for {seconds} s, 30 % lost", "otherwise" if ends else "works",
-                 f"{len(client.leases())} leases, {ends} of them ended, {client.sent()[0]} messages"))
+    seen = f"{len(client.leases())} leases, {ends} ended; {client.sent()[0]} messages"
+    rows.append((f"hold for {seconds} s, 30 % lost", verdict_of(address, not ends), seen))
 
 
 def try_two_servers(lab, server, words, rows):
     """A second server, on a bridge between, serves another network."""
-    for rest in ("link add name br0 type bridge", "link set up0 master br0", "link set down0 master br0",
-                 "link set br0 up", f"addr add {SECOND}/24 dev br0"):
-        lab.inside("middle", "ip " + rest)
+    lab.inside("middle", "ip link add name br0 type bridge")
+    for rest in ("up0 master br0", "down0 master br0", "br0 up"):
+        lab.inside("middle", "ip link set " + rest)
+    lab.inside("middle", f"ip addr add {SECOND}/24 dev br0")
     server.up()
-    kind = next(kind for kind in installed() if kind.name in ("dnsmasq", "isc") and kind.name != server.kind.name)
-    lab.begin("middle", kind.start(lab, 4, "second", SECOND, "br0"), "second.log")
+    others = [kind for kind in installed() if kind.name in ("dnsmasq", "isc")]
+    kind = next(kind for kind in others if kind != server.kind)
+    lab.begin("middle", kind.words(lab, 4, "second", SECOND, "br0"), "second.log")
     time.sleep(2)
     client = Client(lab, 4, words)
     address = obtained(client, rows, "two servers with other networks", 90)
     seconds = 60
     client.wait(lambda: False, seconds)
     ends = sum(state in SEARCHES for state in client.states()[1:])
-    rows.append((f"hold for {seconds} s beside the other", "fails" if not address else "otherwise" if ends else "works",
-                 f"beside {kind.name}: {len(client.leases())} leases, {ends} ended; states {', '.join(client.states())[:150]}"))
+    seen = f"beside {kind.name}: {len(client.leases())} leases, {ends} ended"
+    rows.append((f"hold for {seconds} s beside the other", verdict_of(address, not ends), seen))
 
 
 def try_prefix(lab, server, words, rows):
@@ -598,8 +656,8 @@ def try_prefix(lab, server, words, rows):
 def tries():
     """All that is tried: (name, kind, family, forms, function)."""
     for kind in installed():
-        for family in kind.families:
-            for forms in ("rfc2131", "mozim") if family == 4 else (None,):
+        for family in kind.leases:
+            for forms in ("rfc2131", "mozim") if family == 4 else ("",):
                 functions = [try_life, try_free, try_rebind, try_refusal, try_restart]
                 if forms != "mozim":
                     functions += [try_end, try_link, try_loss]
@@ -608,8 +666,8 @@ def tries():
                 elif kind.name != "dnsmasq":
                     functions += [try_prefix]
                 for function in functions:
-                    what = function.__name__[4:]
-                    yield f"{family}-{kind.name}-{forms or 'dhcpv6'}-{what}", kind, family, forms, function
+                    parts = (str(family), kind.name, forms or "dhcpv6", function.__name__[4:])
+                    yield "-".join(parts), kind, family, forms, function
 
 
 def installed():
@@ -619,7 +677,7 @@ def installed():
 # The transcripts
 
 def as_script(text):
-    """A transcript as a script: its random words on one line, and `end` if the carrier was killed."""
+    """A transcript as a script: its random words on one line; `end` if the carrier was killed."""
     lines = text.splitlines()
     words = "".join(line.split()[1] for line in lines if line.startswith("words "))
     whole, seen = [], False
@@ -638,8 +696,10 @@ def replays(lab, transcript, answers):
         script = as_script(file.read())
     with open(lab.path(answers)) as file:
         said = [line for line in file.read().splitlines() if not line.startswith("next ")]
-    played = subprocess.run([PROGRAM, "run"], input=script, capture_output=True, text=True, check=False)
-    return played.returncode == 0 and played.stdout.splitlines() == said + ["ok"] * (said[-1:] != ["ok"])
+    said += ["ok"] * (said[-1:] != ["ok"])
+    words = [PROGRAM, "run"]
+    played = subprocess.run(words, input=script, capture_output=True, text=True, check=False)
+    return played.returncode == 0 and played.stdout.splitlines() == said
 
 
 def play(number, item, folder):
@@ -654,10 +714,11 @@ def play(number, item, folder):
             rows.append((function.__name__[4:], "broke", repr(error)))
     parts = sorted(os.path.basename(path) for path in glob.glob(lab.path("transcript-*")))
     good = sum(replays(lab, part, part.replace("transcript", "answers")) for part in parts)
-    print(f"{name}: {time.time() - begun:.0f} s, {good} of {len(parts)} transcripts replayed",
-          *(f"\n    {phase}: {verdict}: {seen}" for phase, verdict, seen in rows), file=sys.stderr, flush=True)
-    return [(family, kind.name, forms or "", phase, verdict, seen, f"{good} of {len(parts)}")
-            for phase, verdict, seen in rows]
+    replayed = f"{good} of {len(parts)}"
+    lines = [f"{name}: {time.time() - begun:.0f} s, {replayed} transcripts replayed"]
+    lines += [f"    {phase}: {verdict}: {seen}" for phase, verdict, seen in rows]
+    print("\n".join(lines), file=sys.stderr, flush=True)
+    return [(family, kind.name, forms, *row, replayed) for row in rows]
 
 
 def lossy(names, share, seed):
@@ -667,7 +728,8 @@ def lossy(names, share, seed):
         end = socket.socket(socket.AF_PACKET, socket.SOCK_RAW, socket.htons(3))
         end.bind((name, 0))
         # SOL_PACKET, PACKET_ADD_MEMBERSHIP: promiscuous
-        end.setsockopt(263, 1, socket.if_nametoindex(name).to_bytes(4, "little") + b"\1" + bytes(11))
+        index = socket.if_nametoindex(name).to_bytes(4, "little")
+        end.setsockopt(263, 1, index + b"\1" + bytes(11))
         ends.append(end)
     while True:
         for end in select.select(ends, [], [])[0]:
@@ -676,6 +738,14 @@ def lossy(names, share, seed):
                 frame[12:14] == b"\x86\xdd" and frame[20:21] == b"\x11"
             if address[2] != socket.PACKET_OUTGOING and not (is_udp and dice.random() < share):
                 ends[1 - ends.index(end)].send(frame)
+
+
+def write_table(rows, file):
+    for kind in installed():
+        print(f"- {kind.name}: {(output_of(*kind.version) or ['?'])[0]}", file=file)
+    heads = ("IPv", "server", "forms", "phase", "verdict", "seen", "transcripts replayed")
+    for row in (("",), heads, ["---"] * len(heads), *rows):
+        print("| " + " | ".join(map(str, row)) + " |" if len(row) > 1 else "", file=file)
 
 
 def main():
@@ -694,17 +764,13 @@ def main():
     folder = os.path.abspath(chosen.work or tempfile.mkdtemp())
     os.makedirs(folder, exist_ok=True)
     os.chmod(folder, 0o755)
-    items = [item for item in tries() if not chosen.only or any(word in item[0] for word in chosen.only)]
+    only = chosen.only or [""]
+    items = [item for item in tries() if any(word in item[0] for word in only)]
     with concurrent.futures.ThreadPoolExecutor(chosen.jobs) as pool:
-        rows = list(itertools.chain.from_iterable(
-            pool.map(lambda item: play(*item, folder), enumerate(items))))
+        played = pool.map(lambda item: play(*item, folder), enumerate(items))
+        rows = list(itertools.chain.from_iterable(played))
     with open(chosen.table, "w") if chosen.table else sys.stdout as file:
-        for kind in installed():
-            shown = subprocess.run(kind.version, capture_output=True, text=True, check=False)
-            print(f"- {kind.name}: {(shown.stdout + shown.stderr).splitlines()[0]}", file=file)
-        print("\n| IPv | server | forms | phase | verdict | seen | transcripts replayed |\n|---|---|---|---|---|---|---|", file=file)
-        for row in rows:
-            print("| " + " | ".join(str(cell).replace("|", "/") for cell in row) + " |", file=file)
+        write_table(rows, file)
     sys.exit(any(row[4] in ("fails", "broke") for row in rows))
 
 

@@ -1,8 +1,9 @@
 #!/bin/bash
 # smoke.sh PROGRAM [CARRIER]: a lease of dnsmasq and two renewals in about fifteen seconds, without
 # any privilege: everything happens in a user namespace of its own. PROGRAM is dhcp_main; without
-# CARRIER it is built. Then `PROGRAM run` replays the transcript, and must write what the carrier was
-# answered. It needs unshare (util-linux), ip, dnsmasq, and a kernel that lets users make namespaces.
+# CARRIER it is built. Then `PROGRAM run` replays the transcript, and must write what the carrier
+# was answered. It needs unshare (util-linux), ip, dnsmasq, and a kernel that lets users make
+# namespaces.
 set -euo pipefail
 PATH=$PATH:/usr/sbin:/sbin
 
@@ -25,7 +26,8 @@ mount -t sysfs sysfs /sys
 # The client's namespace is this one; the server's is that of a process that sleeps.
 unshare -n sleep 60 &
 server=$!
-until [ "$(readlink "/proc/$server/ns/net")" != "$(readlink /proc/self/ns/net)" ]; do sleep 0.1; done
+own=$(readlink /proc/self/ns/net)
+until [ "$(readlink "/proc/$server/ns/net")" != "$own" ]; do sleep 0.1; done
 ip link set lo up
 ip link add cli0 type veth peer name srv0 netns "$server"
 in_server() { nsenter --net="/proc/$server/ns/net" "$@"; }

@@ -111,7 +111,7 @@ impl Carrier {
         }
     }
 
-    // Keeps a lease and sets the interface as it says, or, without one, takes off what the last gave.
+    // Keeps a lease and sets the interface as it says; without one, takes off what the last gave.
     fn hold(&mut self, lease: Option<Lease>) {
         let (before, after) = (self.store.lease.as_ref(), lease.as_ref());
         if before.map(|(_, lease)| &lease.address) != after.map(|lease| &lease.address) {

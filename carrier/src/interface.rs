@@ -47,6 +47,8 @@ impl Interface {
 }
 
 fn attribute(interface: &str, name: &str) -> Result<String> {
-    let text = read_to_string(format!("/sys/class/net/{interface}/{name}"));
-    text.map(|text| text.trim().into()).map_err(|_| Error::other(format!("{interface} has no {name}")))
+    match read_to_string(format!("/sys/class/net/{interface}/{name}")) {
+        Ok(text) => Ok(text.trim().into()),
+        Err(_) => Err(Error::other(format!("{interface} has no {name}"))),
+    }
 }

@@ -47,7 +47,10 @@ fn value(name: &str, text: &str) -> Option<String> {
         "hostname" | "domain" => {
             String::from_utf8(unhex(text)?).ok().filter(|name| name.chars().all(is_plain))?
         }
-        "ipv6" | "serveraddress" => Ipv6Addr::from(u128::from_str_radix(text, 16).ok()?).to_string(),
+        "ipv6" | "serveraddress" => {
+            let bits = u128::from_str_radix(text, 16).ok()?;
+            Ipv6Addr::from(bits).to_string()
+        }
         "staticroutes" => {
             let routes = text.split(',').filter_map(|route| route.rsplit_once('/'));
             routes.map(|(to, by)| format!("{to} {by} ")).collect()

@@ -77,8 +77,8 @@ impl Sockets {
         (length <= MAX_PACKET).then(|| format!("{kind} {}", hex(&room[..length])))
     }
 
-    /// Waits until one of the other files can be read, so many milliseconds are over, or a packet is
-    /// there, if one is listened for. Returns whether the first of the other files can be read.
+    /// Waits until one of the other files can be read, so many milliseconds are over, or a packet
+    /// is there, if one is listened for. Returns whether the first of those files can be read.
     pub fn wait(&self, others: [RawFd; 2], milliseconds: Option<u64>, is_listening: bool) -> bool {
         let sockets = [self.frames.as_ref().map(File::as_raw_fd), Some(self.payloads.as_raw_fd())];
         let sockets = sockets.into_iter().flatten().filter(|_| is_listening);
