@@ -17,7 +17,9 @@ if [ "$1" != --inside ]; then
     else
         rustc --edition 2021 -O -o "$work/carrier" "$tools/../carrier/src/main.rs"
     fi
-    unshare -Urnm --fork --kill-child "$tools/smoke.sh" --inside "$program" "$work"
+    # all that is started there ends with it
+    unshare -Urnmp --mount-proc --fork --kill-child \
+        "$tools/smoke.sh" --inside "$program" "$work"
     exit
 fi
 
@@ -39,8 +41,6 @@ in_server dnsmasq --keep-in-foreground --conf-file=/dev/null --port=0 --interfac
     --dhcp-leasefile="$work/leases" --log-facility="$work/dnsmasq" --pid-file= \
     --dhcp-range=192.0.2.50,192.0.2.99,255.255.255.0,2m \
     --dhcp-option=option:T1,4s --dhcp-option=option:T2,60s &
-dnsmasq=$!
-trap 'kill $dnsmasq $server' EXIT
 sleep 1
 
 # What the program answers is kept too.
