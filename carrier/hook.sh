@@ -1,0 +1,50 @@
+# The hook of the carrier where --hook names none: sets an interface by `ip` as a lease says. It
+# gets `bound`, `renew` or `deconfig`, and the lease in variables named as for udhcpc's scripts.
+
+address=${ip:-$ipv6}
+family=$([ -n "$ip" ] && echo -4 || echo -6)
+
+# The address with its lifetimes, which the kernel counts down.
+set_address() {
+    lasts=$lease preferred=${preferred:-$lease}
+    [ "$lasts" = 4294967295 ] && lasts=forever
+    [ "$preferred" = 4294967295 ] && preferred=forever
+    ip "$family" addr replace "$address/$mask" dev "$interface" \
+        valid_lft "$lasts" preferred_lft "$preferred"
+}
+
+# The routes of option 121 take the place of the routers (RFC 3442).
+set_routes() {
+    set -- ${staticroutes:-${router:+0.0.0.0/0 ${router%% *}}}
+    while [ $# -ge 2 ]; do
+        via="via $2"
+        [ "$2" = 0.0.0.0 ] && via=
+        ip -4 route replace "$1" $via dev "$interface" proto dhcp metric "$metric"
+        shift 2
+    done
+}
+
+set_name_servers() {
+    [ -n "$RESOLV_CONF" ] || return 0
+    {
+        [ -z "$domain" ] || echo "search $domain"
+        for server in $dns; do echo "nameserver $server"; done
+    } >"$RESOLV_CONF"
+}
+
+# A prefix is for other interfaces.
+[ "$association" = pd ] && exit 0
+metric=$((200 + $(cat "/sys/class/net/$interface/ifindex")))
+case $1 in
+    bound | renew)
+        set_address || exit 1
+        [ "${mtu:-0}" -lt 576 ] || ip link set "$interface" mtu "$mtu"
+        set_routes
+        [ -z "$dns" ] || set_name_servers
+        ;;
+    deconfig)
+        ip -4 route flush dev "$interface" proto dhcp
+        ip "$family" addr del "$address/$mask" dev "$interface" 2>/dev/null
+        ;;
+esac
+exit 0

@@ -1,0 +1,118 @@
+//! The sockets of a client of either family.
+
+use crate::dialogue::{ALL_SERVERS, MAX_PACKET, hex};
+use std::fs::File;
+use std::io::{Error, ErrorKind, Read, Result, Write};
+use std::net::{Ipv6Addr, SocketAddr, SocketAddrV6, UdpSocket};
+use std::os::fd::{AsRawFd, FromRawFd, OwnedFd, RawFd};
+
+const AF_INET: u16 = 2;
+const AF_PACKET: u16 = 17;
+const SOCK_DGRAM: i32 = 2;
+const SOCK_RAW: i32 = 3;
+const SOCK_FLAGS: i32 = 0o4000 | 0o2000000; // SOCK_NONBLOCK, SOCK_CLOEXEC
+const SOL_SOCKET: i32 = 1;
+const SO_REUSEADDR: i32 = 2;
+const SO_BINDTODEVICE: i32 = 25;
+const SO_ATTACH_FILTER: i32 = 26;
+const ETH_P_IP: u16 = 0x800;
+const POLLIN: i16 = 1;
+
+unsafe extern "C" {
+    fn socket(family: i32, kind: i32, protocol: i32) -> i32;
+    fn setsockopt(socket: i32, level: i32, name: i32, value: *const u8, length: u32) -> i32;
+    fn bind(socket: i32, address: *const u8, length: u32) -> i32;
+    fn poll(files: *mut PollFile, count: u64, timeout: i32) -> i32;
+}
+
+#[repr(C)]
+struct PollFile(RawFd, i16, i16);
+
+/// The open sockets: for frames, in IPv4, and for payloads.
+pub struct Sockets {
+    frames: Option<File>,
+    payloads: UdpSocket,
+}
+
+impl Sockets {
+    /// The sockets of an IPv4 client: for the IPv4 frames of an interface to UDP port 68, and for
+    /// the payloads to it, whatever the address, since servers send a Nack to all.
+    pub fn open4(name: &str, index: u32) -> Result<Self> {
+        let filter = [PORT_68.len() as u64, PORT_68.as_ptr() as u64].map(u64::to_ne_bytes).concat();
+        let address = [&ETH_P_IP.to_be_bytes()[..], &index.to_ne_bytes(), &[0; 12]];
+        let frames = open(AF_PACKET, SOCK_RAW, &[(SO_ATTACH_FILTER, &filter)], &address)?;
+        let options = [(SO_REUSEADDR, &1i32.to_ne_bytes()[..]), (SO_BINDTODEVICE, name.as_bytes())];
+        let address = [&68u16.to_be_bytes()[..], &[0; 12]];
+        let payloads = UdpSocket::from(open(AF_INET, SOCK_DGRAM, &options, &address)?);
+        payloads.set_broadcast(true)?;
+        Ok(Sockets { frames: Some(frames.into()), payloads })
+    }
+
+    /// The link-local address of an interface, from which it would send to all servers, and the
+    /// socket of an IPv6 client: for the payloads to UDP port 546 of that address.
+    pub fn open6(index: u32) -> Result<(Ipv6Addr, Self)> {
+        let probe = UdpSocket::bind("[::]:0")?;
+        probe.connect(SocketAddrV6::new(ALL_SERVERS, 547, 0, index))?;
+        let SocketAddr::V6(from) = probe.local_addr()? else { return Err(ErrorKind::Other.into()) };
+        let payloads = UdpSocket::bind(SocketAddrV6::new(*from.ip(), 546, 0, index))?;
+        payloads.set_nonblocking(true)?;
+        Ok((*from.ip(), Sockets { frames: None, payloads }))
+    }
+
+    /// Sends a payload to an address, or, without one, a frame.
+    pub fn send(&mut self, to: Option<SocketAddr>, bytes: &[u8]) -> Result<usize> {
+        match (to, &mut self.frames) {
+            (Some(to), _) => self.payloads.send_to(bytes, to),
+            (None, Some(frames)) => frames.write(bytes),
+            (None, None) => Err(ErrorKind::Unsupported.into()),
+        }
+    }
+
+    /// The next packet that waits, as an event has it; none if it is longer than it may be there.
+    pub fn receive(&mut self) -> Option<String> {
+        let mut room = [0; 65535];
+        let frame = self.frames.as_mut().and_then(|frames| frames.read(&mut room).ok());
+        let length = frame.or_else(|| self.payloads.recv(&mut room).ok())?;
+        let kind = if frame.is_some() { "frame" } else { "payload" };
+        (length <= MAX_PACKET).then(|| format!("{kind} {}", hex(&room[..length])))
+    }
+
+    /// Waits until one of the other files can be read, so many milliseconds are over, or a packet
+    /// is there, if one is listened for. Returns whether the first of those files can be read.
+    pub fn wait(&self, others: [RawFd; 2], milliseconds: Option<u64>, is_listening: bool) -> bool {
+        let sockets = [self.frames.as_ref().map(File::as_raw_fd), Some(self.payloads.as_raw_fd())];
+        let sockets = sockets.into_iter().flatten().filter(|_| is_listening);
+        let files = others.into_iter().chain(sockets);
+        let mut files: Vec<_> = files.map(|file| PollFile(file, POLLIN, 0)).collect();
+        let limit = milliseconds.map_or(-1, |left| left.min(i32::MAX as u64) as i32);
+        unsafe { poll(files.as_mut_ptr(), files.len() as u64, limit) > 0 && files[0].2 != 0 }
+    }
+}
+
+// A socket with these options, bound to an address of the family with these parts.
+fn open(family: u16, kind: i32, options: &[(i32, &[u8])], parts: &[&[u8]]) -> Result<OwnedFd> {
+    let check = |answer| if answer < 0 { Err(Error::last_os_error()) } else { Ok(answer) };
+    let file = check(unsafe { socket(family.into(), kind | SOCK_FLAGS, 0) })?;
+    let owned = unsafe { OwnedFd::from_raw_fd(file) };
+    for (name, value) in options {
+        let length = value.len() as u32;
+        check(unsafe { setsockopt(file, SOL_SOCKET, *name, value.as_ptr(), length) })?;
+    }
+    let address = [&family.to_ne_bytes()[..], &parts.concat()].concat();
+    check(unsafe { bind(file, address.as_ptr(), address.len() as u32) }).map(|_| owned)
+}
+
+// An instruction of a packet filter of the kernel (BPF).
+#[repr(C)]
+struct Instruction(u16, u8, u8, u32);
+
+// Takes, of IPv4 frames, those to UDP port 68, so that nothing else wakes us.
+static PORT_68: [Instruction; 7] = [
+    Instruction(0x30, 0, 0, 23),    // the protocol
+    Instruction(0x15, 0, 4, 17),    // is it UDP?
+    Instruction(0xb1, 0, 0, 14),    // the length of the IPv4 header
+    Instruction(0x48, 0, 0, 16),    // the port that it goes to
+    Instruction(0x15, 0, 1, 68),    // is it 68?
+    Instruction(0x06, 0, 0, 65535), // take it
+    Instruction(0x06, 0, 0, 0),     // drop it
+];
