@@ -9,3 +9,5 @@ pub mod ToolLemmas
 pub mod TranscriptLaw
 pub mod TranscriptLemmas
 pub mod TurnLemmas
+pub mod WordsLemmas
+mod WorkedTranscript

@@ -1,9 +1,9 @@
 -- The script of what was heard of a session.
-use Rattle.std.proofs.Common.{◌≡◌, ◌≤◌, ℕ, true, List, [], ◌∷◌, ◌++◌, Some, refl, sym, ap, subst, ◌∙◌, append_assoc, codes, length}
+use Rattle.std.proofs.Common.{◌≡◌, ◌≤◌, ℕ, true, List, [], ◌∷◌, ◌++◌, Some, refl, sym, ap, ◌∙◌, append_assoc, codes, length}
 use Rattle.std.specs.Prelude.{◌&&◌, nat_le, nat_lt}
 use Rattle.std.specs.List.{flat_map, list_all}
 use Rattle.std.proofs.lemmas.Bool.{and_from, and_parts, le-leb}
-use Rattle.std.proofs.lemmas.List.{append_cancel_right, length-map}
+use Rattle.std.proofs.lemmas.List.{append_cancel_right}
 use Rattle.dhcp_clock.specs.declared.link.Handed.{Handed}
 use Rattle.dhcp_clock.specs.declared.link.Packet.{Packet}
 use Rattle.dhcp_history.specs.EventLoop.{events_at}
@@ -15,13 +15,12 @@ use Rattle.dhcp_history.proofs.Looping.{loop_history}
 use Rattle.dhcp_stream.specs.Line.{line}
 use Rattle.dhcp_script.specs.Event.{are_in_order, are_valid, is_within_limits, moment_limit, most_events}
 use Rattle.dhcp_script.specs.Life.{event_line, events_text}
+use Rattle.dhcp_script.specs.declared.event.Event.{Event}
 use Rattle.dhcp_live.specs.Tool.{end_line}
-use Rattle.dhcp_live.specs.Transcript.{Told, events_in, heard_in, turns_of}
 
--- what is heard are the lines of the events, and the last line
-pub heard-turns_of : (told : List Told) → heard_in (turns_of told) ≡ events_text (events_in told)
-heard-turns_of [] = refl
-heard-turns_of (one ∷ told) = ap (λ (text : List ℕ). event_line one.event ++ text) (heard-turns_of told) ∙ sym (append_assoc (event_line one.event) (flat_map event_line (events_in told)) (line (codes "end")))
+-- the line of one more event
+pub events_text-cons : (event : Event) (text : List ℕ) (events : List Event) → text ≡ events_text events → event_line event ++ text ≡ events_text (event ∷ events)
+events_text-cons event text events is = ap (λ (more : List ℕ). event_line event ++ more) is ∙ sym (append_assoc (event_line event) (flat_map event_line events) (line (codes "end")))
 
 -- a text whose events are none, and the same with events
 pub longer_text : (front middle head lines : List ℕ) → front ++ (middle ++ end_line) ≡ head ++ end_line → front ++ (middle ++ lines) ≡ head ++ lines
@@ -29,15 +28,15 @@ longer_text front middle head lines is =
     let cut : front ++ middle ≡ head = append_cancel_right (front ++ middle) head end_line (append_assoc front middle end_line ∙ is) in
     sym (append_assoc front middle lines) ∙ ap (λ (text : List ℕ). text ++ lines) cut
 
--- the events that were told are valid, if there are not too many
-pub are_valid_told : (start : ℕ) (told : List Told) → are_valid start [] ≡ true → length told ≤ most_events → list_all is_within_limits (events_in told) ≡ true → are_in_order start (events_in told) ≡ true → are_valid start (events_in told) ≡ true
+-- events are valid, if there are not too many
+pub are_valid_told : (start : ℕ) (events : List Event) → are_valid start [] ≡ true → length events ≤ most_events → list_all is_within_limits events ≡ true → are_in_order start events ≡ true → are_valid start events ≡ true
 unfolding are_valid
-are_valid_told start told begins few within in_order =
+are_valid_told start events begins few within in_order =
     let first = and_parts (nat_lt start moment_limit) (nat_le 0 most_events) (and_parts (nat_lt start moment_limit && nat_le 0 most_events) true (and_parts (nat_lt start moment_limit && nat_le 0 most_events && true) true begins).0).0 in
-    let count : nat_le (length (events_in told)) most_events ≡ true = le-leb (length (events_in told)) most_events (subst (λ (n : ℕ). n ≤ most_events) (sym (length-map told (λ (one : Told). one.event))) few) in
-    and_from (nat_lt start moment_limit && nat_le (length (events_in told)) most_events && list_all is_within_limits (events_in told)) (are_in_order start (events_in told))
-    (and_from (nat_lt start moment_limit && nat_le (length (events_in told)) most_events) (list_all is_within_limits (events_in told))
-    (and_from (nat_lt start moment_limit) (nat_le (length (events_in told)) most_events) first.0 count)
+    let count : nat_le (length events) most_events ≡ true = le-leb (length events) most_events few in
+    and_from (nat_lt start moment_limit && nat_le (length events) most_events && list_all is_within_limits events) (are_in_order start events)
+    (and_from (nat_lt start moment_limit && nat_le (length events) most_events) (list_all is_within_limits events)
+    (and_from (nat_lt start moment_limit) (nat_le (length events) most_events) first.0 count)
     within) in_order
 
 -- what a client reports over the events of a life is what the history of that life reports
