@@ -345,7 +345,7 @@ set -o pipefail
 {PROGRAM} "$@" | tee {self.lab.path(answers)}
 """)
         os.chmod(program, 0o755)
-        words = [CARRIER, "--foreground", f"-{self.family}", "--program", program, *self.words]
+        words = [CARRIER, f"-{self.family}", "--program", program, *self.words]
         words += ["--lease", self.lease, "--transcript", self.lab.path(transcript), self.device]
         self.process = self.lab.begin("client", words, self.log_name)
 
@@ -677,8 +677,9 @@ def installed():
 # The transcripts
 
 def as_script(text):
-    """A transcript as a script: its random words on one line; `end` if the carrier was killed."""
-    lines = text.splitlines()
+    """A transcript as a script: its random words on one line, without what the program says that it
+    dropped, and with `end` if the carrier was killed."""
+    lines = [line for line in text.splitlines() if not line.startswith("dropped ")]
     words = "".join(line.split()[1] for line in lines if line.startswith("words "))
     whole, seen = [], False
     for line in lines:
@@ -695,7 +696,8 @@ def replays(lab, transcript, answers):
     with open(lab.path(transcript)) as file:
         script = as_script(file.read())
     with open(lab.path(answers)) as file:
-        said = [line for line in file.read().splitlines() if not line.startswith("next ")]
+        lines = file.read().splitlines()
+    said = [line for line in lines if not line.startswith(("next ", "dropped "))]
     said += ["ok"] * (said[-1:] != ["ok"])
     words = [PROGRAM, "run"]
     played = subprocess.run(words, input=script, capture_output=True, text=True, check=False)

@@ -3,16 +3,16 @@
 //! `dhcp_main live`, writes a line, reads the answer to it, and keeps a transcript.
 
 use std::fs::File;
-use std::io::{BufRead, BufReader, Error, Result, Write};
-use std::net::{Ipv4Addr, Ipv6Addr, SocketAddr};
-use std::os::fd::{AsRawFd, RawFd};
-use std::os::unix::process::CommandExt;
-use std::process::{Child, ChildStdin, ChildStdout, Command, Stdio};
+use std::io::{BufRead, BufReader, Error, Read, Result, Write};
+use std::net::{IpAddr, Ipv6Addr, SocketAddr};
+use std::os::fd::{AsRawFd, OwnedFd, RawFd};
+use std::os::unix::{net::UnixStream, process::CommandExt};
+use std::process::{Child, Command};
 use std::thread::sleep;
-use std::time::Duration;
+use std::time::{Duration, Instant};
 
-/// The longest packet that an event may carry, in bytes.
-pub const MAX_PACKET: usize = 1500;
+/// How long the program may take to read a line, and to answer it.
+pub const LIMIT: Duration = Duration::from_secs(5);
 
 /// Where the messages of an IPv6 client go.
 pub const ALL_SERVERS: Ipv6Addr = Ipv6Addr::new(0xff02, 0, 0, 0, 0, 0, 1, 2);
@@ -35,34 +35,34 @@ pub struct Program {
     pub is_listening: bool,
     /// How many random words are left.
     pub words_left: usize,
+    /// The beginnings of the last lines that went either way.
+    pub last_lines: [String; 8],
     child: Child,
-    input: ChildStdin,
-    output: BufReader<ChildStdout>,
+    stream: BufReader<UnixStream>,
     transcript: Option<File>,
-    last_lines: [String; 8],
 }
 
 impl Program {
     /// Starts the program, in a process group of its own so that no terminal ends it, and gives it
-    /// the lines of a script up to and with that of `start`.
+    /// the lines of a script up to and with that of `start`. If it takes none, `event` says so.
     pub fn start(path: &str, head: &str, transcript: Option<&str>) -> Result<Self> {
+        let (stream, theirs) = UnixStream::pair()?;
+        stream.set_read_timeout(Some(LIMIT))?;
+        stream.set_write_timeout(Some(LIMIT))?;
+        let theirs = OwnedFd::from(theirs);
         let mut command = Command::new(path);
-        command.arg("live").stdin(Stdio::piped()).stdout(Stdio::piped()).process_group(0);
+        command.arg("live").stdin(theirs.try_clone()?).stdout(theirs).process_group(0);
         let failed = |error| Error::other(format!("{path} does not start: {error}"));
-        let mut child = command.spawn().map_err(failed)?;
-        let pipes = child.stdin.take().zip(child.stdout.take());
-        let (input, output) = pipes.ok_or_else(|| Error::other("the program has no pipes"))?;
         let mut program = Program {
             next: None,
             is_listening: false,
             words_left: 0,
-            child,
-            input,
-            output: BufReader::new(output),
-            transcript: transcript.map(File::create).transpose()?,
             last_lines: Default::default(),
+            child: command.spawn().map_err(failed)?,
+            stream: BufReader::new(stream),
+            transcript: transcript.map(File::create).transpose()?,
         };
-        head.lines().try_for_each(|line| program.write(line))?;
+        let _ = head.lines().try_for_each(|line| program.write(line));
         Ok(program)
     }
 
@@ -70,8 +70,8 @@ impl Program {
     /// it sends. What happens is `none`, `frame <hex>`, `payload <hex>`, `release` or `cleanup`.
     pub fn event(&mut self, moment: u64, takes: bool, what: &str) -> Result<Vec<Report>> {
         self.write(&format!("at {moment} {} {what}", if takes { "ok" } else { "refuse" }))?;
-        let mut reports = Vec::new();
-        loop {
+        let (begun, mut reports) = (Instant::now(), Vec::new());
+        while begun.elapsed() < LIMIT {
             let line = self.read()?;
             let wrong = || Error::other(format!("no line of an answer: {line}"));
             match line.split(' ').collect::<Vec<_>>().as_slice() {
@@ -84,6 +84,7 @@ impl Program {
                 words => reports.push(report(words).ok_or_else(wrong)?),
             }
         }
+        Err(self.ending())
     }
 
     /// Adds random words, of four bytes each, behind those that are left.
@@ -91,65 +92,67 @@ impl Program {
         self.write(&format!("words {}", hex(words)))
     }
 
-    /// Ends the dialogue, and waits for the program.
+    /// Ends the dialogue, and waits for the program, whose end closes the stream.
     pub fn end(&mut self) -> Result<()> {
         self.write("end")?;
-        let last = self.read()?;
-        if last == "ok" && self.child.wait()?.success() { Ok(()) } else { Err(self.death()) }
+        let is_good = self.read()? == "ok" && self.stream.by_ref().lines().next().is_none();
+        if is_good { Ok(()) } else { Err(self.ending()) }
     }
 
     /// The file of the answers. When none is due, it can be read only if the program has ended.
     pub fn output(&self) -> RawFd {
-        self.output.get_ref().as_raw_fd()
-    }
-
-    /// The beginnings of the last lines that went either way.
-    pub fn last_lines(&self) -> String {
-        self.last_lines.join("\n")
+        self.stream.get_ref().as_raw_fd()
     }
 
     fn write(&mut self, line: &str) -> Result<()> {
-        self.remember(line);
-        self.transcript.as_mut().map_or(Ok(()), |file| writeln!(file, "{line}"))?;
-        self.input.write_all(format!("{line}\n").as_bytes()).map_err(|_| self.death())
+        self.keep(line, true)?;
+        let stream = self.stream.get_mut();
+        stream.write_all(format!("{line}\n").as_bytes()).map_err(|_| self.ending())
     }
 
     fn read(&mut self) -> Result<String> {
-        let mut line = String::new();
-        if !self.output.read_line(&mut line).is_ok_and(|length| length > 0) {
-            return Err(self.death());
-        }
-        self.remember(line.trim_end());
-        Ok(line.trim_end().into())
+        let Some(Ok(line)) = self.stream.by_ref().lines().next() else {
+            return Err(self.ending());
+        };
+        self.keep(&line, line.starts_with("dropped "))?;
+        Ok(line)
     }
 
-    fn remember(&mut self, line: &str) {
+    // Keeps the beginning of a line, and all of it if the transcript is to have it.
+    fn keep(&mut self, line: &str, is_whole: bool) -> Result<()> {
         self.last_lines.rotate_left(1);
-        self.last_lines[7] = line.get(..160).unwrap_or(line).into();
+        self.last_lines[7] = line.chars().take(160).collect();
+        let transcript = self.transcript.as_mut().filter(|_| is_whole);
+        transcript.map_or(Ok(()), |file| writeln!(file, "{line}"))
     }
 
-    // How the program ended, once a pipe is closed; if it goes on after that, it is ended here.
-    fn death(&mut self) -> Error {
+    // How the program ended, or that it is too slow.
+    fn ending(&mut self) -> Error {
         sleep(Duration::from_millis(200));
-        match self.child.kill().and_then(|()| self.child.wait()) {
-            Ok(status) => Error::other(format!("the program ended with {status}")),
-            Err(error) => error,
+        match self.child.try_wait() {
+            Ok(Some(status)) => Error::other(format!("the program ended with {status}")),
+            _ => Error::other(format!("the program does not answer within {LIMIT:?}")),
         }
+    }
+}
+
+impl Drop for Program {
+    fn drop(&mut self) {
+        let _ = self.child.kill().and_then(|()| self.child.wait());
     }
 }
 
 // What a line of the outputs says.
 fn report(words: &[&str]) -> Option<Report> {
     let send = |to, bytes| Some(Report::Send(to, unhex(bytes)?));
+    let address = |to: IpAddr, port| Some(SocketAddr::new(to, port));
     match words {
         [_, "handed", "frame", bytes] => send(None, bytes),
-        [_, "handed", "udp4", _, to, bytes] => {
-            send(Some((to.parse::<Ipv4Addr>().ok()?, 67).into()), bytes)
-        }
-        [_, "handed", "udp6", bytes] => send(Some((ALL_SERVERS, 547).into()), bytes),
+        [_, "handed", "udp4", _, to, bytes] => send(address(to.parse().ok()?, 67), bytes),
+        [_, "handed", "udp6", bytes] => send(address(ALL_SERVERS.into(), 547), bytes),
         [_, "state", state, lease @ ..] => Some(Report::State(state.to_string(), lease.join(" "))),
         [_, "refused", ..] => Some(Report::Note("the link is down: no message sent".into())),
-        [_, "failed", why] => Some(Report::Note(format!("failed: {why}"))),
+        [_, "failed", _] | ["dropped", _, _, ..] => Some(Report::Note(words.join(" "))),
         _ => None,
     }
 }
