@@ -118,7 +118,7 @@ try never_stops 1 8 'does not answer within 5s; the last lines were'
 try ends 1 3 'the program ended with exit status: 3; the last lines were'
 try says_nonsense 1 4 'no line of an answer: 2 dances; the last lines were'
 try says_what_it_dropped 0 5 'cli0: dropped 7 wrong_id'
-grep -qx 'dropped 7 wrong_id' "$work/transcript" || { echo "not in the transcript"; failed=1; }
+grep -q '^dropped' "$work/transcript" && { echo "in the transcript, which is a script"; failed=1; }
 
 # A packet of 65,535 bytes, with headers of 42: both sockets have it, each as an event.
 (sleep 0.3 && nsenter --net="/proc/$other/ns/net" bash -c \

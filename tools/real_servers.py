@@ -677,9 +677,9 @@ def installed():
 # The transcripts
 
 def as_script(text):
-    """A transcript as a script: its random words on one line, without what the program says that it
-    dropped, and with `end` if the carrier was killed."""
-    lines = [line for line in text.splitlines() if not line.startswith("dropped ")]
+    """A transcript as a script: its random words on one line, and with `end` if the carrier was
+    killed."""
+    lines = text.splitlines()
     words = "".join(line.split()[1] for line in lines if line.startswith("words "))
     whole, seen = [], False
     for line in lines:

@@ -61,7 +61,7 @@ wait "$carrier" || status=$?
 cat "$work/log"
 
 leases=$(grep -c 'done 192\.0\.2\.' "$work/log")
-grep -v '^dropped ' "$work/transcript" | "$program" run >"$work/replayed"
+"$program" run <"$work/transcript" >"$work/replayed"
 grep -v -e '^next ' -e '^dropped ' "$work/answers" | cmp - "$work/replayed" && same=yes || same=no
 echo "leases $leases, on the interface: $(grep -c 'inet 192\.0\.2\.' "$work/address")," \
     "exit status $status, transcript of $(wc -l <"$work/transcript") lines, replayed alike: $same"

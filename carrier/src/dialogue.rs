@@ -114,7 +114,7 @@ impl Program {
         let Some(Ok(line)) = self.stream.by_ref().lines().next() else {
             return Err(self.ending());
         };
-        self.keep(&line, line.starts_with("dropped "))?;
+        self.keep(&line, false)?;
         Ok(line)
     }
 
