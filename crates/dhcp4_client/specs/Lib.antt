@@ -5,5 +5,6 @@ pub mod Message
 pub mod Release
 pub mod Rules
 pub mod State
+pub mod Verdict
 pub mod Granted
 pub mod Held

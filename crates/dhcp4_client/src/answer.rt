@@ -64,8 +64,8 @@ impl Refuser {
         }
     }
 
-    // Whether a message is a Nack of one who may refuse.
-    fn sends(self, message: &DhcpV4View) -> bool
+    /// Whether a message is a Nack of one who may refuse.
+    pub fn sends(self, message: &DhcpV4View) -> bool
         ensures { result ≡ answers.is_refusal self message.now }
     {
         match self {
@@ -160,8 +160,8 @@ pub fn read_answer<W: Words>(
     answer_of(alloc, awaited, &view, words)
 }
 
-// The payload of a packet that is carried so, to the port of a client.
-fn payload_in(carrier: PacketKind, packet: &Packet) -> Option<&[u8]>
+/// The payload of a packet that is carried so, to the port of a client.
+pub fn payload_in(carrier: PacketKind, packet: &Packet) -> Option<&[u8]>
     ensures { Finds (λ bytes. bytes.now) result (answers.payload_in carrier packet.now) }
 {
     let bytes = packet.bytes.as_slice();
@@ -201,9 +201,9 @@ fn is_from(server: Ipv4Addr, message: &DhcpV4View) -> bool
     identifier.octets() == server.octets()
 }
 
-// Whether a message is of this type.
+/// Whether a message is of this type.
 #[tactic(auto, unfolding(dhcp4_msg::specs::MessageType::type_number))]
-fn is_of_type(kind: DhcpV4MessageType, message: &DhcpV4View) -> bool
+pub fn is_of_type(kind: DhcpV4MessageType, message: &DhcpV4View) -> bool
     ensures { result ≡ answers.is_of_type kind message.now }
 {
     message.message_type() == Some(kind)
@@ -229,8 +229,8 @@ fn answer_of<W: Words>(
     Ok(lease.map(Answer::Granted))
 }
 
-// The lease that a message grants, if it grants one.
-fn lease_of<W: Words>(
+/// The lease that a message grants, if it grants one. Out of memory is the only error.
+pub fn lease_of<W: Words>(
     alloc: Global,
     message: &DhcpV4View,
     words: &mut W,

@@ -2,6 +2,7 @@
 
 mod release;
 mod replay;
+mod verdict;
 
 ghost use Rattle.std.specs.Prelude.{◌≡◌, ◌<◌, ◌^◌, true, None, IfErr, IfOk, IfSome, OnErr, OnOk, is_ok};
 ghost use Rattle.dhcp_wire.specs.Outcome.{Finds};

@@ -9,8 +9,10 @@ pub mod laws;
 mod message;
 mod rules;
 mod state;
+mod verdict;
 
 pub use client::DhcpV4Client;
+pub use dhcp_verdict::PacketVerdict;
 pub use dhcp4_lease::{
     DhcpV4Config, DhcpV4Lease, DhcpV4MessageForms, built_messages_read_back, discovery_is_short,
     new_discovery, new_rebind, new_reboot_request, new_release, new_renew, new_request,

@@ -5,3 +5,4 @@ mod Lawful
 mod Limits
 mod TakenWords
 mod Traffic
+pub mod Verdicts

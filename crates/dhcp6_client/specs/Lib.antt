@@ -7,3 +7,4 @@ pub mod Message
 pub mod Release
 pub mod Rules
 pub mod State
+pub mod Verdict

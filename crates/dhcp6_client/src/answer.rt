@@ -54,8 +54,8 @@ pub fn read_answer(
     lease_of(alloc, &view)
 }
 
-// The payload of a packet; a frame has none here.
-fn payload_in(packet: &Packet) -> Option<&[u8]>
+/// The payload of a packet; a frame has none here.
+pub fn payload_in(packet: &Packet) -> Option<&[u8]>
     ensures { Finds (λ bytes. bytes.now) result (answers.payload_in packet.now) }
 {
     match packet.kind {

@@ -11,8 +11,10 @@ pub mod laws;
 mod message;
 mod rules;
 mod state;
+mod verdict;
 
 pub use client::DhcpV6Client;
+pub use dhcp_verdict::PacketVerdict;
 pub use dhcp6_msg::{
     DhcpV6Config, DhcpV6IaType, DhcpV6Lease, DhcpV6Mode, new_rebind_msg, new_release_msg,
     new_renew_msg, new_request_msg, new_solicit_msg,

@@ -1,0 +1,2 @@
+pub mod OpenAttempt
+pub mod PacketVerdict
