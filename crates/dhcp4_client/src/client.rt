@@ -79,7 +79,7 @@ impl DhcpV4Client {
         ensures given { IfOk result (λ client.
             W.gives client.client.standing.exchange.xid words.old words.new) }
         ensures refused { IfErr result (λ error. error.kind ≡ ErrorKind.InvalidArgument) }
-        ensures undrawn { OnErr result (W.left words.new ≡ W.left words.old) }
+        ensures undrawn { OnErr result (words.new ≡ words.old) }
     {
         check_start(&config, &lease)?;
         let exchange = Exchange {

@@ -102,7 +102,7 @@ impl DhcpV6Client {
             (λ error. error.kind ≡ ErrorKind.InvalidArgument) }
         ensures errors { can_begin config lease ≡ true → IfErr result
             (λ error. error ≡ no_memory) }
-        ensures undrawn { can_begin config lease ≡ false → W.left words.new ≡ W.left words.old }
+        ensures undrawn { can_begin config lease ≡ false → words.new ≡ words.old }
     {
         let mut config = config;
         let xid = first_id(alloc, &mut config, &lease, words);
@@ -256,8 +256,7 @@ fn first_id<W: Words>(
         (λ error. error.kind ≡ ErrorKind.InvalidArgument) }
     ensures errors { clients.can_begin config.old lease.now ≡ true → IfErr result
         (λ error. error ≡ no_memory) }
-    ensures undrawn { clients.can_begin config.old lease.now ≡ false →
-        W.left words.new ≡ W.left words.old }
+    ensures undrawn { clients.can_begin config.old lease.now ≡ false → words.new ≡ words.old }
 {
     check_start(config, lease)?;
     config.init_duid(alloc, words)?;

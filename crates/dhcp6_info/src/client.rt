@@ -75,7 +75,7 @@ impl DhcpV6InfoClient {
             (λ error. error.kind ≡ ErrorKind.InvalidArgument) }
         ensures errors { can_begin config ≡ true → IfErr result
             (λ error. error ≡ no_memory) }
-        ensures undrawn { can_begin config ≡ false → W.left words.new ≡ W.left words.old }
+        ensures undrawn { can_begin config ≡ false → words.new ≡ words.old }
     {
         if !can_begin(&config) {
             return Err(DhcpError::new_fixed(ErrorKind::InvalidArgument, FixedText::Config));

@@ -31,7 +31,7 @@ pub fn lease_of_ack<W: Words>(
         ReadsLease (W.left words.old) (Ok lease) (W.left words.new) message))) }
     ensures other { result ≡ Ok None → IsSomeAnd (read_message payload.now) (λ message.
         message_type message.options ≡ Some DhcpV4MessageType.Ack → ⊥) }
-    ensures undrawn { result ≡ Ok None → W.left words.new ≡ W.left words.old }
+    ensures undrawn { result ≡ Ok None → words.new ≡ words.old }
     ensures in_order { IfOk result (λ found. IfSome found (λ lease.
         IsTrue (are_times_in_order lease))) }
     ensures error { IfErr result (λ e.
