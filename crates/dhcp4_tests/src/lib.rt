@@ -17,3 +17,5 @@ mod option;
 mod route;
 #[cfg(test)]
 mod state;
+#[cfg(test)]
+mod verdict;

@@ -15,3 +15,5 @@ mod message_table;
 mod reply;
 #[cfg(test)]
 mod state;
+#[cfg(test)]
+mod verdict;
