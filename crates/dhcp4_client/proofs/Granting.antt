@@ -2,12 +2,12 @@
 use Rattle.std.proofs.Common.{◌≡◌, ℕ, ◌+◌, ◌-◌, ◌*◌, ◌/◌, ◌%◌, ◌≤◌, List, [], ◌∷◌, Bool, true, false, refl, ap, sym, ◌∙◌, arith}
 use Rattle.std.specs.Prelude.{Option, Some, None, is_some, option_map, nat_le, nat_lt, ◌&&◌, if◌then◌else◌}
 use Rattle.std.proofs.lemmas.Bool.{and_from, and_parts, le-leb, leb-true, ltb-false, ltb-true}
-use Rattle.dhcp_clock.specs.Words.{Drawn, next_of}
+use Rattle.dhcp_clock.specs.Words.{next_of}
 use Rattle.dhcp4_msg.specs.declared.message.DhcpV4Message.{DhcpV4Message}
 use Rattle.dhcp4_msg.specs.Options.{OptionMap, said_by}
 use Rattle.dhcp4_msg.specs.Value.{seconds_said}
 use Rattle.dhcp4_lease.specs.declared.lease.times.LeaseTimes.{LeaseTimes}
-use Rattle.dhcp4_lease.specs.Lease.{Lease, are_in_order, drawn_about, lease_of, ordered_times, read_lease, read_times, said_or_drawn, times_of}
+use Rattle.dhcp4_lease.specs.Lease.{are_in_order, drawn_about, lease_of, ordered_times, read_lease, read_times, said_or_drawn, times_of}
 use Rattle.dhcp4_client.specs.Verdict.{always_grants, grants_with}
 
 -- 1. How far a word moves a time.
