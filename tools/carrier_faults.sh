@@ -29,7 +29,7 @@ unshare -n sleep 120 &
 other=$!
 own=$(readlink /proc/self/ns/net)
 until [ "$(readlink "/proc/$other/ns/net")" != "$own" ]; do sleep 0.1; done
-ip link add cli0 mtu 65521 type veth peer name srv0 mtu 65521 netns "$other"
+ip link add cli0 mtu 1486 type veth peer name srv0 mtu 1486 netns "$other"
 nsenter --net="/proc/$other/ns/net" ip addr add 192.0.2.1/24 dev srv0
 nsenter --net="/proc/$other/ns/net" ip link set srv0 up
 ip link set cli0 up
@@ -120,11 +120,11 @@ try says_nonsense 1 4 'no line of an answer: 2 dances; the last lines were'
 try says_what_it_dropped 0 5 'cli0: dropped 7 wrong_id'
 grep -q '^dropped' "$work/transcript" && { echo "in the transcript, which is a script"; failed=1; }
 
-# A packet of 65,535 bytes, with headers of 42: both sockets have it, each as an event.
+# A packet of 1,500 bytes, with headers of 42: both sockets have it, each as an event.
 (sleep 0.3 && nsenter --net="/proc/$other/ns/net" bash -c \
-    'dd if=/dev/zero bs=65493 count=1 status=none >/dev/udp/192.0.2.50/68') &
+    'dd if=/dev/zero bs=1458 count=1 status=none >/dev/udp/192.0.2.50/68') &
 try hears 0 8 'cli0: done'
-for length in "frame 65535" "payload 65493"; do
+for length in "frame 1500" "payload 1458"; do
     heard=$(sed -n "s/^at [0-9]* ok ${length% *} //p" "$work/hears.heard" | wc -c)
     [ $((heard / 2)) = "${length#* }" ] || { echo "not heard: $length"; failed=1; }
 done

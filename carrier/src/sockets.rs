@@ -55,11 +55,11 @@ impl Sockets {
         }
     }
 
-    /// The next packet that waits, as an event has it. No more of it is read than there is room.
+    /// The next packet that waits, as an event has it. A longer one than an event may have is lost.
     pub fn receive(&mut self) -> Option<String> {
         let sockets = [("frame", self.frames.as_ref()), ("payload", Some(&self.payloads))];
         sockets.into_iter().find_map(|(kind, socket)| {
-            let length = socket?.recv(&mut self.room).ok()?;
+            let length = socket?.recv(&mut self.room).ok().filter(|length| *length <= 1500)?;
             Some(format!("{kind} {}", hex(&self.room[..length])))
         })
     }
