@@ -2,6 +2,7 @@
 use Rattle.std.proofs.Common.{◌≡◌, ℕ, Bool, true, false, List, [], ◌∷◌, Option, Some, refl, sym, ap, subst, ◌∙◌}
 use Rattle.dhcp_clock.specs.declared.link.Handed.{Handed}
 use Rattle.dhcp_clock.specs.declared.link.Packet.{Packet}
+use Rattle.dhcp_history.specs.Calls.{ClientParts}
 use Rattle.dhcp_history.specs.Protocol.{Protocol}
 use Rattle.dhcp_output.specs.Output.{PlainOutput, PlainReport}
 use Rattle.dhcp_script.specs.LiveLine.{IsLiveLine, live_line_text}
@@ -13,6 +14,8 @@ use Rattle.dhcp_tool.specs.declared.status.Status.{Status}
 use Rattle.dhcp_tool.specs.declared.status.Status.TheVariants.{Done, NoScript, WriteFault, NoMemory, Invalid}
 use Rattle.dhcp_dialogue.specs.Dialogue.{Turn, Says}
 use Rattle.dhcp_live.specs.Answer.{answer_text}
+use Rattle.dhcp_live.specs.Dropped.{PlainVerdict, dropped_of}
+use Rattle.dhcp_live.specs.declared.dropped.Dropped.{Dropped}
 use Rattle.dhcp_live.specs.Live.{LiveParts, PlaysNext, Tells, can_take, is_listening_in, next_of, with_words}
 use Rattle.dhcp_live.specs.Session.{AnswersLine, IsAnswer, adds_words, answers, ends, ends_unsaid, is_cut_off, is_no_line, ok_line, refuses, runs_out}
 use Rattle.dhcp_live.specs.declared.session.Next.TheVariants.{Line, End}
@@ -21,51 +24,56 @@ use Rattle.dhcp_live.specs.declared.session.Next.TheVariants.{Line, End}
 pub said_so : (found : Option LiveLine) (said : LiveLine) (text : List ℕ) → found ≡ Some said → IsReading live_line_text IsLiveLine found text → (live_line_text said ≡ text) × IsLiveLine said
 said_so found said text is reading = subst (λ (f : Option LiveLine). IsReading live_line_text IsLiveLine f text) is reading
 
-module _ {Config PublicState State Exchange Answer Lease : Type 0} (protocol : Config → Protocol PublicState Packet Handed State Exchange Answer Lease) (changed : PublicState → PlainReport) where
+module _ {Client Config PublicState State Exchange Answer Lease : Type 0} (protocol : Config → Protocol PublicState Packet Handed State Exchange Answer Lease) (changed : PublicState → PlainReport)
+    (parts : Client → ClientParts Config State Exchange) (verdict : Client → ℕ → Packet → PlainVerdict) where
   -- a text that answers an event
-  pub is_answer : (event : Event) (before after : LiveParts Config State Exchange) (text : List ℕ) (outs : List PlainOutput) (next : Option ℕ) (listening : Bool) (left : ℕ) →
-      PlaysNext protocol changed event outs before after → Tells protocol changed next listening left after → text ≡ answer_text outs next listening left → IsAnswer protocol changed event before after text
-  is_answer event before after text outs next listening left plays tells is = record {
+  pub is_answer : (event : Event) (before after : LiveParts Config State Exchange) (text : List ℕ) (outs : List PlainOutput) (client : Client) (dropped : Option Dropped) (next : Option ℕ) (listening : Bool) (left : ℕ) →
+      PlaysNext protocol changed event outs before after → Tells protocol changed next listening left after → parts client ≡ after.parts → dropped ≡ dropped_of verdict client after.number event outs →
+      text ≡ answer_text outs dropped next listening left → IsAnswer protocol changed parts verdict event before after text
+  is_answer event before after text outs client dropped next listening left plays tells client_is said is = record {
     outputs = outs;
     plays = plays;
-    text_is = is ∙ ap (λ (n : Option ℕ). answer_text outs n listening left) tells.next_is
-        ∙ ap (λ (l : Bool). answer_text outs (next_of protocol changed after) l left) tells.listening_is
-        ∙ ap (λ (k : ℕ). answer_text outs (next_of protocol changed after) (is_listening_in protocol changed after) k) tells.left_is;
+    client = client;
+    client_is = client_is;
+    text_is = is ∙ ap (λ (d : Option Dropped). answer_text outs d next listening left) said
+        ∙ ap (λ (n : Option ℕ). answer_text outs (dropped_of verdict client after.number event outs) n listening left) tells.next_is
+        ∙ ap (λ (l : Bool). answer_text outs (dropped_of verdict client after.number event outs) (next_of protocol changed after) l left) tells.listening_is
+        ∙ ap (λ (k : ℕ). answer_text outs (dropped_of verdict client after.number event outs) (next_of protocol changed after) (is_listening_in protocol changed after) k) tells.left_is;
   }
 
   module _ {D : Type 0} (moves : Turn → D → D → Type 0) where
     -- an event
     module _ (before : LiveParts Config State Exchange) (event : Event) (is : IsLiveLine (lines.Event event)) where
-      pub refused : (here : D) → can_take before event ≡ false → AnswersLine protocol changed moves (live_line_text (lines.Event event)) (End Invalid) before before here here
+      pub refused : (here : D) → can_take before event ≡ false → AnswersLine protocol changed parts verdict moves (live_line_text (lines.Event event)) (End Invalid) before before here here
       refused here can = record { turns = []; moved = refl; follows = λ left. refuses left before event is can }
 
-      module _ (can : can_take before event ≡ true) (after : LiveParts Config State Exchange) (text : List ℕ) (answer : IsAnswer protocol changed event before after text) (old new : D) where
-        pub answered : moves (Says text true) old new → AnswersLine protocol changed moves (live_line_text (lines.Event event)) Line before after old new
+      module _ (can : can_take before event ≡ true) (after : LiveParts Config State Exchange) (text : List ℕ) (answer : IsAnswer protocol changed parts verdict event before after text) (old new : D) where
+        pub answered : moves (Says text true) old new → AnswersLine protocol changed parts verdict moves (live_line_text (lines.Event event)) Line before after old new
         answered says = record { turns = Says text true ∷ []; moved = (new, (says, refl)); follows = λ left rest status more. answers left before after event text rest status is can answer more }
 
-        pub cut_off : moves (Says text false) old new → AnswersLine protocol changed moves (live_line_text (lines.Event event)) (End WriteFault) before after old new
+        pub cut_off : moves (Says text false) old new → AnswersLine protocol changed parts verdict moves (live_line_text (lines.Event event)) (End WriteFault) before after old new
         cut_off says = record { turns = Says text false ∷ []; moved = (new, (says, refl)); follows = λ left. is_cut_off left before after event text is can answer }
 
     -- words
-    pub added : (before after : LiveParts Config State Exchange) (words : List ℕ) (here : D) → IsLiveLine (lines.Words words) → after ≡ with_words words before → AnswersLine protocol changed moves (live_line_text (lines.Words words)) Line before after here here
+    pub added : (before after : LiveParts Config State Exchange) (words : List ℕ) (here : D) → IsLiveLine (lines.Words words) → after ≡ with_words words before → AnswersLine protocol changed parts verdict moves (live_line_text (lines.Words words)) Line before after here here
     added before after words here is more =
-        let exact : AnswersLine protocol changed moves (live_line_text (lines.Words words)) Line before (with_words words before) here here =
+        let exact : AnswersLine protocol changed parts verdict moves (live_line_text (lines.Words words)) Line before (with_words words before) here here =
         record { turns = []; moved = refl; follows = λ left rest status on. adds_words left before words rest status is on } in
         rw more exact
 
     -- the last line
-    pub ended : (here : LiveParts Config State Exchange) (old new : D) → moves (Says ok_line true) old new → AnswersLine protocol changed moves (live_line_text lines.End) (End Done) here here old new
+    pub ended : (here : LiveParts Config State Exchange) (old new : D) → moves (Says ok_line true) old new → AnswersLine protocol changed parts verdict moves (live_line_text lines.End) (End Done) here here old new
     ended here old new says = record { turns = Says ok_line true ∷ []; moved = (new, (says, refl)); follows = λ left. ends left here }
 
-    pub unsaid : (here : LiveParts Config State Exchange) (old new : D) → moves (Says ok_line false) old new → AnswersLine protocol changed moves (live_line_text lines.End) (End WriteFault) here here old new
+    pub unsaid : (here : LiveParts Config State Exchange) (old new : D) → moves (Says ok_line false) old new → AnswersLine protocol changed parts verdict moves (live_line_text lines.End) (End WriteFault) here here old new
     unsaid here old new says = record { turns = Says ok_line false ∷ []; moved = (new, (says, refl)); follows = λ left. ends_unsaid left here }
 
     -- no such line
-    pub unread : (text : List ℕ) (before : LiveParts Config State Exchange) (here : D) → ((said : LiveLine) → IsLiveLine said → live_line_text said ≡ text → ⊥) → AnswersLine protocol changed moves text (End NoScript) before before here here
+    pub unread : (text : List ℕ) (before : LiveParts Config State Exchange) (here : D) → ((said : LiveLine) → IsLiveLine said → live_line_text said ≡ text → ⊥) → AnswersLine protocol changed parts verdict moves text (End NoScript) before before here here
     unread text before here none = record { turns = []; moved = refl; follows = λ left. is_no_line left before text none }
 
     -- out of memory
-    pub no_memory_left : (text : List ℕ) (before after : LiveParts Config State Exchange) (here : D) (status : Status) → status ≡ NoMemory → AnswersLine protocol changed moves text (End status) before after here here
+    pub no_memory_left : (text : List ℕ) (before after : LiveParts Config State Exchange) (here : D) (status : Status) → status ≡ NoMemory → AnswersLine protocol changed parts verdict moves text (End status) before after here here
     no_memory_left text before after here status is =
-        let exact : AnswersLine protocol changed moves text (End NoMemory) before after here here = record { turns = []; moved = refl; follows = λ left. runs_out left before text } in
-        subst (λ (s : Status). AnswersLine protocol changed moves text (End s) before after here here) (sym is) exact
+        let exact : AnswersLine protocol changed parts verdict moves text (End NoMemory) before after here here = record { turns = []; moved = refl; follows = λ left. runs_out left before text } in
+        subst (λ (s : Status). AnswersLine protocol changed parts verdict moves text (End s) before after here here) (sym is) exact

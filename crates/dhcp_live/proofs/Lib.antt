@@ -1,5 +1,6 @@
 pub mod AnswerLemmas
 pub mod BeginLemmas
+pub mod DroppedLemmas
 pub mod HeadLemmas
 pub mod Script4Lemmas
 pub mod Script6Lemmas

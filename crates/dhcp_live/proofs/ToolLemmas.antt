@@ -19,6 +19,7 @@ use Rattle.dhcp_tool.specs.declared.status.Status.{Status}
 use Rattle.dhcp_tool.specs.declared.status.Status.TheVariants.{NoScript, NoMemory, Invalid}
 use Rattle.dhcp_dialogue.specs.Dialogue.{Turn}
 use Rattle.dhcp_live.specs.Begin.{Begins4, Begins6}
+use Rattle.dhcp_live.specs.Dropped.{verdict4, verdict6}
 use Rattle.dhcp_live.specs.Live.{LiveParts}
 use Rattle.dhcp_live.specs.Session.{HoldsSession}
 use Rattle.dhcp_live.specs.Tool.{HearsHead, HoldsSessionOf, IsAfterHead, IsHead, IsRunOf, ReadsHead, RunsAfterHead, RunsLive, RunsScript, has_no_memory, has_script, is_no_head}
@@ -64,10 +65,10 @@ module _ {D : Type 0} (moves : Turn → D → D → Type 0) where
   holds script status old new valid held = record { turns = held.turns; moved = held.moved; is = subst (λ (valid : Bool). IsRunOf valid script held.turns status) (sym valid) held.is }
 
   -- the session of its client
-  pub held4 : (script : Script4) (status : Status) (first : LiveParts config4.Config state4.ClientState exchange4.Exchange) (old new : D) → Begins4 script first → HoldsSession rules4.protocol changed_v4 moves first status old new → HoldsSessionOf moves (V4 script) status old new
+  pub held4 : (script : Script4) (status : Status) (first : LiveParts config4.Config state4.ClientState exchange4.Exchange) (old new : D) → Begins4 script first → HoldsSession rules4.protocol changed_v4 (λ client. client) verdict4 moves first status old new → HoldsSessionOf moves (V4 script) status old new
   held4 script status first old new begins held = record { turns = held.turns; moved = held.moved; is = inl (first, (begins, held.is)) }
 
-  pub held6 : (script : Script6) (status : Status) (first : LiveParts config6.Config state6.ClientState exchange6.Exchange) (old new : D) → Begins6 script first → HoldsSession rules6.protocol changed_v6 moves first status old new → HoldsSessionOf moves (V6 script) status old new
+  pub held6 : (script : Script6) (status : Status) (first : LiveParts config6.Config state6.ClientState exchange6.Exchange) (old new : D) → Begins6 script first → HoldsSession rules6.protocol changed_v6 (λ client. client) verdict6 moves first status old new → HoldsSessionOf moves (V6 script) status old new
   held6 script status first old new begins held = record { turns = held.turns; moved = held.moved; is = inl (first, (begins, held.is)) }
 
   pub no_memory_left : (script : Script) (status : Status) (here : D) → status ≡ NoMemory → HoldsSessionOf moves script status here here

@@ -17,6 +17,7 @@ use Rattle.dhcp_script.specs.declared.script.Script.{Script}
 use Rattle.dhcp_script.specs.declared.script.Script.TheVariants.{V4, V6}
 use Rattle.dhcp_tool.specs.declared.status.Status.TheVariants.{Done}
 use Rattle.dhcp_dialogue.specs.Dialogue.{Turn}
+use Rattle.dhcp_live.specs.Dropped.{verdict4, verdict6}
 use Rattle.dhcp_live.specs.Session.{most_lines}
 use Rattle.dhcp_live.specs.Tool.{IsHead, IsSessionOf}
 use Rattle.dhcp_live.specs.Transcript.{AreEnough, IsTranscript, events_in, outputs_in, words_in}
@@ -30,7 +31,7 @@ module _ (lawful4 : (config : config4.Config) → Lawful (rules4.protocol config
     (events4 : (config : config4.Config) → EventsTakeAtMost (rules4.protocol config) most_words) (events6 : (config : config6.Config) → EventsTakeAtMost (rules6.protocol config) most_words) where
   pub transcript : (head : List ℕ) (script : Script) (turns : List Turn) → IsHead head script → IsSessionOf script turns Done → IsTranscript head script turns
   transcript head (V4 script) turns is session =
-      let said : IsTold rules4.protocol changed_v4 session.0 turns = is_told rules4.protocol changed_v4 events4 most_lines session.0 turns Done session.1.1 refl in
+      let said : IsTold rules4.protocol changed_v4 session.0 turns = is_told rules4.protocol changed_v4 (λ client. client) verdict4 events4 most_lines session.0 turns Done session.1.1 refl in
       let more : List ℕ = words_in said.entries in
       let events : List Event = events_in said.entries in
       record {
@@ -47,7 +48,7 @@ module _ (lawful4 : (config : config4.Config) → Lawful (rules4.protocol config
         same_text = λ wordless. same_text4 script head more events (said.no_more wordless) is.none is.text ∙ ap (λ (text : List ℕ). head ++ text) (sym (said.heard wordless));
       }
   transcript head (V6 script) turns is session =
-      let said : IsTold rules6.protocol changed_v6 session.0 turns = is_told rules6.protocol changed_v6 events6 most_lines session.0 turns Done session.1.1 refl in
+      let said : IsTold rules6.protocol changed_v6 session.0 turns = is_told rules6.protocol changed_v6 (λ client. client) verdict6 events6 most_lines session.0 turns Done session.1.1 refl in
       let more : List ℕ = words_in said.entries in
       let events : List Event = events_in said.entries in
       record {

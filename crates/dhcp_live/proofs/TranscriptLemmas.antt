@@ -7,6 +7,7 @@ use Rattle.std.proofs.lemmas.List.{map-append}
 use Rattle.std.proofs.lemmas.List.Elements.{All-cons, All-nil}
 use Rattle.dhcp_clock.specs.declared.link.Handed.{Handed}
 use Rattle.dhcp_clock.specs.declared.link.Packet.{Packet}
+use Rattle.dhcp_history.specs.Calls.{ClientParts}
 use Rattle.dhcp_history.specs.Client.{view_of}
 use Rattle.dhcp_history.specs.EventLoop.{event_at, events_at}
 use Rattle.dhcp_history.specs.Machine.{EventEffect, View}
@@ -28,6 +29,7 @@ use Rattle.dhcp_dialogue.specs.Dialogue.{Turn, Hears, Says, status_of}
 use Rattle.dhcp_dialogue.specs.declared.dialogue.Unheard.{Unheard}
 use Rattle.dhcp_dialogue.specs.declared.dialogue.Unheard.TheVariants as unheard
 use Rattle.dhcp_live.specs.Answer.{answer_text}
+use Rattle.dhcp_live.specs.Dropped.{PlainVerdict, dropped_of}
 use Rattle.dhcp_live.specs.Live.{LiveParts, can_take, is_listening_in, most_live_events, next_of, with_words}
 use Rattle.dhcp_live.specs.Session.{IsAnswer, IsSession, answers, is_cut_off, refuses, adds_words, ends, ends_unsaid, is_no_line, misses, runs_out, has_no_line}
 use Rattle.dhcp_live.specs.Transcript.{Added, Answered, AreEnough, Entry, HearsNoWords, Told, events_in, heard_in, outputs_in, turns_of, words_in}
@@ -66,14 +68,14 @@ module _ {Config PublicState State Exchange Answer Lease : Type 0} (protocol : C
   no_words_fit : AreWords []
   no_words_fit = All-nil _
 
-  module _ (takes : (config : Config) → EventsTakeAtMost (protocol config) most_words) where
+  module _ {Client : Type 0} (parts : Client → ClientParts Config State Exchange) (verdict : Client → ℕ → Packet → PlainVerdict) (takes : (config : Config) → EventsTakeAtMost (protocol config) most_words) where
     module _ (before after : LiveParts Config State Exchange) (event : Event) (text : List ℕ) (turns : List Turn) (fits : IsEvent event) (can : can_take before event ≡ true)
-        (answer : IsAnswer protocol changed event before after text) (more : IsTold after turns) where
+        (answer : IsAnswer protocol changed parts verdict event before after text) (more : IsTold after turns) where
       abbrev effect : EventEffect PublicState Handed State Exchange
       effect = event_at (protocol before.parts.config) (numbered_event (suc before.number) event) (view_of before.parts.client before.words)
 
       abbrev first : Told
-      first = record { event = event; outputs = answer.outputs; next = next_of protocol changed after; is_listening = is_listening_in protocol changed after; left = length after.words }
+      first = record { event = event; outputs = answer.outputs; dropped = dropped_of verdict answer.client after.number event answer.outputs; next = next_of protocol changed after; is_listening = is_listening_in protocol changed after; left = length after.words }
 
       abbrev words : List ℕ
       words = words_in more.entries
@@ -121,7 +123,7 @@ module _ {Config PublicState State Exchange Answer Lease : Type 0} (protocol : C
       }
         where
           answer_of : Told → List ℕ
-          answer_of told = answer_text told.outputs told.next told.is_listening told.left
+          answer_of told = answer_text told.outputs told.dropped told.next told.is_listening told.left
 
     -- further words
     words_more : (before : LiveParts Config State Exchange) (words : List ℕ) (turns : List Turn) → AreWords words → IsTold (with_words words before) turns → IsTold before (Hears (live_line_text (lines.Words words)) ∷ turns)
@@ -153,7 +155,7 @@ module _ {Config PublicState State Exchange Answer Lease : Type 0} (protocol : C
       heard = λ wordless. refl;
     }
 
-    pub is_told : (left : ℕ) (here : LiveParts Config State Exchange) (turns : List Turn) (status : Status) → IsSession protocol changed left here turns status → status ≡ Done → IsTold here turns
+    pub is_told : (left : ℕ) (here : LiveParts Config State Exchange) (turns : List Turn) (status : Status) → IsSession protocol changed parts verdict left here turns status → status ≡ Done → IsTold here turns
     is_told _ _ _ _ (answers left before after event text turns status is can answer more) done = one_more before after event text turns is can answer (is_told left after turns status more done)
     is_told _ _ _ _ (is_cut_off left before after event text is can answer) done = absurd (cc done)
     is_told _ _ _ _ (refuses left before event is can) done = absurd (cc done)

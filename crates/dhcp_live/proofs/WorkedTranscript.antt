@@ -17,7 +17,7 @@ quiet moment = record { moment = moment; refuse = false; what = Nothing }
 
 -- and nothing is reported, with so many words left
 abbrev told : ℕ → ℕ → Told
-told moment left = record { event = quiet moment; outputs = []; next = None; is_listening = false; left = left }
+told moment left = record { event = quiet moment; outputs = []; dropped = None; next = None; is_listening = false; left = left }
 
 -- two events, and between them three words
 abbrev entries : List Entry

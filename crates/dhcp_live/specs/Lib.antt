@@ -1,5 +1,6 @@
 pub mod Answer
 pub mod Begin
+pub mod Dropped
 pub mod Live
 pub mod Session
 pub mod Tool

@@ -1,9 +1,10 @@
 -- A session: the lines that are heard after the head, what is said to each, and the status at the
 -- end.
-use Rattle.std.specs.Prelude.{◌≡◌, ℕ, zero, suc, true, false, List, [], ◌∷◌, ◌++◌, length, codes}
+use Rattle.std.specs.Prelude.{◌≡◌, ℕ, zero, suc, true, false, List, [], ◌∷◌, ◌++◌, length, Option, codes}
 use Rattle.dhcp_clock.specs.Leads.{Leads}
 use Rattle.dhcp_clock.specs.declared.link.Handed.{Handed}
 use Rattle.dhcp_clock.specs.declared.link.Packet.{Packet}
+use Rattle.dhcp_history.specs.Calls.{ClientParts}
 use Rattle.dhcp_history.specs.Protocol.{Protocol}
 use Rattle.dhcp_output.specs.Output.{PlainOutput, PlainReport}
 use Rattle.dhcp_script.specs.LiveLine.{IsLiveLine, live_line_text}
@@ -15,6 +16,8 @@ use Rattle.dhcp_tool.specs.declared.status.Status.{Status}
 use Rattle.dhcp_tool.specs.declared.status.Status.TheVariants.{Done, NoScript, WriteFault, NoMemory, Invalid}
 use Rattle.dhcp_live.specs.Answer.{answer_text}
 use Rattle.dhcp_dialogue.specs.Dialogue.{Turn, Hears, Misses, Says, status_of}
+use Rattle.dhcp_live.specs.Dropped.{PlainVerdict, dropped_of}
+use Rattle.dhcp_live.specs.declared.dropped.Dropped.{Dropped}
 use Rattle.dhcp_live.specs.Live.{LiveParts, PlaysNext, can_take, is_listening_in, next_of, with_words}
 use Rattle.dhcp_dialogue.specs.declared.dialogue.Unheard.{Unheard}
 use Rattle.dhcp_live.specs.declared.session.Next.{Next}
@@ -28,21 +31,28 @@ most_lines = 18446744073709551615
 abbrev pub ok_line : List ℕ
 ok_line = line (codes "ok")
 
-module _ {Config PublicState State Exchange Answer Lease : Type 0}
+module _ {Client Config PublicState State Exchange Answer Lease : Type 0}
     (protocol : Config → Protocol PublicState Packet Handed State Exchange Answer Lease)
-    (changed : PublicState → PlainReport) where
-  -- what is said to an event with these outputs, after which the client stands so
-  abbrev pub answer_after : List PlainOutput → LiveParts Config State Exchange → List ℕ
-  answer_after outputs after =
-      answer_text outputs (next_of protocol changed after) (is_listening_in protocol changed after)
-      (length after.words)
+    (changed : PublicState → PlainReport)
+    (parts : Client → ClientParts Config State Exchange)
+    (verdict : Client → ℕ → Packet → PlainVerdict) where
+  -- what is said to an event with these outputs, and of its packet, where the client stands so then
+  abbrev pub answer_after : List PlainOutput → Option Dropped → LiveParts Config State Exchange →
+      List ℕ
+  answer_after outputs dropped after =
+      answer_text outputs dropped (next_of protocol changed after)
+      (is_listening_in protocol changed after) (length after.words)
 
   -- a text that answers an event, after which the client stands so
   pub record IsAnswer (event : Event) (before after : LiveParts Config State Exchange)
       (text : List ℕ) : Type 0 where
     pub outputs : List PlainOutput
     pub plays : PlaysNext protocol changed event outputs before after
-    pub text_is : text ≡ answer_after outputs after
+    -- the client itself, by which it is said why the packet was no answer
+    pub client : Client
+    pub client_is : parts client ≡ after.parts
+    pub text_is : text ≡ answer_after outputs
+        (dropped_of verdict client after.number event outputs) after
 
   -- A session of a client that stands so, with at most this number of lines: its turns, and the
   -- status with which it ends.

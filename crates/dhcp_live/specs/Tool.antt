@@ -15,6 +15,7 @@ use Rattle.dhcp_tool.specs.Status.{status_number}
 use Rattle.dhcp_tool.specs.declared.status.Status.{Status}
 use Rattle.dhcp_tool.specs.declared.status.Status.TheVariants.{NoScript, NoMemory, TooLong, Invalid}
 use Rattle.dhcp_live.specs.Begin.{Begins4, Begins6}
+use Rattle.dhcp_live.specs.Dropped.{verdict4, verdict6}
 use Rattle.dhcp_dialogue.specs.Dialogue.{Turn, Hears, Misses, most_line_bytes, status_of}
 use Rattle.dhcp_live.specs.Session.{IsSession, most_lines}
 use Rattle.dhcp_dialogue.specs.declared.dialogue.Unheard.{Unheard}
@@ -37,10 +38,12 @@ pub record IsHead (head : List ℕ) (script : Script) : Type 0 where
 abbrev pub IsSessionOf : Script → List Turn → Status → Type 0
 IsSessionOf (V4 script) turns status =
     (first : _) × (Begins4 script first
-    × IsSession rules4.protocol changed_v4 most_lines first turns status)
+    × IsSession rules4.protocol changed_v4 (λ client. client) verdict4 most_lines first turns
+    status)
 IsSessionOf (V6 script) turns status =
     (first : _) × (Begins6 script first
-    × IsSession rules6.protocol changed_v6 most_lines first turns status)
+    × IsSession rules6.protocol changed_v6 (λ client. client) verdict6 most_lines first turns
+    status)
 
 -- the same, or out of memory before its first line; a script that is not valid has none
 abbrev pub IsRunOf : Bool → Script → List Turn → Status → Type 0

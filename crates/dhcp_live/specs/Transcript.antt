@@ -16,14 +16,16 @@ use Rattle.dhcp_script.specs.declared.live_line.LiveLine.TheVariants as lines
 use Rattle.dhcp_script.specs.declared.script.Script.{Script}
 use Rattle.dhcp_script.specs.declared.script.Script.TheVariants.{V4, V6}
 use Rattle.dhcp_live.specs.Answer.{answer_text}
+use Rattle.dhcp_live.specs.declared.dropped.Dropped.{Dropped}
 use Rattle.dhcp_live.specs.Session.{ok_line}
 use Rattle.dhcp_live.specs.Tool.{IsHead, end_line}
 
--- an event that was heard, and what was said to it: its outputs, the moment of the next event,
--- whether a packet is read, and how many words are left
+-- an event that was heard, and what was said to it: its outputs, what became of its packet, the
+-- moment of the next event, whether a packet is read, and how many words are left
 pub record Told : Type 0 where
   pub event : Event
   pub outputs : List PlainOutput
+  pub dropped : Option Dropped
   pub next : Option ℕ
   pub is_listening : Bool
   pub left : ℕ
@@ -43,7 +45,7 @@ abbrev pub turns_of : List Entry → List Turn
 turns_of [] = Hears end_line ∷ Says ok_line true ∷ []
 turns_of (Answered told ∷ more) =
     Hears (event_line told.event)
-    ∷ Says (answer_text told.outputs told.next told.is_listening told.left) true
+    ∷ Says (answer_text told.outputs told.dropped told.next told.is_listening told.left) true
     ∷ turns_of more
 turns_of (Added words ∷ more) = Hears (words_line words) ∷ turns_of more
 

@@ -2,9 +2,17 @@
 
 ghost use Rattle.std.specs.Prelude.{◌≡◌, ◌++◌, OnOk, codes, map, string_bytes};
 ghost use Rattle.dhcp_output.specs.Output.{plain_output};
-ghost use Rattle.dhcp_live.specs.Answer.{answer_text, listening_text, moment_text};
+ghost use Rattle.dhcp_live.specs.Answer.{
+  answer_text,
+  dropped_line,
+  dropped_text,
+  listening_text,
+  moment_text,
+};
 
+use crate::{Dropped, PlainVerdict};
 use dhcp_output::{Output, push_outputs};
+use dhcp_verdict::PacketVerdict;
 use dhcp_wire::Sequence;
 use std::alloc::{AllocError, Global};
 
@@ -13,6 +21,8 @@ use std::alloc::{AllocError, Global};
 pub struct Answer {
     /// What is reported of the event, in order.
     pub outputs: Sequence<Output>,
+    /// The packet of the event, if it had one and no change of state is reported of it.
+    pub dropped: Option<Dropped>,
     /// The moment, in milliseconds, of the next event that is needed if no packet comes; none if an
     /// error is kept.
     pub next: Option<u64>,
@@ -22,20 +32,56 @@ pub struct Answer {
     pub words_left: usize,
 }
 
-/// Puts an answer at the end of a text: a line for each output, and then a line for the carrier,
-/// `next`, the moment or `never`, `listening` or `deaf`, and how many words are left. After an
-/// error, which is out of memory, a part of it may be there.
+/// Puts an answer at the end of a text: a line for each output; a line `dropped`, with the number
+/// of the event and the reason, if there is a packet that was no answer; and then a line for the
+/// carrier, `next`, the moment or `never`, `listening` or `deaf`, and how many words are left.
+/// After an error, which is out of memory, a part of it may be there.
 #[tactic(auto, unfolding(crate::specs::Answer::answer_text))]
 pub fn push_answer(alloc: Global, text: &mut String, answer: &Answer) -> Result<(), AllocError>
     ensures { OnOk result (string_bytes text.new ≡ string_bytes text.old
-        ++ answer_text (map plain_output answer.now.outputs) answer.now.next
+        ++ answer_text (map plain_output answer.now.outputs) answer.now.dropped answer.now.next
         answer.now.is_listening answer.now.words_left) }
 {
     push_outputs(alloc, text, answer.outputs.as_slice())?;
+    push_dropped(text, answer.dropped)?;
     push_next(text, answer.next)?;
     let listening = listening_word(answer.is_listening);
     let left = answer.words_left;
     write!(text, " {listening} {left}\n")
+}
+
+// Puts the line of a packet that was no answer at the end of a text, if there is one.
+fn push_dropped(text: &mut String, dropped: Option<Dropped>) -> Result<(), AllocError>
+    ensures { OnOk result (string_bytes text.new
+        ≡ string_bytes text.old ++ dropped_text dropped) }
+{
+    match dropped {
+        Some(dropped) => push_verdict(text, dropped.number, dropped.verdict),
+        None => Ok(()),
+    }
+}
+
+// Puts the line of the packet of the event of this number at the end of a text; none of an answer.
+fn push_verdict(text: &mut String, number: u32, verdict: PlainVerdict) -> Result<(), AllocError>
+    ensures { OnOk result (string_bytes text.new
+        ≡ string_bytes text.old ++ dropped_line number verdict) }
+{
+    match verdict {
+        PacketVerdict::Answer => Ok(()),
+        PacketVerdict::NotListening => write!(text, "dropped {number} not-listening\n"),
+        PacketVerdict::OtherCarrier => write!(text, "dropped {number} other-carrier\n"),
+        PacketVerdict::NoFrame => write!(text, "dropped {number} no-frame\n"),
+        PacketVerdict::NoMessage => write!(text, "dropped {number} no-message\n"),
+        PacketVerdict::OtherTransactionId => {
+            write!(text, "dropped {number} other-transaction-id\n")
+        }
+        PacketVerdict::OtherType(Some(kind)) => {
+            write!(text, "dropped {number} other-type {kind}\n")
+        }
+        PacketVerdict::OtherType(None) => write!(text, "dropped {number} other-type none\n"),
+        PacketVerdict::OtherServer => write!(text, "dropped {number} other-server\n"),
+        PacketVerdict::NoLease(kind) => write!(text, "dropped {number} no-lease {kind}\n"),
+    }
 }
 
 // Puts the moment of the next event at the end of a text.

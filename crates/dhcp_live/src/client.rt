@@ -3,10 +3,12 @@
 ghost use Rattle.std.specs.Prelude.{◌≡◌, IfErr, IfOk, OnOk, map, true, zero};
 ghost use Rattle.dhcp_wire.specs.Error.{no_memory};
 ghost use Rattle.dhcp_output.specs.Output.{plain_output};
+ghost use Rattle.dhcp_live.specs.Dropped as dropped;
 ghost use Rattle.dhcp_live.specs.Live as live;
 ghost use Rattle.dhcp_live.specs.Live.{PlaysNext, Tells, held, with_words};
 
-use crate::{Answer, WordQueue};
+use crate::dropped::dropped_of;
+use crate::{Answer, VerdictClient, WordQueue};
 use dhcp_output::Output;
 use dhcp_replay::{FamilyClient, numbered_event, outputs_of};
 use dhcp_script::Event;
@@ -36,7 +38,7 @@ impl<C: FamilyClient> Model for LiveClient<C> {
     } };
 }
 
-impl<C: FamilyClient> LiveClient<C> {
+impl<C: VerdictClient> LiveClient<C> {
     /// A client that has begun with these words left, before its first event; no event is before
     /// the start, in milliseconds. Does not allocate.
     pub fn new(client: Box<C>, words: WordQueue, start: u64) -> Self
@@ -63,19 +65,26 @@ impl<C: FamilyClient> LiveClient<C> {
         self.moment <= event.moment && event.is_within_limits() && self.number < u32::MAX
     }
 
-    /// Plays the next event, and returns what is reported of it and how the client stands then. Out
-    /// of memory is the only error.
+    /// Plays the next event, and returns what is reported of it, why its packet was no answer, and
+    /// how the client stands then. Of a packet something is said if and only if no change of state
+    /// is reported: what it is to the client as it stands after the event. Out of memory is the
+    /// only error.
     pub fn event(&mut self, alloc: Global, event: &Event) -> Result<Answer, DhcpError>
         requires { live.can_take (held C.parts self.old) event.now ≡ true }
         ensures played { IfOk result (λ answer. PlaysNext C.protocol C.Reported.changed event.now
             (map plain_output answer.outputs) (held C.parts self.old) (held C.parts self.new)) }
         ensures told { IfOk result (λ answer. Tells C.protocol C.Reported.changed answer.next
             answer.is_listening answer.words_left (held C.parts self.new)) }
+        ensures dropped { IfOk result (λ answer. answer.dropped ≡ dropped.dropped_of
+            C.packet_verdict self.new.client self.new.number event.now
+            (map plain_output answer.outputs)) }
         ensures error { IfErr result (λ error. error ≡ no_memory) }
     {
         let outputs = self.play(alloc, event)?;
+        let dropped = dropped_of(alloc, &*self.client, self.number, event, outputs.as_slice())?;
         Ok(Answer {
             outputs,
+            dropped,
             next: self.client.next_poll(),
             is_listening: self.client.is_listening(self.moment),
             words_left: self.words.len(),

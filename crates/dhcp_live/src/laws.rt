@@ -14,10 +14,10 @@ use dhcp6_client::laws as laws6;
 /// A transcript is a script. Of a session with the status `Done`, let the script be that of the
 /// head, with the words of each line `words` behind its own, in order, and with the events that
 /// were heard. Its text is its head and the lines that were heard but those lines `words`; without
-/// any such line it is all that was heard. What was said to the events, but for the lines `next`,
-/// are its outputs, so `run` prints the same. If words were added, this asks that the head had at
-/// least eight, and that at each event before the last of them eight were left. It is valid if it
-/// has at most 20,000 events.
+/// any such line it is all that was heard. What was said to the events, but for the lines `dropped`
+/// and `next`, are its outputs, so `run` prints the same. If words were added, this asks that the
+/// head had at least eight, and that at each event before the last of them eight were left. It is
+/// valid if it has at most 20,000 events.
 pub fn a_transcript_is_a_script()
     ensures { (head : List ℕ) (script : Script) (turns : List Turn) → IsHead head script →
         IsSessionOf script turns Done → IsTranscript head script turns }

@@ -5,6 +5,7 @@
 mod answer;
 mod begin;
 mod client;
+mod dropped;
 mod head;
 pub mod laws;
 mod session;
@@ -15,5 +16,6 @@ pub use answer::{Answer, push_answer};
 pub use begin::{begin4, begin6};
 pub use client::LiveClient;
 pub use dhcp_dialogue::{Dialogue, MAX_LINE, StdDialogue, Unheard};
+pub use dropped::{Dropped, PlainVerdict, VerdictClient};
 pub use tool::live_tool;
 pub use word_queue::WordQueue;

@@ -8,9 +8,8 @@ ghost use Rattle.dhcp_live.specs.Live as live;
 ghost use Rattle.dhcp_live.specs.Live.{held};
 ghost use Rattle.dhcp_live.specs.Session.{AnswersLine, HoldsSession, IsAnswer};
 
-use crate::{LiveClient, push_answer};
+use crate::{LiveClient, VerdictClient, push_answer};
 use dhcp_dialogue::Dialogue;
-use dhcp_replay::FamilyClient;
 use dhcp_script::{Event, LiveLine, read_live_line};
 use dhcp_tool::{Status, out_of_memory};
 use dhcp_wire::{Bytes, DhcpError};
@@ -26,13 +25,13 @@ pub enum Next {
 }
 
 /// Plays the events of the lines that are heard, and answers each, to the line `end`.
-pub fn play_events<C: FamilyClient, D: Dialogue>(
+pub fn play_events<C: VerdictClient, D: Dialogue>(
     alloc: Global,
     client: &mut LiveClient<C>,
     dialogue: &mut D,
 ) -> Status
-    ensures { HoldsSession C.protocol C.Reported.changed D.moves (held C.parts client.old) result
-        dialogue.old dialogue.new }
+    ensures { HoldsSession C.protocol C.Reported.changed C.parts C.packet_verdict D.moves
+        (held C.parts client.old) result dialogue.old dialogue.new }
 {
     let mut line = Vec::new(alloc);
     'lines: for _ in 0..u64::MAX {
@@ -49,14 +48,14 @@ pub fn play_events<C: FamilyClient, D: Dialogue>(
 }
 
 // Does what a line says.
-fn answer_line<C: FamilyClient, D: Dialogue>(
+fn answer_line<C: VerdictClient, D: Dialogue>(
     alloc: Global,
     client: &mut LiveClient<C>,
     dialogue: &mut D,
     line: &[u8],
 ) -> Next
-    ensures { AnswersLine C.protocol C.Reported.changed D.moves line.now result
-        (held C.parts client.old) (held C.parts client.new) dialogue.old dialogue.new }
+    ensures { AnswersLine C.protocol C.Reported.changed C.parts C.packet_verdict D.moves line.now
+        result (held C.parts client.old) (held C.parts client.new) dialogue.old dialogue.new }
 {
     match read_live_line(alloc, line) {
         Ok(Some(said)) => answer_said(alloc, client, dialogue, &said),
@@ -66,14 +65,15 @@ fn answer_line<C: FamilyClient, D: Dialogue>(
 }
 
 // Does what was said in a line.
-fn answer_said<C: FamilyClient, D: Dialogue>(
+fn answer_said<C: VerdictClient, D: Dialogue>(
     alloc: Global,
     client: &mut LiveClient<C>,
     dialogue: &mut D,
     said: &LiveLine,
 ) -> Next
     requires { IsLiveLine said.now }
-    ensures { AnswersLine C.protocol C.Reported.changed D.moves (live_line_text said.now) result
+    ensures { AnswersLine C.protocol C.Reported.changed C.parts C.packet_verdict D.moves
+        (live_line_text said.now) result
         (held C.parts client.old) (held C.parts client.new) dialogue.old dialogue.new }
 {
     match said {
@@ -84,14 +84,14 @@ fn answer_said<C: FamilyClient, D: Dialogue>(
 }
 
 // Plays an event, and says what the client answers.
-fn answer_event<C: FamilyClient, D: Dialogue>(
+fn answer_event<C: VerdictClient, D: Dialogue>(
     alloc: Global,
     client: &mut LiveClient<C>,
     dialogue: &mut D,
     event: &Event,
 ) -> Next
     requires { IsLiveLine (lines.Event event.now) }
-    ensures { AnswersLine C.protocol C.Reported.changed D.moves
+    ensures { AnswersLine C.protocol C.Reported.changed C.parts C.packet_verdict D.moves
         (live_line_text (lines.Event event.now)) result
         (held C.parts client.old) (held C.parts client.new) dialogue.old dialogue.new }
 {
@@ -110,14 +110,14 @@ fn answer_event<C: FamilyClient, D: Dialogue>(
 }
 
 // Plays an event, and returns the text of what the client answers.
-fn answer_text<C: FamilyClient>(
+fn answer_text<C: VerdictClient>(
     alloc: Global,
     client: &mut LiveClient<C>,
     event: &Event,
 ) -> Result<Bytes, DhcpError>
     requires { live.can_take (held C.parts client.old) event.now ≡ true }
-    ensures text { IfOk result (IsAnswer C.protocol C.Reported.changed event.now
-        (held C.parts client.old) (held C.parts client.new)) }
+    ensures text { IfOk result (IsAnswer C.protocol C.Reported.changed C.parts C.packet_verdict
+        event.now (held C.parts client.old) (held C.parts client.new)) }
     ensures error { IfErr result (λ error. error ≡ no_memory) }
 {
     let answer = client.event(alloc, event)?;
@@ -127,13 +127,13 @@ fn answer_text<C: FamilyClient>(
 }
 
 // Adds words to those of the client.
-fn add_words<C: FamilyClient, D: Dialogue>(
+fn add_words<C: VerdictClient, D: Dialogue>(
     client: &mut LiveClient<C>,
     dialogue: &D,
     words: &[u32],
 ) -> Next
     requires { IsLiveLine (lines.Words words.now) }
-    ensures { AnswersLine C.protocol C.Reported.changed D.moves
+    ensures { AnswersLine C.protocol C.Reported.changed C.parts C.packet_verdict D.moves
         (live_line_text (lines.Words words.now)) result
         (held C.parts client.old) (held C.parts client.new) dialogue.now dialogue.now }
 {
@@ -144,8 +144,9 @@ fn add_words<C: FamilyClient, D: Dialogue>(
 }
 
 // Says that the session is over.
-fn end<C: FamilyClient, D: Dialogue>(client: &LiveClient<C>, dialogue: &mut D) -> Next
-    ensures { AnswersLine C.protocol C.Reported.changed D.moves (live_line_text lines.End) result
+fn end<C: VerdictClient, D: Dialogue>(client: &LiveClient<C>, dialogue: &mut D) -> Next
+    ensures { AnswersLine C.protocol C.Reported.changed C.parts C.packet_verdict D.moves
+        (live_line_text lines.End) result
         (held C.parts client.now) (held C.parts client.now) dialogue.old dialogue.new }
 {
     if dialogue.say(b"ok\n") {

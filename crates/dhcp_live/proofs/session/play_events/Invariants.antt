@@ -6,4 +6,4 @@ use Rattle.dhcp_live.proofs.SessionLemmas.{SoFar}
 use Rattle.dhcp_live.proofs.session.play_events.Given as goal
 
 abbrev pub invariant-lines : goal.invariant-lines
-invariant-lines g l = SoFar g.C.FamilyClient.protocol g.C.Reported.FamilyState.changed g.D.Dialogue.moves (held g.C.FamilyClient.parts l.fn.client) l.fn.dialogue (most_lines - l.counter) (held g.C.FamilyClient.parts l.client) l.dialogue
+invariant-lines g l = SoFar g.C.FamilyClient.protocol g.C.Reported.FamilyState.changed g.C.FamilyClient.parts g.C.VerdictClient.packet_verdict g.D.Dialogue.moves (held g.C.FamilyClient.parts l.fn.client) l.fn.dialogue (most_lines - l.counter) (held g.C.FamilyClient.parts l.client) l.dialogue
