@@ -1,10 +1,10 @@
 -- What follows a line of a session.
-use Rattle.std.proofs.Common.{◌≡◌, ℕ, Bool, true, false, List, [], ◌∷◌, Option, Some, refl, sym, ap, subst, ◌∙◌}
+use Rattle.std.proofs.Common.{◌≡◌, ℕ, true, false, List, [], ◌∷◌, Option, Some, refl, sym, subst}
 use Rattle.dhcp_clock.specs.declared.link.Handed.{Handed}
 use Rattle.dhcp_clock.specs.declared.link.Packet.{Packet}
 use Rattle.dhcp_history.specs.Calls.{ClientParts}
 use Rattle.dhcp_history.specs.Protocol.{Protocol}
-use Rattle.dhcp_output.specs.Output.{PlainOutput, PlainReport}
+use Rattle.dhcp_output.specs.Output.{PlainReport}
 use Rattle.dhcp_script.specs.LiveLine.{IsLiveLine, live_line_text}
 use Rattle.dhcp_script.specs.declared.event.Event.{Event}
 use Rattle.dhcp_script.specs.declared.live_line.LiveLine.{LiveLine}
@@ -13,10 +13,8 @@ use Rattle.dhcp_stream.specs.Reading.{IsReading}
 use Rattle.dhcp_tool.specs.declared.status.Status.{Status}
 use Rattle.dhcp_tool.specs.declared.status.Status.TheVariants.{Done, NoScript, WriteFault, NoMemory, Invalid}
 use Rattle.dhcp_dialogue.specs.Dialogue.{Turn, Says}
-use Rattle.dhcp_live.specs.Answer.{answer_text}
-use Rattle.dhcp_live.specs.Dropped.{PlainVerdict, dropped_of}
-use Rattle.dhcp_live.specs.declared.dropped.Dropped.{Dropped}
-use Rattle.dhcp_live.specs.Live.{LiveParts, PlaysNext, Tells, can_take, is_listening_in, next_of, with_words}
+use Rattle.dhcp_live.specs.Dropped.{PlainVerdict}
+use Rattle.dhcp_live.specs.Live.{LiveParts, can_take, with_words}
 use Rattle.dhcp_live.specs.Session.{AnswersLine, IsAnswer, adds_words, answers, ends, ends_unsaid, is_cut_off, is_no_line, ok_line, refuses, runs_out}
 use Rattle.dhcp_live.specs.declared.session.Next.TheVariants.{Line, End}
 
@@ -26,21 +24,6 @@ said_so found said text is reading = subst (λ (f : Option LiveLine). IsReading 
 
 module _ {Client Config PublicState State Exchange Answer Lease : Type 0} (protocol : Config → Protocol PublicState Packet Handed State Exchange Answer Lease) (changed : PublicState → PlainReport)
     (parts : Client → ClientParts Config State Exchange) (verdict : Client → ℕ → Packet → PlainVerdict) where
-  -- a text that answers an event
-  pub is_answer : (event : Event) (before after : LiveParts Config State Exchange) (text : List ℕ) (outs : List PlainOutput) (client : Client) (dropped : Option Dropped) (next : Option ℕ) (listening : Bool) (left : ℕ) →
-      PlaysNext protocol changed event outs before after → Tells protocol changed next listening left after → parts client ≡ after.parts → dropped ≡ dropped_of verdict client after.number event outs →
-      text ≡ answer_text outs dropped next listening left → IsAnswer protocol changed parts verdict event before after text
-  is_answer event before after text outs client dropped next listening left plays tells client_is said is = record {
-    outputs = outs;
-    plays = plays;
-    client = client;
-    client_is = client_is;
-    text_is = is ∙ ap (λ (d : Option Dropped). answer_text outs d next listening left) said
-        ∙ ap (λ (n : Option ℕ). answer_text outs (dropped_of verdict client after.number event outs) n listening left) tells.next_is
-        ∙ ap (λ (l : Bool). answer_text outs (dropped_of verdict client after.number event outs) (next_of protocol changed after) l left) tells.listening_is
-        ∙ ap (λ (k : ℕ). answer_text outs (dropped_of verdict client after.number event outs) (next_of protocol changed after) (is_listening_in protocol changed after) k) tells.left_is;
-  }
-
   module _ {D : Type 0} (moves : Turn → D → D → Type 0) where
     -- an event
     module _ (before : LiveParts Config State Exchange) (event : Event) (is : IsLiveLine (lines.Event event)) where
