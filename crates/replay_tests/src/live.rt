@@ -34,6 +34,72 @@ const SAID: &str = "
     ok
 ";
 
+const DROPPED: &str = "
+    at 0 ok none
+    at 5 ok none
+    at 1000 ok frame OFFER_TO_ANOTHER
+    at 1005 ok frame OFFER
+    end
+";
+
+const SAID_OF_DROPPED: &str = "
+    next 5 deaf 0
+    2 handed frame DISCOVER
+    next 3005 listening 0
+    dropped 3 other-transaction-id
+    next 3005 listening 0
+    4 state selecting
+    4 handed frame REQUEST
+    next 4005 listening 0
+    ok
+";
+
+const HEAD6: &str = "
+    dhcp6 2
+    iface 1 fe800000000000000000000000000001 - na 0
+    duid 00030001020000000001
+    codes 0017
+    lease none
+    words 00abcdef
+    start 0
+";
+
+const DROPPED6: &str = "
+    at 0 ok none
+    at 50 ok frame ADVERTISE6
+    at 60 ok payload 01
+    at 70 ok payload REPLY6_TO_7
+    at 80 ok payload REPLY6_TO_SOLICIT
+    at 100 ok payload ADVERTISE6
+    at 200 ok payload REPLY6_OF_NO_ADDRESS
+    at 300 ok payload REPLY6
+    at 400 ok payload REPLY6
+    end
+";
+
+const SAID_OF_DROPPED6: &str = "
+    1 handed udp6 SOLICIT6.0000
+    next 900 listening 0
+    dropped 2 other-carrier
+    next 900 listening 0
+    dropped 3 no-message
+    next 900 listening 0
+    dropped 4 other-transaction-id
+    next 900 listening 0
+    dropped 5 other-type 7
+    next 900 listening 0
+    6 state request
+    6 handed udp6 REQUEST6.0000
+    next 1000 listening 0
+    dropped 7 no-lease NoLease
+    next 1000 listening 0
+    8 state done LEASE6 50 80 100 200 REST6
+    next 50300 deaf 0
+    dropped 9 not-listening
+    next 50300 deaf 0
+    ok
+";
+
 // These lines, with their words in capitals replaced.
 fn lines(alloc: Global, parts: &[&str]) -> Result<String, AllocError> {
     let mut text = String::new(alloc);
@@ -56,6 +122,18 @@ fn is_said(alloc: Global, told: &[&str], status: u8, said: &str) -> Result<bool,
 fn words_are_added_behind_those_that_are_left(rt: HostRuntime) {
     let is_said = is_said(rt.alloc(), &[HEAD, TOLD], 0, SAID).expect(&rt, "memory");
     assert!(rt; is_said);
+}
+
+#[test]
+fn a_packet_that_is_no_answer_has_its_reason(rt: HostRuntime) {
+    let cases = [
+        (HEAD, DROPPED, SAID_OF_DROPPED),
+        (HEAD6, DROPPED6, SAID_OF_DROPPED6),
+    ];
+    for (head, told, said) in cases {
+        let is_said = is_said(rt.alloc(), &[head, told], 0, said).expect(&rt, "memory");
+        assert!(rt; is_said, "{head}");
+    }
 }
 
 #[test]

@@ -85,18 +85,18 @@ pub fn is_printed(alloc: Global, family: &Family, life: &Life) -> Result<bool, D
     Ok(is_run && is_said(alloc, text.as_str(), printed.as_str())?)
 }
 
-// Whether a client that is told these lines says this, but for the lines `next`.
+// Whether a client that is told these lines says this, but for the lines `dropped` and `next`.
 fn is_said(alloc: Global, text: &str, printed: &str) -> Result<bool, DhcpError> {
     let ended = live(alloc, text.as_bytes())?;
-    let said = without_next(alloc, ended.text.as_slice())?;
+    let said = outputs_of(alloc, ended.text.as_slice())?;
     Ok(ended.status == 0 && said.as_str() == printed)
 }
 
-// What is said without the lines `next`.
-fn without_next(alloc: Global, said: &[u8]) -> Result<String, AllocError> {
+// What is said without the lines `dropped` and `next`.
+fn outputs_of(alloc: Global, said: &[u8]) -> Result<String, AllocError> {
     let mut text = String::new(alloc);
     for line in std::str::from_utf8(said).unwrap_or("").lines() {
-        if !line.starts_with("next ") {
+        if !line.starts_with("dropped ") && !line.starts_with("next ") {
             text.push_str(line)?;
             text.push_str("\n")?;
         }
