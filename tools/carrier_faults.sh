@@ -91,7 +91,7 @@ FAULT
 # within so many seconds, with a line of the pattern in its log and the address off the interface.
 try() {
     local begun=$SECONDS status=0 address=no
-    timeout --foreground 30 "$work/carrier" --program "$work/$1" \
+    timeout --foreground 30 "$work/carrier" --foreground --program "$work/$1" \
         --transcript "$work/transcript" cli0 2>"$work/log" &
     local carrier=$!
     for _ in 1 2 3 4 5; do

@@ -345,7 +345,7 @@ set -o pipefail
 {PROGRAM} "$@" | tee {self.lab.path(answers)}
 """)
         os.chmod(program, 0o755)
-        words = [CARRIER, f"-{self.family}", "--program", program, *self.words]
+        words = [CARRIER, f"-{self.family}", "--foreground", "--program", program, *self.words]
         words += ["--lease", self.lease, "--transcript", self.lab.path(transcript), self.device]
         self.process = self.lab.begin("client", words, self.log_name)
 

@@ -50,7 +50,7 @@ set -o pipefail
 "$program" "\$@" | tee "$work/answers"
 END
 chmod +x "$work/program"
-"$work/carrier" --program "$work/program" --transcript "$work/transcript" cli0 \
+"$work/carrier" --foreground --program "$work/program" --transcript "$work/transcript" cli0 \
     2>"$work/log" &
 carrier=$!
 sleep 10

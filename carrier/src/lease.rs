@@ -1,40 +1,34 @@
-//! A lease, and the file that keeps it from one start to the next.
+//! A lease: its variables, the file that keeps it, and the hook that sets an interface as it says.
 
-use crate::dialogue::unhex;
-use std::collections::BTreeMap;
+use crate::{Carrier, dialogue::unhex};
+use std::io::{Result, Write, stderr};
 use std::net::{Ipv4Addr, Ipv6Addr};
-use std::{fs, io};
+use std::process::{Command, Stdio};
+use std::{collections::BTreeMap, fs};
 
-// The words of a lease: when it was taken, in milliseconds, and its fields in the program's order.
+/// The variables of a lease, with the names of udhcpc's scripts. Among them are `address`, with the
+/// length, and `words`, the text that is kept: when it was taken, in milliseconds, and its fields.
+pub type Lease = BTreeMap<&'static str, String>;
+
+// The names of the words of a lease of either family, in the program's order.
 const WORDS_4: &str = "taken ip siaddr serverid t1 t2 lease subnet broadcast mtu dns router \
     ntpsrv hostname domain staticroutes";
 const WORDS_6: &str = "taken association iaid ipv6 mask serverid t1 t2 preferred lease xid duid \
     serverip";
 
-pub struct Lease {
-    /// Its words.
-    pub line: String,
-    /// The variables that a hook gets, with the names of udhcpc's scripts.
-    pub variables: BTreeMap<&'static str, String>,
-    /// The address, or the prefix, with its length.
-    pub address: String,
-}
-
-impl Lease {
-    /// The lease of a line of words, if a family has such a lease.
-    pub fn read(line: &str) -> Option<Self> {
-        let is_six = line.split(' ').count() == WORDS_6.split(' ').count();
-        let words = if is_six { WORDS_6 } else { WORDS_4 }.split(' ').zip(line.split(' '));
-        let values = words.filter_map(|(name, word)| Some((name, value(name, word)?)));
-        let mut variables: BTreeMap<_, _> = values.collect();
-        if let Some(mask) = variables.get("subnet").and_then(|mask| mask.parse::<Ipv4Addr>().ok()) {
-            variables.insert("mask", u32::from(mask).leading_ones().to_string());
-        }
-        variables.get("taken")?.parse::<u64>().ok()?;
-        let address = variables.get("ip").or(variables.get("ipv6"))?;
-        let address = format!("{address}/{}", variables.get("mask")?);
-        Some(Lease { line: line.into(), variables, address })
+/// The lease that has these words, if a family has such a lease.
+pub fn lease_of(words: &str) -> Option<Lease> {
+    let is_its = |names: &&str| names.split(' ').count() == words.split(' ').count();
+    let names = [WORDS_4, WORDS_6].into_iter().find(is_its)?.split(' ');
+    let values = names.zip(words.split(' '));
+    let values = values.filter_map(|(name, word)| Some((name, value(name, word)?)));
+    let mut lease: Lease = values.chain([("words", words.into())]).collect();
+    if let Some(mask) = lease.get("subnet").and_then(|mask| mask.parse::<Ipv4Addr>().ok()) {
+        lease.insert("mask", u32::from(mask).leading_ones().to_string());
     }
+    let address = lease.get("ip").or(lease.get("ipv6"))?;
+    lease.insert("address", format!("{address}/{}", lease.get("mask")?));
+    Some(lease)
 }
 
 // The value of a variable; none if the lease does not have it, or if it is a name with characters
@@ -55,8 +49,47 @@ fn value(name: &str, word: &str) -> Option<String> {
     })
 }
 
-/// Writes a lease to the file that keeps it, and nothing if there is none.
-pub fn keep(lease: Option<&Lease>, file: &str) -> io::Result<()> {
-    fs::write(format!("{file}.new"), lease.map_or("", |lease| &lease.line))?;
-    fs::rename(format!("{file}.new"), file)
+impl Carrier {
+    /// Keeps a lease and sets the interface as it says; without one, takes off what the last gave.
+    pub fn hold(&mut self, lease: Option<Lease>) {
+        let address = |lease: &Option<Lease>| lease.as_ref().map(|lease| lease["address"].clone());
+        if address(&self.lease) != address(&lease) {
+            self.set("deconfig");
+            self.is_set = false;
+        }
+        self.lease = lease;
+        if let Err(error) = self.keep() {
+            self.log(&format!("the lease was not kept: {error}"));
+        }
+        self.set(if self.is_set { "renew" } else { "bound" });
+        self.is_set = self.lease.is_some();
+    }
+
+    // Writes the file that keeps the identifier and the lease.
+    fn keep(&self) -> Result<()> {
+        let Some(file) = self.options.get("--lease") else { return Ok(()) };
+        let lease = self.lease.as_ref().map_or("none", |lease| &lease["words"]);
+        fs::write(format!("{file}.new"), format!("duid {}\nlease {lease}\n", self.duid))?;
+        fs::rename(format!("{file}.new"), file)
+    }
+
+    /// Runs the hook with a lease, if there is one, for `bound`, `renew` or `deconfig`.
+    pub fn set(&self, event: &str) {
+        let Some(lease) = &self.lease else { return };
+        let hook = self.options.get("--hook");
+        let mut command = Command::new(hook.map_or("sh", String::as_str));
+        if hook.is_none() {
+            command.args(["-c", include_str!("../hook.sh"), "hook.sh"]);
+        }
+        command.arg(event).env("interface", &self.options["interface"]).envs(lease);
+        let status = command.stdin(Stdio::null()).stdout(stderr()).status();
+        if !status.as_ref().is_ok_and(|status| status.success()) {
+            self.log(&format!("the hook for {event} failed: {status:?}"));
+        }
+    }
+
+    /// Writes a line to standard error, if anyone reads it.
+    pub fn log(&self, text: &str) {
+        let _ = writeln!(stderr(), "{}: {text}", self.options["interface"]);
+    }
 }

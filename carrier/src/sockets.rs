@@ -1,9 +1,22 @@
 //! The sockets of a client of either family, by calls of the C library where std has none.
 
-use crate::dialogue::{ALL_SERVERS, hex};
+use crate::dialogue::{ALL_SERVERS, MAX_PACKET, hex};
 use std::io::{Error, ErrorKind, Result};
-use std::net::{Ipv6Addr, SocketAddr, SocketAddrV6, UdpSocket};
+use std::net::{IpAddr, SocketAddr, SocketAddrV6, UdpSocket};
 use std::os::fd::{AsRawFd, FromRawFd, RawFd};
+
+const AF_INET: u16 = 2;
+const AF_PACKET: u16 = 17;
+const SOCK_DGRAM: i32 = 2;
+const SOCK_RAW: i32 = 3;
+const SOCK_CLOEXEC: i32 = 0o2000000;
+const SOCK_NONBLOCK: i32 = 0o4000;
+const SOL_SOCKET: i32 = 1;
+const SO_REUSEADDR: i32 = 2;
+const SO_BINDTODEVICE: i32 = 25;
+const SO_ATTACH_FILTER: i32 = 26;
+const ETH_P_IP: u16 = 0x800;
+const POLLIN: i16 = 1;
 
 unsafe extern "C" {
     fn socket(family: i32, kind: i32, protocol: i32) -> i32;
@@ -15,11 +28,10 @@ unsafe extern "C" {
 #[repr(C)]
 struct PollFile(RawFd, i16, i16);
 
-/// The open sockets, for payloads and, in IPv4, for frames, and the room for a packet.
+/// The open sockets: for payloads and, in IPv4, for frames.
 pub struct Sockets {
     payloads: UdpSocket,
     frames: Option<UdpSocket>,
-    room: [u8; 65535],
 }
 
 impl Sockets {
@@ -27,28 +39,27 @@ impl Sockets {
     /// to it, whatever the address, since servers send a Nack to all.
     pub fn open4(name: &str, index: u32) -> Result<Self> {
         let filter = [PORT_68.len() as u64, PORT_68.as_ptr() as u64].map(u64::to_ne_bytes).concat();
-        // AF_PACKET, SOCK_RAW, SO_ATTACH_FILTER, ETH_P_IP
-        let address = [&0x800u16.to_be_bytes()[..], &index.to_ne_bytes(), &[0; 12]];
-        let frames = open(17, 3, &[(26, &filter)], &address.concat())?;
-        // AF_INET, SOCK_DGRAM, SO_REUSEADDR, SO_BINDTODEVICE
-        let options = [(2, &1i32.to_ne_bytes()[..]), (25, name.as_bytes())];
-        let payloads = open(2, 2, &options, &[&68u16.to_be_bytes()[..], &[0; 12]].concat())?;
+        let address = [&ETH_P_IP.to_be_bytes()[..], &index.to_ne_bytes(), &[0; 12]].concat();
+        let frames = open(AF_PACKET, SOCK_RAW, &[(SO_ATTACH_FILTER, &filter)], &address)?;
+        let options = [(SO_REUSEADDR, &1i32.to_ne_bytes()[..]), (SO_BINDTODEVICE, name.as_bytes())];
+        let address = [&68u16.to_be_bytes()[..], &[0; 12]].concat();
+        let payloads = open(AF_INET, SOCK_DGRAM, &options, &address)?;
         payloads.set_broadcast(true)?;
-        Ok(Sockets { payloads, frames: Some(frames), room: [0; 65535] })
+        Ok(Sockets { payloads, frames: Some(frames) })
     }
 
-    /// That of an IPv6 client, for the payloads to UDP port 546 of the address that it sends from.
-    pub fn open6(index: u32) -> Result<(Self, Ipv6Addr)> {
+    /// That of an IPv6 client, for payloads to UDP port 546 of the address, in hex, it sends from.
+    pub fn open6(index: u32) -> Result<(Self, String)> {
         let probe = UdpSocket::bind("[::]:0")?;
         probe.connect(SocketAddrV6::new(ALL_SERVERS, 547, 0, index))?;
         let SocketAddr::V6(from) = probe.local_addr()? else { return Err(ErrorKind::Other.into()) };
         let payloads = UdpSocket::bind(SocketAddrV6::new(*from.ip(), 546, 0, index))?;
         payloads.set_nonblocking(true)?;
-        Ok((Sockets { payloads, frames: None, room: [0; 65535] }, *from.ip()))
+        Ok((Sockets { payloads, frames: None }, hex(&from.ip().octets())))
     }
 
-    /// Sends a payload to an address, or, without one, a frame.
-    pub fn send(&self, to: Option<SocketAddr>, bytes: &[u8]) -> Result<usize> {
+    /// Sends a payload to an address and port, or, without them, a frame.
+    pub fn send(&self, to: Option<(IpAddr, u16)>, bytes: &[u8]) -> Result<usize> {
         match to {
             Some(to) => self.payloads.send_to(bytes, to),
             None => self.frames.as_ref().ok_or(ErrorKind::Unsupported)?.send(bytes),
@@ -56,12 +67,16 @@ impl Sockets {
     }
 
     /// The next packet that waits, as an event has it. A longer one than an event may have is lost.
-    pub fn receive(&mut self) -> Option<String> {
-        let sockets = [("frame", self.frames.as_ref()), ("payload", Some(&self.payloads))];
-        sockets.into_iter().find_map(|(kind, socket)| {
-            let length = socket?.recv(&mut self.room).ok().filter(|length| *length <= 1500)?;
-            Some(format!("{kind} {}", hex(&self.room[..length])))
-        })
+    pub fn receive(&self) -> Option<String> {
+        let mut room = [0; MAX_PACKET + 1];
+        for (kind, socket) in [("frame", self.frames.as_ref()), ("payload", Some(&self.payloads))] {
+            while let Some(Ok(length)) = socket.map(|socket| socket.recv(&mut room)) {
+                if length <= MAX_PACKET {
+                    return Some(format!("{kind} {}", hex(&room[..length])));
+                }
+            }
+        }
+        None
     }
 
     /// Waits until one of the other files can be read, so many milliseconds are over, or a packet
@@ -69,31 +84,29 @@ impl Sockets {
     pub fn wait(&self, others: [RawFd; 2], milliseconds: Option<u64>, is_listening: bool) -> bool {
         let sockets = self.frames.iter().chain([&self.payloads]).filter(|_| is_listening);
         let files = others.into_iter().chain(sockets.map(UdpSocket::as_raw_fd));
-        let mut files: Vec<_> = files.map(|file| PollFile(file, 1, 0)).collect(); // POLLIN
+        let mut files: Vec<_> = files.map(|file| PollFile(file, POLLIN, 0)).collect();
         let limit = milliseconds.map_or(-1, |left| left.min(i32::MAX as u64) as i32);
         unsafe { poll(files.as_mut_ptr(), files.len() as u64, limit) > 0 && files[0].2 != 0 }
     }
 }
 
-// A socket with these options of the level SOL_SOCKET, bound to an address of the family.
+// A socket with these options, bound to an address of the family.
 fn open(family: u16, kind: i32, options: &[(i32, &[u8])], address: &[u8]) -> Result<UdpSocket> {
     let check = |answer| if answer < 0 { Err(Error::last_os_error()) } else { Ok(answer) };
-    let kind = kind | 0o2004000; // SOCK_CLOEXEC, SOCK_NONBLOCK
-    let file = check(unsafe { socket(family.into(), kind, 0) })?;
+    let file = check(unsafe { socket(family.into(), kind | SOCK_NONBLOCK | SOCK_CLOEXEC, 0) })?;
     let opened = unsafe { UdpSocket::from_raw_fd(file) };
     for (name, value) in options {
-        check(unsafe { setsockopt(file, 1, *name, value.as_ptr(), value.len() as u32) })?;
+        check(unsafe { setsockopt(file, SOL_SOCKET, *name, value.as_ptr(), value.len() as u32) })?;
     }
     let address = [&family.to_ne_bytes(), address].concat();
     check(unsafe { bind(file, address.as_ptr(), address.len() as u32) })?;
     Ok(opened)
 }
 
-// An instruction of a packet filter of the kernel (BPF).
+// A packet filter of the kernel (BPF): of IPv4 frames, those to UDP port 68 alone wake us.
 #[repr(C)]
 struct Instruction(u16, u8, u8, u32);
 
-// Takes, of IPv4 frames, those to UDP port 68, so that nothing else wakes us.
 static PORT_68: [Instruction; 7] = [
     Instruction(0x30, 0, 0, 23),    // the protocol
     Instruction(0x15, 0, 4, 17),    // is it UDP?
