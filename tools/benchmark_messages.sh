@@ -8,10 +8,10 @@
 # For each input and task it prints the nanoseconds for each time (the best of five runs, the start
 # of the process taken off), and the bytes read and written in a second. PROGRAM names another
 # build of dhcp_bench, to compare two of them on one machine, and TASKS the tasks that are timed on
-# IPv4 messages ("read message lease moved" if it is not set).
+# IPv4 messages ("read message written lease moved kept" if it is not set).
 set -eu
 program=${PROGRAM:-crates/dhcp_bench/out/dhcp_bench}
-tasks=${TASKS:-read message lease moved}
+tasks=${TASKS:-read message written lease moved kept}
 if [ ! -x "$program" ]; then
     echo "$program is not built: run 'rt run < stdin -- frame 3' in crates/dhcp_bench"
     exit 2
@@ -128,7 +128,9 @@ options6 "$reply6" "" 1 0 1
 measure6 options_of_a_reply_of_129_bytes 200000
 # The Reply itself, and a Solicit.
 options6 "07abcdef$reply6" "" 1 0 1
-for task in reply6 message6 lease6 moved6; do measure reply_of_129_bytes "$task" 200000; done
+for task in reply6 message6 written6 lease6 moved6 kept6; do
+    measure reply_of_129_bytes "$task" 200000
+done
 measure solicit_built_and_written solicit6 200000
 # 64 KiB of options of two bytes: of one code, of as many codes that rise, and of codes that fall.
 options6 "" 00080002%04x 1 10922 1

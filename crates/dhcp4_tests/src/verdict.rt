@@ -201,6 +201,8 @@ fn a_packet_answers_between_the_first_message_and_the_time_limit(rt: HostRuntime
         (true, 100_000, PacketVerdict::NotListening),
     ];
     for (is_polled, now, wanted) in cases {
-        assert!(rt; offered(rt.alloc(), is_polled, now).expect(&rt, "memory") == wanted);
+        let verdict = offered(rt.alloc(), is_polled, now).expect(&rt, "memory");
+        assert!(rt; verdict == wanted);
+        assert!(rt; verdict.is_answer() == (wanted == PacketVerdict::Answer));
     }
 }

@@ -7,26 +7,29 @@
 //! and writes it. Of a DHCPv6 message, `reply6` reads one, `message6` reads and writes it, `lease6`
 //! reads it and its lease, `moved6` does so and moves its options into the lease, and `solicit6`
 //! builds and writes a Solicit; `wrap6` relays a message to a server, and `along6` an answer back
-//! along a Relay-forward. `serve256` and `serve65536` have a DHCPv4 server answer a message, with a
-//! pool of so many addresses of which all but the last, 10.255.255.255, are bound to other clients;
-//! to fill the pool takes its time once. Of an IPv4 client, `idle` polls one that has a lease,
-//! `foreign` one whose Discover is open, each time with the frame of the line, and `life` has it
-//! live from its Discover to its release, with the frames of an Offer and of an Ack as two lines;
-//! `idle6`, `foreign6` and `life6` do so with an IPv6 client, and payloads. These print how many
-//! polls or lives there were. A task that is done at least once prints nothing, and fails, if a
-//! line that it reads is missing, is not hex or does not read; but a client drops what does not
-//! read. A first line has to be there for all.
+//! along a Relay-forward. A message that is read once is written by `written` and `written6`, and
+//! `kept` and `kept6` read its lease. `serve256` and `serve65536` have a DHCPv4 server answer a
+//! message, with a pool of so many addresses of which all but the last, 10.255.255.255, are bound
+//! to other clients; to fill the pool takes its time once. Of an IPv4 client, `idle` polls one that
+//! has a lease, `foreign` one whose Discover is open, each time with the frame of the line, and
+//! `life` has it live from its Discover to its release, with the frames of an Offer and of an Ack
+//! as two lines; `idle6`, `foreign6` and `life6` do so with an IPv6 client, and payloads. These
+//! print how many polls or lives there were. A task that is done at least once prints nothing, and
+//! fails, if a line that it reads is missing, is not hex or does not read; but a client drops what
+//! does not read. A first line has to be there for all.
 #![tactic(auto)]
 
 mod client4;
 mod client6;
 mod exchange;
+mod kept;
 mod messages6;
 mod options6;
 mod relay6;
 mod server4;
 
 use crate::exchange::{foreign, idle, lives};
+use crate::kept::{KeptTask, repeat};
 use dhcp_clock::WordList;
 use dhcp_frame::{MOST_PAYLOAD, read_frame, write_frame};
 use dhcp_wire::{BufferMut, DhcpError, ErrorKind, FixedText};
@@ -34,6 +37,7 @@ use dhcp4_client::DhcpV4Client;
 use dhcp4_lease::{DhcpV4Config, DhcpV4Lease, new_discovery};
 use dhcp4_msg::DhcpV4Message;
 use dhcp6_client::DhcpV6Client;
+use dhcp6_msg::DhcpV6Message;
 use dhcp6_relay::RelayError;
 use std::alloc::{AllocError, Global};
 use std::process::ExitCode;
@@ -122,6 +126,10 @@ fn count_with(
         "idle6" => Ok(idle::<DhcpV6Client>(alloc, times)?),
         "foreign" => Ok(foreign::<DhcpV4Client>(alloc, times, client4::frame(first))?),
         "foreign6" => Ok(foreign::<DhcpV6Client>(alloc, times, client6::payload(first))?),
+        "written" => Ok(repeat::<DhcpV4Message>(alloc, KeptTask::Write, times, first)?),
+        "kept" => Ok(repeat::<DhcpV4Message>(alloc, KeptTask::Lease, times, first)?),
+        "written6" => Ok(repeat::<DhcpV6Message>(alloc, KeptTask::Write, times, first)?),
+        "kept6" => Ok(repeat::<DhcpV6Message>(alloc, KeptTask::Lease, times, first)?),
         "serve256" => Ok(server4::handle(alloc, 256, times, first)?),
         "serve65536" => Ok(server4::handle(alloc, 65_536, times, first)?),
         "life" | "life6" => count_of_lives(alloc, what, times, first, rest),
