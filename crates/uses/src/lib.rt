@@ -2,6 +2,7 @@
 #![tactic(auto)]
 
 mod captures;
+mod heard;
 mod lease;
 mod link;
 mod manager;
@@ -15,6 +16,7 @@ mod upkeep;
 mod upkeep6;
 
 pub use captures::ack_count;
+pub use heard::{end_of_lease, hear};
 pub use lease::{Counter, address_of_lease, lease_of_ack};
 pub use link::{QueueLink, SystemWords};
 pub use manager::{
