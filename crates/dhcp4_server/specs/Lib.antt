@@ -8,3 +8,5 @@ pub mod Reply
 pub mod Request
 pub mod Server
 pub mod Table
+-- the definition that a function unfolds beside another
+pub use Rattle.dhcp4_server.specs.Reply.{reply_message}

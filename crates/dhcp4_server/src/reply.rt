@@ -88,7 +88,7 @@ fn address_of_bits(bits: u32) -> Ipv4Addr
 }
 
 // A reply to a message, without options.
-#[tactic(auto, unfolding(crate::specs::Reply::reply_message, dhcp4_msg::specs::Message::empty_message))]
+#[tactic(auto, unfolding(crate::specs::reply_message, dhcp4_msg::specs::Message::empty_message))]
 fn reply_to(
     alloc: Global,
     message: &DhcpV4Message,

@@ -104,3 +104,8 @@ fn a_client_begins_with_an_interface_an_address_and_room_for_its_codes(rt: HostR
     without_address.src_ip = Ipv6Addr::UNSPECIFIED;
     assert!(rt; is_refused(alloc, without_address).expect(&rt, "memory"));
 }
+
+#[test]
+fn the_default_state_asks_for_a_configuration(rt: HostRuntime) {
+    assert!(rt; DhcpV6InfoState::default() == DhcpV6InfoState::Inform);
+}
