@@ -12,9 +12,13 @@ ghost use Rattle.std.specs.Prelude.{
   length,
   ◌<◌,
   ◌≤◌,
+  ◌+◌,
+  ◌==◌,
+  drop,
   IfErr,
   IfOk,
 };
+ghost use Rattle.std.specs.List.{list_any, position_or_len};
 ghost use Rattle.dhcp_stream.specs.TextReader as values;
 ghost use Rattle.dhcp_stream.specs.TextReader.{field_at, in_field, tag_at, Finds, Takes};
 
@@ -23,6 +27,9 @@ use dhcp_wire::{Bytes, DhcpError, Sequence, Text};
 use std::alloc::{AllocError, AllocFailed, Global};
 use std::marker::Model;
 use std::net::Ipv4Addr;
+
+// How many bytes are compared at once.
+const PIECE: usize = 32;
 
 /// Why something was not read.
 #[derive(Clone, Copy, Debug, PartialEq, Eq)]
@@ -206,13 +213,48 @@ pub fn cut_field(text: &[u8], end: u8) -> Option<(&[u8], &[u8])>
     Some((&text[..len], &text[len + 1..]))
 }
 
-// Where the first such byte is.
+// Where the first such byte is. Whole pieces without it are passed first.
 #[tactic(auto, unfolding(crate::specs::TextReader::first_of))]
 fn first(text: &[u8], end: u8) -> Option<usize>
     ensures first { result ≡ values.first_of end text.now }
     ensures within { IfSome result (λ len. len < length text.now) }
 {
+    let passed = pieces_without(text, end);
+    let place = first_by_one(&text[passed..], end)?;
+    Some(passed + place)
+}
+
+// The same, one byte at a time.
+#[tactic(auto, unfolding(crate::specs::TextReader::first_of))]
+fn first_by_one(text: &[u8], end: u8) -> Option<usize>
+    ensures first { result ≡ values.first_of end text.now }
+    ensures within { IfSome result (λ len. len < length text.now) }
+{
     text.iter().position(|byte| *byte == end)
+}
+
+// How many bytes there are in the whole pieces at the front that have no such byte.
+fn pieces_without(text: &[u8], end: u8) -> usize
+    ensures within { result ≤ length text.now }
+    ensures passed { position_or_len (λ byte. byte == end) text.now
+        ≡ result + position_or_len (λ byte. byte == end) (drop result text.now) }
+{
+    let mut passed = 0;
+    while text.len() - passed >= PIECE && !has(&text[passed..passed + PIECE], end) {
+        passed += PIECE;
+    }
+    passed
+}
+
+// Whether there is such a byte. It looks at all bytes, so that many are compared at once.
+fn has(piece: &[u8], end: u8) -> bool
+    ensures { result ≡ list_any (λ byte. byte == end) piece.now }
+{
+    let mut found = false;
+    for byte in piece {
+        found = found | (*byte == end);
+    }
+    found
 }
 
 /// What a field gave, where that may need memory: none is `Malformed`, and any error is out of
