@@ -1,6 +1,6 @@
 -- Hex text in lower case is one to one with bytes.
 use Rattle.std.proofs.Common.{◌≡◌, ℕ, zero, suc, ◌+◌, ◌*◌, ◌/◌, ◌%◌, ◌<◌, ◌==◌, Bool, true, ltb, ◌&&◌, cond, List, [], ◌∷◌, ◌++◌, length, take, slice_index, slice_set, replicate, lit<, Option, Some, None, unwrap_or, Result, Ok, Err, refl, sym, ap, ◌∙◌, inl, inr, arith}
-use Rattle.std.proofs.lemmas.List.{append-nil, append_assoc, nil_from_length, take_more, take_more_set}
+use Rattle.std.proofs.lemmas.List.{append-nil, append_assoc, length-set, nil_from_length, take_more, take_more_set}
 use Rattle.std.specs.List.{AllPass}
 use Rattle.std.specs.Result.{IsOk, MatchResult, result_ok, result_unwrap_or}
 use Rattle.std.specs.Str.{IsAscii, IsUtf8}
@@ -226,6 +226,22 @@ octet_more digits octets i high low fits room small spelled_high spelled_low bef
     let one = encode_lower-one byte in
     let two = take-two digits i fits in
     rw (more, encode_lower-append (take i octets) (byte ∷ []), one, upper, lower, spelled_high, spelled_low, two, before) refl
+
+-- the digits of one more octet are put
+pub digits_more : (octets digits : List ℕ) (i high low : ℕ) → i < length octets → length digits ≡ 2 * length octets
+    → high ≡ slice_index lower_digits (slice_index octets i / 16) → low ≡ slice_index lower_digits (slice_index octets i % 16)
+    → take (2 * i) digits ≡ encode_lower (take i octets)
+    → take (2 * (i + 1)) (slice_set (slice_set digits (2 * i) high) (2 * i + 1) low) ≡ encode_lower (take (i + 1) octets)
+digits_more octets digits i high low room long first second before =
+    let two : 2 * (i + 1) ≡ 2 * i + 1 + 1 = omega arith in
+    let one = encode_lower-one (slice_index octets i) in
+    let put : List ℕ = slice_set digits (2 * i) high in
+    let wide = length-set digits (2 * i) high in
+    let last = take_more_set put (2 * i + 1) low (omega (arith, wide, room, long)) in
+    let front = take_more_set digits (2 * i) high (omega (arith, room, long)) in
+    let more = take_more octets i 0 room in
+    rw (two, last, front, more, encode_lower-append (take i octets) (slice_index octets i ∷ []), one, first, second, before)
+    (append_assoc (encode_lower (take i octets)) (slice_index lower_digits (slice_index octets i / 16) ∷ []) (slice_index lower_digits (slice_index octets i % 16) ∷ []))
 
 -- bytes, one of them put in another's place, are bytes
 pub IsBytes-set : (bytes : List ℕ) (i byte : ℕ) → byte < 256 → IsBytes bytes → IsBytes (slice_set bytes i byte)

@@ -1,6 +1,6 @@
 //! Fields of texts in hex: bytes, MAC addresses and IPv6 addresses; and the digits of octets.
 
-ghost use Rattle.std.specs.Prelude.{◌≡◌, ◌↔◌, ◌<◌, ◌≤◌, ◌%◌, ◌++◌, IfOk, IsTrue, OnOk, length, slice_index, string_bytes, true};
+ghost use Rattle.std.specs.Prelude.{◌≡◌, ◌↔◌, ◌<◌, ◌≤◌, ◌*◌, ◌%◌, ◌++◌, IfOk, IsTrue, OnOk, length, slice_index, string_bytes, true};
 ghost use Rattle.std.specs.List.{AllPass};
 ghost use Rattle.std.specs.Net.Addr.{IsIpv6Addr};
 ghost use Rattle.hex.specs.Hex.{IsBytes, encode_lower, lower_digits};
@@ -85,8 +85,32 @@ fn push_piece(text: &mut String, octets: &[u8]) -> Result<(), AllocError>
 {
     let mut room = [0u8; 128];
     let digits = &mut room[..2 * octets.len()];
-    hex::encode_to_slice(octets, digits).unwrap();
+    put_digits(octets, digits);
     text.push_str(std::str::from_utf8(digits).unwrap())
+}
+
+// Puts the digits of octets into room for them. Each comes from its value alone, with no table, so
+// that many are made at once.
+fn put_digits(octets: &[u8], digits: &mut [u8])
+    requires { length digits.old ≡ 2 * length octets.now }
+    ensures { digits.new ≡ encode_lower octets.now }
+{
+    'octets: for i in 0..octets.len() {
+        digits[2 * i] = digit(octets[i] / 16);
+        digits[2 * i + 1] = digit(octets[i] % 16);
+    }
+}
+
+// The lower-case hex digit of a value.
+fn digit(value: u8) -> u8
+    requires { value < 16 }
+    ensures { result ≡ slice_index lower_digits value }
+{
+    if value < 10 {
+        value + b'0'
+    } else {
+        value - 10 + b'a'
+    }
 }
 
 // Whether each byte is a lower-case hex digit. It looks at all of them, so that many are compared
