@@ -1,6 +1,6 @@
 //! Reading a lease.
 
-ghost use Rattle.std.specs.Prelude.{◌≡◌, ◌⊎◌, Err, IfErr, IfOk, IfSome, IsSomeAnd, IsTrue, None, Ok, OnOk, Some};
+ghost use Rattle.std.specs.Prelude.{◌≡◌, ◌⊎◌, ◌+◌, ◌*◌, ◌%◌, ◌^◌, Err, IfErr, IfOk, IfSome, IsSomeAnd, IsTrue, None, Ok, OnOk, Some};
 ghost use Rattle.dhcp_wire.specs.Error.{no_memory};
 ghost use Rattle.dhcp4_msg.specs.Message.{read_message};
 ghost use Rattle.dhcp4_msg.specs.Options.{message_type};
@@ -59,7 +59,10 @@ pub struct Counter {
 impl Words for Counter {
     ghost left = { λ _. None };
 
-    fn next_word(&mut self) -> u32 {
+    fn next_word(&mut self) -> u32
+        ensures { (result ≡ self.new.next)
+            × (self.new.next ≡ (self.old.next * 1664525 + 1013904223) % 2 ^ 32) }
+    {
         self.next = self
             .next
             .wrapping_mul(1_664_525)

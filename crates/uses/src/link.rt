@@ -1,8 +1,8 @@
 //! A link of one's own, and words of one's own: what the sockets of a client received waits in the
-//! link, and what it sends waits for them. Neither says anything of the outside.
+//! link, and what it sends waits for them. To a client neither says anything of the outside.
 
-ghost use Rattle.std.specs.Prelude.{◌≡◌, None, []};
-ghost use Rattle.dhcp_wire.specs.Fault.{HasCause};
+ghost use Rattle.std.specs.Prelude.{◌≡◌, ◌<◌, ◌++◌, ◌∷◌, None, [], vec_len};
+ghost use Rattle.uses.specs.Link.{Queues};
 
 use dhcp_clock::{DhcpLink, Handed, Packet, Sent, Words};
 use dhcp_wire::Bytes;
@@ -16,7 +16,6 @@ pub struct QueueLink {
     pub received: Option<Packet>,
     /// The messages that wait to be sent.
     pub to_send: Vec<Handed>,
-    faults: u64,
 }
 
 impl QueueLink {
@@ -28,13 +27,12 @@ impl QueueLink {
         QueueLink {
             received: None,
             to_send: Vec::new(alloc),
-            faults: 0,
         }
     }
 
-    // Puts a message among those to send. It is never refused, and so the count of faults stays.
+    // Puts a message behind those that wait to be sent. It is never refused.
     fn put(&mut self, message: Handed) -> Sent
-        ensures { HasCause (result ≡ Sent.Refused) self.old.faults self.new.faults }
+        ensures { Queues message result self.old self.new }
     {
         match self.to_send.push(message) {
             Ok(()) => Sent::Taken,
@@ -46,21 +44,30 @@ impl QueueLink {
 impl DhcpLink for QueueLink {
     ghost shown = { λ _. None };
 
-    ghost faults = { λ link. link.faults };
+    ghost faults = { λ _. 0 };
 
-    fn send_frame(&mut self, bytes: Bytes) -> Sent {
+    fn send_frame(&mut self, bytes: Bytes) -> Sent
+        ensures { Queues (Handed.Frame bytes) result self.old self.new }
+    {
         self.put(Handed::Frame(bytes))
     }
 
-    fn send_udp4(&mut self, from: Ipv4Addr, to: Ipv4Addr, bytes: Bytes) -> Sent {
+    fn send_udp4(&mut self, from: Ipv4Addr, to: Ipv4Addr, bytes: Bytes) -> Sent
+        ensures { Queues (Handed.Udp4 from to bytes) result self.old self.new }
+    {
         self.put(Handed::Udp4(from, to, bytes))
     }
 
-    fn send_udp6(&mut self, from: Ipv6Addr, index: u32, bytes: Bytes) -> Sent {
+    fn send_udp6(&mut self, from: Ipv6Addr, index: u32, bytes: Bytes) -> Sent
+        ensures { Queues (Handed.Udp6 from index bytes) result self.old self.new }
+    {
         self.put(Handed::Udp6(from, index, bytes))
     }
 
-    fn receive(&mut self) -> Option<Packet> {
+    fn receive(&mut self) -> Option<Packet>
+        ensures packet { result ≡ self.old.received }
+        ensures after { self.new ≡ record self.old { received = None } }
+    {
         self.received.take()
     }
 }
@@ -75,7 +82,11 @@ pub struct SystemWords {
 impl Words for SystemWords {
     ghost left = { λ _. None };
 
-    fn next_word(&mut self) -> u32 {
+    fn next_word(&mut self) -> u32
+        ensures last { 0 < vec_len self.old.left →
+            self.old.left.items ≡ self.new.left.items ++ result ∷ [] }
+        ensures none { self.old.left.items ≡ [] → (result ≡ 0) × (self.new.left.items ≡ []) }
+    {
         self.left.pop().unwrap_or(0)
     }
 }
