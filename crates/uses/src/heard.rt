@@ -1,5 +1,8 @@
 //! What contracts of one's own say of a client: of a poll, and of the lease that it holds.
 
+#[cfg(test)]
+mod tests;
+
 ghost use Rattle.std.specs.Prelude.{◌≡◌, ◌<◌, ◌^◌, Box};
 ghost use Rattle.std.specs.declared.alloc.Global.{Global};
 ghost use Rattle.dhcp4_client.specs.Granted.{HeardLease};

@@ -7,27 +7,10 @@ use std::net::Ipv6Addr;
 use std::test::Fail;
 
 #[test]
-fn a_client_that_searches_sleeps_until_its_next_discover(rt: HostRuntime) -> Result<(), Fail> {
-    let alloc = rt.alloc();
-    let mut words = WordList::new(vec![in alloc; 1, 0, 0]?);
-    let mut client = new_client(alloc, &mut words)?;
-    let mut interface = Interface::default();
-    let wake = turn(
-        &mut client,
-        &mut interface,
-        0,
-        &mut words,
-        &mut MemLink::new(alloc),
-    )?;
-    assert_eq!(rt; wake, Some(3_000));
-    Ok(())
-}
-
-#[test]
 fn a_client_of_ipv6_sleeps_until_its_first_solicit(rt: HostRuntime) -> Result<(), Fail> {
     let alloc = rt.alloc();
-    let mut words = WordList::new(vec![in alloc; 1, 600]?);
-    let mut client = new_client6(alloc, Ipv6Addr::LOCALHOST, &mut words)?;
+    let mut words = WordList::new(vec![in alloc; 1, 600].expect(&rt, "memory"));
+    let mut client = new_client6(alloc, Ipv6Addr::LOCALHOST, &mut words).expect(&rt, "memory");
     let mut interface = Interface::default();
     let wake = turn(
         &mut client,
@@ -35,16 +18,16 @@ fn a_client_of_ipv6_sleeps_until_its_first_solicit(rt: HostRuntime) -> Result<()
         0,
         &mut words,
         &mut MemLink::new(alloc),
-    )?;
-    assert_eq!(rt; wake, Some(600));
+    );
+    assert_eq!(rt; wake, Ok(Some(600)));
     Ok(())
 }
 
 #[test]
 fn a_client_for_configuration_alone_runs_in_the_same_loop(rt: HostRuntime) -> Result<(), Fail> {
     let alloc = rt.alloc();
-    let mut words = WordList::new(vec![in alloc; 700]?);
-    let mut client = new_info_client(alloc, Ipv6Addr::LOCALHOST, &mut words)?;
+    let mut words = WordList::new(vec![in alloc; 700].expect(&rt, "memory"));
+    let mut client = new_info_client(alloc, Ipv6Addr::LOCALHOST, &mut words).expect(&rt, "memory");
     let mut interface = Interface::default();
     let wake = turn(
         &mut client,
@@ -52,16 +35,17 @@ fn a_client_for_configuration_alone_runs_in_the_same_loop(rt: HostRuntime) -> Re
         0,
         &mut words,
         &mut MemLink::new(alloc),
-    )?;
-    assert_eq!(rt; wake, Some(700));
+    );
+    assert_eq!(rt; wake, Ok(Some(700)));
     Ok(())
 }
 
 #[test]
 fn a_configuration_gives_a_discover(rt: HostRuntime) -> Result<(), Fail> {
     let alloc = rt.alloc();
-    let config = configuration(alloc)?;
-    assert!(rt; discover_payload(alloc, 7, &config)?.is_some());
+    let config = configuration(alloc).expect(&rt, "memory");
+    let payload = discover_payload(alloc, 7, &config).expect(&rt, "memory");
+    assert!(rt; payload.is_some());
     Ok(())
 }
 

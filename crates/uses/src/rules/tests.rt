@@ -47,7 +47,7 @@ fn a_client_asks_holds_and_is_released(rt: HostRuntime) -> Result<(), Fail> {
     let alloc = rt.alloc();
     let rules = Repeater { alloc };
     let mut client = client();
-    let mut words = WordList::new(vec![in alloc; 500, 0]?);
+    let mut words = WordList::new(vec![in alloc; 500, 0].expect(&rt, "memory"));
     let mut link = MemLink::new(alloc);
     assert_eq!(rt; next_poll(&rules, &client), Some(0));
     assert_eq!(rt;
@@ -91,11 +91,11 @@ fn a_replay_reports_each_event(rt: HostRuntime) -> Result<(), Fail> {
         refuse: false,
         input: Input::CleanUp,
     };
-    let events = vec![in alloc; first, second, third]?;
-    let outputs = replay(alloc, &rules, &mut client, &mut words, events)?;
+    let events = vec![in alloc; first, second, third].expect(&rt, "memory");
+    let outputs = replay(alloc, &rules, &mut client, &mut words, events).expect(&rt, "memory");
     let mut kinds = Vec::new(alloc);
     for output in outputs {
-        kinds.push(kind(output))?;
+        kinds.push(kind(output)).expect(&rt, "memory");
     }
     assert_eq!(rt; kinds.as_slice(), [2, 1, 3, 1].as_slice());
     Ok(())

@@ -1,0 +1,22 @@
+use crate::{QueueLink, SystemWords, end_of_lease, hear, new_client};
+use dhcp4_client::DhcpV4State;
+use dhcp4_lease::DhcpV4Lease;
+use std::test::Fail;
+
+#[test]
+fn a_lease_that_is_held_has_an_end_and_is_renewed(rt: HostRuntime) -> Result<(), Fail> {
+    let alloc = rt.alloc();
+    let mut words = SystemWords {
+        left: Vec::new(alloc),
+    };
+    let mut client = new_client(alloc, &mut words).expect(&rt, "memory");
+    let mut lease = DhcpV4Lease::empty(alloc);
+    lease.t1_sec = 50;
+    lease.t2_sec = 80;
+    lease.lease_time_sec = 100;
+    client.done(lease, 1_000).expect(&rt, "times in order");
+    assert_eq!(rt; end_of_lease(&client), Some(101_000));
+    let heard = hear(&mut client, 51_000, &mut words, &mut QueueLink::new(alloc));
+    assert_eq!(rt; heard, Ok(Some(DhcpV4State::Renewing)));
+    Ok(())
+}
