@@ -3,10 +3,11 @@
 ghost use Rattle.std.specs.Prelude.{◌≡◌, IfErr, IfOk, Ok, false, option_copied, true};
 ghost use Rattle.dhcp6_relay.specs.Layer.{is_forward};
 ghost use Rattle.dhcp6_relay.specs.Outcome.{Gives};
+ghost use Rattle.dhcp6_relay.specs.Relay.{parsed_relay};
 ghost use Rattle.dhcp6_relay.specs.Reply.{reply_of};
 ghost use Rattle.dhcp6_relay.specs.RoundTrip.{answer_to};
 ghost use Rattle.dhcp6_relay.specs.Wrap.{wrapped_message};
-ghost use Rattle.uses.specs.Relay.{hop_of};
+ghost use Rattle.uses.specs.Relay.{answer_through, hop_of};
 
 use dhcp_wire::Bytes;
 use dhcp6_relay::{Relay, RelayError, laws, parse_relay, reply_along, wrap_forward};
@@ -47,6 +48,7 @@ impl<'a> RelayAgent<'a> {
     ) -> Result<Relay, RelayError>
         requires relayed { wrapped_message message.now (hop_of self.now) ≡ Ok forward.now }
         requires replied { reply_of forward.now answer.now ≡ Ok reply.now }
+        ensures read { IfOk result (λ relay. parsed_relay reply.now ≡ Ok relay) }
         ensures peer { IfOk result (λ relay. relay.peer ≡ self.now.peer) }
         ensures interface { IfOk result (λ relay.
             relay.interface ≡ option_copied self.now.interface) }
@@ -69,7 +71,8 @@ impl<'a> RelayAgent<'a> {
 
 /// What comes back to a client for its message, which two relay agents relay to a server, if the
 /// server answers so: each relay agent unwraps what it receives and sends on what is inside. It is
-/// the answer of the server.
+/// the answer of the server, or the first refusal on the way: that of `wrap_forward` at either
+/// relay agent, or of `reply_along`. Else out of memory is the only error.
 pub fn answer_through_two(
     alloc: Global,
     message: &[u8],
@@ -78,7 +81,8 @@ pub fn answer_through_two(
     answer: &[u8],
 ) -> Result<Bytes, RelayError>
     requires { is_forward message.now ≡ false }
-    ensures { IfOk result (λ bytes. bytes ≡ answer.now) }
+    ensures { Gives (λ bytes. bytes) result
+        (answer_through (hop_of first.now) (hop_of second.now) message.now answer.now) }
 {
     let once = first.relay(alloc, message)?;
     let twice = second.relay(alloc, once.as_slice())?;
