@@ -1,9 +1,13 @@
 //! What a manager keeps of a lease of IPv6, over a link and words of which nothing is known.
 
-ghost use Rattle.std.specs.Prelude.{◌≡◌, ◌⊎◌, ◌<◌, ◌^◌, IfSome, None, OnErr, OnOk, Some};
+ghost use Rattle.std.specs.Prelude.{◌≡◌, ◌⊎◌, ◌<◌, ◌^◌, IfErr, None, OnErr, OnOk, Some};
 ghost use Rattle.std.specs.declared.net.Ipv6Addr.{Ipv6Addr};
-ghost use Rattle.dhcp6_client.specs.Rules.{held_lease};
-ghost use Rattle.uses.specs.Upkeep6.{HeardAddress, IsInUse};
+ghost use Rattle.dhcp_wire.specs.Error.{no_memory};
+ghost use Rattle.dhcp_history.specs.Calls.{IsHeldRelease};
+ghost use Rattle.dhcp_history.specs.Errors.{timed_out};
+ghost use Rattle.dhcp_history.specs.Seen.{seen};
+ghost use Rattle.dhcp6_client.specs.Rules.{held_lease, protocol};
+ghost use Rattle.uses.specs.Upkeep6.{FollowsPoll, HeardAddress, KeepsTurn, address_in_use};
 
 use crate::manager::{Follow, Interface, turn};
 use dhcp_clock::{DhcpLink, Words};
@@ -12,8 +16,9 @@ use dhcp6_client::DhcpV6Client;
 use std::net::Ipv6Addr;
 
 /// One poll at a moment, in milliseconds, which the interface follows; whether the state changed.
-/// An address that the interface takes on is that of a lease which was read from the packet that
-/// the link gave last in this poll, carried as awaited and with the client's transaction id.
+/// An error is that of the poll. An address that the interface takes on is that of a lease which
+/// was read from the packet that the link gave last in this poll, carried as awaited and with the
+/// client's transaction id.
 pub fn follow_poll6<W: Words, L: DhcpLink>(
     client: &mut DhcpV6Client,
     interface: &mut Interface,
@@ -22,7 +27,10 @@ pub fn follow_poll6<W: Words, L: DhcpLink>(
     link: &mut L,
 ) -> Result<bool, DhcpError>
     requires { now < 2 ^ 60 }
-    ensures { (address : Ipv6Addr) → interface.new.address6 ≡ Some address →
+    ensures followed { FollowsPoll now result interface.old interface.new
+        (seen client.old (W.left words.old) (L.shown link.old) (L.faults link.old))
+        (seen client.new (W.left words.new) (L.shown link.new) (L.faults link.new)) }
+    ensures heard { (address : Ipv6Addr) → interface.new.address6 ≡ Some address →
         (interface.old.address6 ≡ Some address) ⊎ HeardAddress W.gives L.moves now address
         client.old words.old words.new link.old link.new }
 {
@@ -33,8 +41,8 @@ pub fn follow_poll6<W: Words, L: DhcpLink>(
     Ok(true)
 }
 
-/// One turn at a moment, in milliseconds. Whatever it returns, the interface has afterwards at most
-/// the address of a lease that the client holds and that has not ended.
+/// One turn at a moment, in milliseconds. Whatever it returns, the interface has afterwards the
+/// address that may be used, and no other. Moment and errors are those of `turn`.
 pub fn keep_turn6<W: Words, L: DhcpLink>(
     client: &mut DhcpV6Client,
     interface: &mut Interface,
@@ -43,7 +51,10 @@ pub fn keep_turn6<W: Words, L: DhcpLink>(
     link: &mut L,
 ) -> Result<Option<u64>, DhcpError>
     requires { now < 2 ^ 60 }
-    ensures { IfSome interface.new.address6 (λ address. IsInUse now address client.new) }
+    ensures turned { KeepsTurn W.gives L.moves W.left L.shown L.faults now result interface.old
+        interface.new client.old client.new words.old words.new link.old link.new }
+    ensures kept { interface.new.address6 ≡ address_in_use now client.new }
+    ensures errors { IfErr result (λ error. (error ≡ timed_out) ⊎ (error ≡ no_memory)) }
 {
     let next = turn(client, interface, now, words, link);
     interface.address6 = address_in_use6(client, now);
@@ -51,9 +62,9 @@ pub fn keep_turn6<W: Words, L: DhcpLink>(
 }
 
 /// The address that may be used at a moment, in milliseconds: that of the lease that is held,
-/// before the end of that. A client that keeps an error may hold a lease that has ended.
+/// before the end of that; else none. A client that keeps an error may hold a lease that has ended.
 pub fn address_in_use6(client: &DhcpV6Client, now: u64) -> Option<Ipv6Addr>
-    ensures { IfSome result (λ address. IsInUse now address client.now) }
+    ensures { result ≡ address_in_use now client.now }
 {
     let end = client.lease_end()?;
     if end <= now {
@@ -64,16 +75,18 @@ pub fn address_in_use6(client: &DhcpV6Client, now: u64) -> Option<Ipv6Addr>
 }
 
 /// Releases the lease that is held, at a moment in milliseconds, and takes its address off the
-/// interface; whether one was held. Unless it fails, the client holds nothing afterwards; if it
-/// fails, the interface is unchanged.
+/// interface; whether one was held. Client, link and errors are those of `release_held`. Unless it
+/// fails, the client holds nothing afterwards; if it fails, the interface is unchanged.
 pub fn give_up6<L: DhcpLink>(
     client: &mut DhcpV6Client,
     interface: &mut Interface,
     now: u64,
     link: &mut L,
 ) -> Result<bool, DhcpError>
+    ensures released { IsHeldRelease protocol now result client.old client.new
+        (L.shown link.old) (L.shown link.new) (L.faults link.old) (L.faults link.new) }
     ensures dropped { OnOk result (held_lease client.new.client.state ≡ None) }
-    ensures taken_off { OnOk result (interface.new.address6 ≡ None) }
+    ensures taken_off { OnOk result (interface.new ≡ record interface.old { address6 = None }) }
     ensures unchanged { OnErr result (interface.new ≡ interface.old) }
 {
     let released = client.release_held(now, link)?;
