@@ -1,44 +1,46 @@
 //! What a manager keeps of a lease of IPv4, over a link and words of which nothing is known.
 
-ghost use Rattle.std.specs.Prelude.{◌≡◌, ◌⊎◌, ◌<◌, ◌^◌, IfErr, None, OnErr, OnOk, Some};
+ghost use Rattle.std.specs.Prelude.{◌≡◌, ◌⊎◌, ◌<◌, ◌^◌, IfErr, IfOk, None, OnErr, OnOk, Some};
 ghost use Rattle.std.specs.declared.net.Ipv4Addr.{Ipv4Addr};
 ghost use Rattle.dhcp_wire.specs.Error.{no_memory};
-ghost use Rattle.dhcp_history.specs.Calls.{IsHeldRelease};
+ghost use Rattle.dhcp_history.specs.Calls.{HasNextPoll, IsHeldRelease, IsRun};
 ghost use Rattle.dhcp_history.specs.Errors.{timed_out};
 ghost use Rattle.dhcp_history.specs.Seen.{seen};
-ghost use Rattle.dhcp4_client.specs.Rules.{held_lease, protocol};
-ghost use Rattle.uses.specs.Upkeep.{FollowsPoll, HeardAddress, KeepsTurn, address_in_use};
+ghost use Rattle.dhcp4_client.specs.Rules.{held_lease, needs_memory, protocol};
+ghost use Rattle.dhcp4_client.specs.State.{plain_state};
+ghost use Rattle.uses.specs.Upkeep.{HeardAddress, address_in_use, interface_following};
 
 use crate::manager::{Follow, Interface, turn};
 use dhcp_clock::{DhcpLink, Words};
 use dhcp_wire::DhcpError;
-use dhcp4_client::DhcpV4Client;
+use dhcp4_client::{DhcpV4Client, DhcpV4State};
 use std::net::Ipv4Addr;
 
-/// One poll at a moment, in milliseconds, which the interface follows; whether the state changed.
-/// An error is that of the poll. An address that the interface takes on is that of a lease which
-/// was read from the packet that the link gave last in this poll, carried as awaited and with the
-/// client's transaction id.
+/// One poll at a moment, in milliseconds, which the interface follows: it returns what `run` says
+/// of it, and only a change of the state changes the interface. An address that the interface takes
+/// on is that of a lease which was read from the packet that the link gave last in this poll,
+/// carried as awaited and with the client's transaction id.
 pub fn follow_poll<W: Words, L: DhcpLink>(
     client: &mut DhcpV4Client,
     interface: &mut Interface,
     now: u64,
     words: &mut W,
     link: &mut L,
-) -> Result<bool, DhcpError>
+) -> Result<Option<DhcpV4State>, DhcpError>
     requires { now < 2 ^ 60 }
-    ensures followed { FollowsPoll now result interface.old interface.new
-        (seen client.old (W.left words.old) (L.shown link.old) (L.faults link.old))
+    ensures ran { IsRun protocol plain_state (needs_memory client.old.config.message_forms) now
+        result (seen client.old (W.left words.old) (L.shown link.old) (L.faults link.old))
         (seen client.new (W.left words.new) (L.shown link.new) (L.faults link.new)) }
+    ensures followed { interface.new ≡ interface_following result interface.old }
     ensures heard { (address : Ipv4Addr) → interface.new.address ≡ Some address →
         (interface.old.address ≡ Some address) ⊎ HeardAddress W.gives L.moves now address
         client.old words.old words.new link.old link.new }
 {
-    let Some(state) = client.run(now, words, link)? else {
-        return Ok(false);
-    };
-    interface.follow(&state);
-    Ok(true)
+    let polled = client.run(now, words, link);
+    if let Ok(Some(state)) = &polled {
+        interface.follow(state);
+    }
+    polled
 }
 
 /// One turn at a moment, in milliseconds. Whatever it returns, the interface has afterwards the
@@ -51,9 +53,9 @@ pub fn keep_turn<W: Words, L: DhcpLink>(
     link: &mut L,
 ) -> Result<Option<u64>, DhcpError>
     requires { now < 2 ^ 60 }
-    ensures turned { KeepsTurn W.gives L.moves W.left L.shown L.faults now result interface.old
-        interface.new client.old client.new words.old words.new link.old link.new }
     ensures kept { interface.new.address ≡ address_in_use now client.new }
+    ensures next { IfOk result (λ moment.
+        HasNextPoll (protocol client.new.config) moment client.new.client) }
     ensures errors { IfErr result (λ error. (error ≡ timed_out) ⊎ (error ≡ no_memory)) }
 {
     let next = turn(client, interface, now, words, link);

@@ -74,7 +74,7 @@ fn a_client_without_a_lease_has_nothing_to_give_up(rt: HostRuntime) -> Result<()
     let mut interface = Interface::default();
     let mut link = QueueLink::new(alloc);
     let changed = follow_poll6(&mut client, &mut interface, 0, &mut words, &mut link);
-    assert_eq!(rt; changed, Ok(false));
+    assert_eq!(rt; changed, Ok(None));
     assert_eq!(rt;
         give_up6(&mut client, &mut interface, 0, &mut link),
         Ok(false)
