@@ -2,6 +2,7 @@
 
 ghost use Rattle.std.specs.Prelude.{◌≡◌, ◌⊎◌, false, true, None, IfErr, IfOk, OnOk};
 ghost use Rattle.dhcp_wire.specs.Error.{no_memory};
+ghost use Rattle.dhcp_clock.specs.Words.{DrawsBy};
 ghost use Rattle.dhcp4_client.specs.Client as client4;
 ghost use Rattle.dhcp4_client.specs.Rules as rules4;
 ghost use Rattle.dhcp4_client.specs.State as states4;
@@ -10,7 +11,7 @@ ghost use Rattle.dhcp4_client.specs.declared.client_state.ClientState as held4;
 ghost use Rattle.dhcp4_client.specs.declared.client_state.Exchange as exchange4;
 ghost use Rattle.dhcp4_client.specs.declared.state.PlainState as plain4;
 ghost use Rattle.dhcp4_lease.specs.Lease as lease4;
-ghost use Rattle.dhcp6_msg.specs.Config.{ethernet_duid};
+ghost use Rattle.dhcp6_msg.specs.Config.{client_duid, ethernet_duid};
 ghost use Rattle.dhcp6_msg.specs.Lease.{is_unspecified};
 ghost use Rattle.dhcp6_client.specs.Client as client6;
 ghost use Rattle.dhcp6_client.specs.Rules as rules6;
@@ -157,6 +158,8 @@ impl ManagedClient for DhcpV6InfoClient {
 #[tactic(auto, using(crate::proofs::Facts::facts))]
 pub fn new_client<W: Words>(alloc: Global, words: &mut W) -> Result<DhcpV4Client, DhcpError>
     ensures begun { IfOk result (client4.Begins config4 None) }
+    ensures given { IfOk result (λ client.
+        W.gives client.client.standing.exchange.xid words.old words.new) }
     ensures error { IfErr result (λ e. e ≡ no_memory) }
 {
     let mut config = DhcpV4Config::new(alloc, "eth0")?;
@@ -179,6 +182,9 @@ pub fn new_client6<W: Words>(
     words: &mut W,
 ) -> Result<DhcpV6Client, DhcpError>
     ensures begun { IfOk result (client6.Begins (config6 link_local) None 0) }
+    ensures given { IfOk result (λ client. DrawsBy W.gives
+        (client6.first_draws (config6 link_local))
+        words.old (client6.drawn_for client) words.new) }
     ensures identifier { IfOk result (λ client. client.config.duid ≡ ethernet_duid mac) }
     ensures begins { OnOk result (is_unspecified link_local ≡ false) }
     ensures error { IfErr result (λ e. (e ≡ no_memory)
@@ -201,6 +207,8 @@ pub fn new_info_client<W: Words>(
     words: &mut W,
 ) -> Result<DhcpV6InfoClient, DhcpError>
     ensures begun { IfOk result (client_info.Begins (config6 link_local)) }
+    ensures given { IfOk result (λ client. DrawsBy W.gives (client_duid (config6 link_local))
+        words.old client.config.duid words.new) }
     ensures begins { OnOk result (is_unspecified link_local ≡ false) }
     ensures error { IfErr result (λ e. (e ≡ no_memory)
         ⊎ ((e.kind ≡ ErrorKind.InvalidArgument) × (is_unspecified link_local ≡ true))) }
