@@ -6,6 +6,8 @@ pub mod Life4Lemmas
 pub mod Life6Lemmas
 pub mod LifeLemmas
 pub mod PlayLemmas
+pub mod PrintedLemmas
+pub mod PrintedScripts
 pub mod ReplayLemmas
 pub mod RequestLemmas
 pub mod RisingLemmas

@@ -1,4 +1,5 @@
 pub mod Life
+pub mod Printed
 pub mod Promises
 pub mod Promises4
 pub mod Promises6

@@ -6,6 +6,7 @@
 mod family;
 pub mod laws;
 mod life;
+mod printed;
 mod replayed;
 mod replayed4;
 mod replayed6;
@@ -25,6 +26,7 @@ pub use dhcp_stream::{
 pub use dhcp_tool::{Status, status_without_words};
 pub use family::{FamilyClient, boxed, play};
 pub use life::{FamilyState, numbered_event, outputs_of};
+pub use printed::print_script;
 pub use replayed::{Replayed, replay};
 pub use replayed4::{Replayed4, begun4, replay4};
 pub use replayed6::{Replayed6, begun6, replay6};

@@ -27,9 +27,9 @@ ghost use Rattle.dhcp_replay.specs.Tool.{
 ghost use Rattle.dhcp_replay.specs.declared.request.Request.{Request};
 ghost use Rattle.dhcp_replay.specs.declared.request.Request.TheVariants.{Demo};
 
-use crate::replay;
 use crate::request::{Request, request_of};
-use dhcp_output::{print_outputs, print_summary};
+use crate::{print_script, replay};
+use dhcp_output::print_summary;
 use dhcp_script::{Script, demo_script, read_script, upgrade};
 use dhcp_stream::{Sink, Source};
 use dhcp_tool::{Status, ToolRequest, out_of_memory, run_tool};
@@ -198,12 +198,14 @@ fn script_answer(alloc: Global, script: &Script) -> Result<Bytes, Status>
 }
 
 // The text to print for a valid script.
-#[tactic(auto, unfolding(crate::specs::Tool::printed))]
+#[tactic(auto, unfolding(crate::specs::Tool::printed, dhcp_output::specs::Output::outputs_text))]
 fn text_for(alloc: Global, script: &Script) -> Result<Bytes, DhcpError>
     requires { is_valid script.now ≡ true }
     ensures text { Makes (λ text. text) result (printed script.now) }
     ensures promises { OnOk result (KeepsPromisesOf script.now) }
 {
-    let replayed = replay(alloc, script)?;
-    print_outputs(alloc, replayed.outputs())
+    let mut text = String::new(alloc);
+    print_script(alloc, script, &mut text)?;
+    text.push_str("ok\n")?;
+    Ok(Bytes::from(text.into_bytes()))
 }

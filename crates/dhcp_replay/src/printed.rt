@@ -1,0 +1,122 @@
+//! A script, played and printed event by event: nothing that is reported is kept longer than its
+//! lines need.
+
+ghost use Rattle.std.specs.Prelude.{◌≡◌, ◌++◌, ◌<◌, ◌^◌, IfErr, OnOk, string_bytes, true};
+ghost use Rattle.std.specs.List.{flat_map};
+ghost use Rattle.dhcp_wire.specs.Error.{no_memory};
+ghost use Rattle.dhcp_history.specs.EventLoop.{event_at};
+ghost use Rattle.dhcp_output.specs.Output.{output_line};
+ghost use Rattle.dhcp_script.specs.Script as scripts;
+ghost use Rattle.dhcp_script.specs.Script4 as v4;
+ghost use Rattle.dhcp_script.specs.Script6 as v6;
+ghost use Rattle.dhcp_replay.specs.Life.{CanPlay, numbered_event};
+ghost use Rattle.dhcp_replay.specs.Printed.{IsPrinted, played_events};
+ghost use Rattle.dhcp_replay.specs.Promises.{KeepsPromisesOf};
+ghost use Rattle.dhcp_replay.specs.Promises4.{KeepsPromisesOfV4};
+ghost use Rattle.dhcp_replay.specs.Promises6.{KeepsPromisesOfV6};
+ghost use Rattle.dhcp_replay.specs.Replayed as lives;
+
+use crate::family::FamilyClient;
+use crate::life::{FamilyState, numbered_event, outputs_of};
+use crate::{begun4, begun6, laws};
+use dhcp_clock::{WordList, Words};
+use dhcp_output::push_outputs;
+use dhcp_script::{Event, Script, Script4, Script6};
+use dhcp_wire::DhcpError;
+use std::alloc::Global;
+
+/// Plays a script, and puts a line for each thing that is reported at the end of a text. Out of
+/// memory is the only error; a part of the lines may then be there.
+pub fn print_script(alloc: Global, script: &Script, text: &mut String) -> Result<(), DhcpError>
+    requires { scripts.is_valid script.now ≡ true }
+    ensures lines { OnOk result (string_bytes text.new
+        ≡ string_bytes text.old ++ flat_map output_line (lives.outputs_of script.now)) }
+    ensures promises { OnOk result (KeepsPromisesOf script.now) }
+    ensures error { IfErr result (λ error. error ≡ no_memory) }
+{
+    match script {
+        Script::V4(script) => print_script4(alloc, script, text),
+        Script::V6(script) => print_script6(alloc, script, text),
+    }
+}
+
+// Plays an IPv4 script, and prints what is reported.
+fn print_script4(alloc: Global, script: &Script4, text: &mut String) -> Result<(), DhcpError>
+    requires { v4.is_valid script.now ≡ true }
+    ensures lines { OnOk result (string_bytes text.new
+        ≡ string_bytes text.old ++ flat_map output_line (lives.outputs_of_v4 script.now)) }
+    ensures promises { OnOk result (KeepsPromisesOfV4 script.now) }
+    ensures error { IfErr result (λ error. error ≡ no_memory) }
+{
+    let mut words = WordList::new(script.words.as_slice().to_vec(alloc)?);
+    let lease = script.held_lease(alloc)?;
+    let config = script.config(alloc)?;
+    let events = script.events.as_slice();
+    let mut client = begun4(alloc, config, lease, &mut words, script.start, events)?;
+    laws::promises_are_kept(&client);
+    dhcp4_client::laws::table_is_lawful();
+    print_events(alloc, &mut *client, &mut words, events, text)
+}
+
+// Plays an IPv6 script, and prints what is reported.
+fn print_script6(alloc: Global, script: &Script6, text: &mut String) -> Result<(), DhcpError>
+    requires { v6.is_valid script.now ≡ true }
+    ensures lines { OnOk result (string_bytes text.new
+        ≡ string_bytes text.old ++ flat_map output_line (lives.outputs_of_v6 script.now)) }
+    ensures promises { OnOk result (KeepsPromisesOfV6 script.now) }
+    ensures error { IfErr result (λ error. error ≡ no_memory) }
+{
+    let mut words = WordList::new(script.words.as_slice().to_vec(alloc)?);
+    let lease = script.held_lease(alloc)?;
+    let config = script.config(alloc)?;
+    let events = script.events.as_slice();
+    let mut client = begun6(alloc, config, lease, &mut words, script.start, events)?;
+    laws::promises6_are_kept(&client);
+    dhcp6_client::laws::table_is_lawful();
+    print_events(alloc, &mut *client, &mut words, events, text)
+}
+
+// Plays events, and prints what is reported of each before the next one.
+fn print_events<C: FamilyClient, W: Words>(
+    alloc: Global,
+    client: &mut C,
+    words: &mut W,
+    events: &[Event],
+    text: &mut String,
+) -> Result<(), DhcpError>
+    requires { CanPlay events.now }
+    ensures printed { OnOk result (IsPrinted C.Reported.changed
+        (played_events C.protocol (C.parts client.old) events.now)
+        (string_bytes text.old) (string_bytes text.new) (C.parts client.old) (C.parts client.new)
+        (W.left words.old) (W.left words.new)) }
+    ensures error { IfErr result (λ error. error ≡ no_memory) }
+{
+    let mut number = 1u32;
+    for event in events {
+        print_event(alloc, client, words, number, event, text)?;
+        number += 1;
+    }
+    Ok(())
+}
+
+// Plays an event, and prints what is reported.
+fn print_event<C: FamilyClient, W: Words>(
+    alloc: Global,
+    client: &mut C,
+    words: &mut W,
+    number: u32,
+    event: &Event,
+    text: &mut String,
+) -> Result<(), DhcpError>
+    requires { event.now.moment < 2 ^ 60 }
+    ensures printed { OnOk result (IsPrinted C.Reported.changed
+        (event_at (C.protocol (C.parts client.old).config) (numbered_event number event.now))
+        (string_bytes text.old) (string_bytes text.new) (C.parts client.old) (C.parts client.new)
+        (W.left words.old) (W.left words.new)) }
+    ensures error { IfErr result (λ error. error ≡ no_memory) }
+{
+    let events = vec![in alloc; numbered_event(alloc, number, event)?]?;
+    let reported = client.play(words, events)?;
+    let outputs = outputs_of(alloc, reported)?;
+    Ok(push_outputs(alloc, text, outputs.as_slice())?)
+}
