@@ -7,5 +7,5 @@ mod printer;
 mod summary;
 
 pub use output::{Output, OutputWhat, Reported};
-pub use printer::{print_outputs, push_outputs};
+pub use printer::{print_outputs, push_output, push_outputs};
 pub use summary::print_summary;

@@ -21,6 +21,7 @@ ghost use Rattle.dhcp_output.specs.Output.{
 use crate::info::push_info_state;
 use crate::{Output, OutputWhat, Reported};
 use dhcp_clock::Handed;
+use dhcp_script::field::Field;
 use dhcp_script::{push_hex, push_lease4, push_lease6};
 use dhcp_wire::{Bytes, DhcpError, ErrorKind};
 use dhcp4_client::DhcpV4State;
@@ -62,13 +63,15 @@ fn push_each(alloc: Global, text: &mut String, outputs: &[Output]) -> Result<(),
     Ok(())
 }
 
-// Puts the line of an output at the end of a text: the number of its event, and what is reported.
-fn push_output(alloc: Global, text: &mut String, output: &Output) -> Result<(), AllocError>
+/// Puts the line of an output at the end of a text: the number of its event, and what is reported.
+/// After an error, which is out of memory, a part of it may be there. A failure of a kind other than
+/// `Timeout` is printed as `io_error`.
+pub fn push_output(alloc: Global, text: &mut String, output: &Output) -> Result<(), AllocError>
     ensures { OnOk result (string_bytes text.new
         ≡ string_bytes text.old ++ output_line (plain_output output.now)) }
 {
-    let event = output.event;
-    write!(text, "{event} ")?;
+    output.event.push_to(text)?;
+    text.push(' ')?;
     push_report(alloc, text, &output.what)?;
     text.push('\n')
 }
@@ -118,9 +121,11 @@ fn push_message(text: &mut String, message: &Handed) -> Result<(), AllocError>
             push_hex(text, bytes.as_slice())
         }
         Handed::Udp4(from, to, bytes) => {
-            let from = *from;
-            let to = *to;
-            write!(text, "udp4 {from} {to} ")?;
+            text.push_str("udp4 ")?;
+            from.push_to(text)?;
+            text.push(' ')?;
+            to.push_to(text)?;
+            text.push(' ')?;
             push_hex(text, bytes.as_slice())
         }
         Handed::Udp6(_, _, bytes) => {

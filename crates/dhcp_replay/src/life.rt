@@ -123,13 +123,20 @@ pub fn outputs_of<S: FamilyState>(
         map plain_output outputs ≡ map (lives.output_of S.changed) reported.items) }
 {
     let mut outputs = Vec::new(alloc);
-    for output in reported {
-        outputs.push(Output {
-            event: output.event,
-            what: what_of(output.report),
-        })?;
+    for report in reported {
+        outputs.push(output_of(report))?;
     }
     Ok(Sequence::from(outputs))
+}
+
+/// What was reported, as an output of a script.
+pub fn output_of<S: FamilyState>(reported: dhcp_history::NumberedReport<S, Handed>) -> Output
+    ensures { plain_output result ≡ lives.output_of S.changed reported }
+{
+    Output {
+        event: reported.event,
+        what: what_of(reported.report),
+    }
 }
 
 // What is reported.

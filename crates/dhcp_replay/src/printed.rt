@@ -10,23 +10,23 @@ ghost use Rattle.dhcp_script.specs.Script as scripts;
 ghost use Rattle.dhcp_script.specs.Script4 as v4;
 ghost use Rattle.dhcp_script.specs.Script6 as v6;
 ghost use Rattle.dhcp_replay.specs.Life.{CanPlay, numbered_event};
-ghost use Rattle.dhcp_replay.specs.Printed.{IsPrinted, played_events};
+ghost use Rattle.dhcp_replay.specs.Printed.{IsPrinted, lines_of, played_events};
 ghost use Rattle.dhcp_replay.specs.Promises.{KeepsPromisesOf};
 ghost use Rattle.dhcp_replay.specs.Promises4.{KeepsPromisesOfV4};
 ghost use Rattle.dhcp_replay.specs.Promises6.{KeepsPromisesOfV6};
 ghost use Rattle.dhcp_replay.specs.Replayed as lives;
 
 use crate::family::FamilyClient;
-use crate::life::{FamilyState, numbered_event, outputs_of};
+use crate::life::{FamilyState, numbered_event, output_of};
 use crate::{begun4, begun6, laws};
-use dhcp_clock::{WordList, Words};
-use dhcp_output::push_outputs;
+use dhcp_clock::{Handed, WordList, Words};
+use dhcp_output::push_output;
 use dhcp_script::{Event, Script, Script4, Script6};
 use dhcp_wire::DhcpError;
-use std::alloc::Global;
+use std::alloc::{AllocError, Global};
 
-/// Plays a script, and puts a line for each thing that is reported at the end of a text. Out of
-/// memory is the only error; a part of the lines may then be there.
+/// Plays a valid script, and puts a line for each thing that is reported at the end of a text. Out
+/// of memory is the only error; a part of the lines may then be there.
 pub fn print_script(alloc: Global, script: &Script, text: &mut String) -> Result<(), DhcpError>
     requires { scripts.is_valid script.now ≡ true }
     ensures lines { OnOk result (string_bytes text.new
@@ -117,6 +117,20 @@ fn print_event<C: FamilyClient, W: Words>(
 {
     let events = vec![in alloc; numbered_event(alloc, number, event)?]?;
     let reported = client.play(words, events)?;
-    let outputs = outputs_of(alloc, reported)?;
-    Ok(push_outputs(alloc, text, outputs.as_slice())?)
+    Ok(print_reports(alloc, reported, text)?)
+}
+
+// Prints what was reported.
+fn print_reports<S: FamilyState>(
+    alloc: Global,
+    reported: Vec<dhcp_history::NumberedReport<S, Handed>>,
+    text: &mut String,
+) -> Result<(), AllocError>
+    ensures { OnOk result (string_bytes text.new
+        ≡ string_bytes text.old ++ lines_of S.changed reported.items) }
+{
+    for report in reported {
+        push_output(alloc, text, &output_of(report))?;
+    }
+    Ok(())
 }

@@ -44,7 +44,7 @@ pub fn duid_of(alloc: Global, bytes: &[u8]) -> Result<DhcpV6Duid, DhcpError>
 pub fn bytes_of(alloc: Global, duid: &DhcpV6Duid) -> Result<Bytes, DhcpError>
     ensures { Makes (λ bytes. bytes) result (written_duid duid.now) }
 {
-    let mut buf = BufferMut::new(alloc);
+    let mut buf = BufferMut::with_capacity(alloc, MAX_DUID_LEN)?;
     duid.emit(&mut buf)?;
     Ok(buf.into_bytes())
 }

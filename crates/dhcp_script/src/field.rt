@@ -14,6 +14,7 @@ ghost use Rattle.dhcp_stream.specs.TextReader.{
 ghost use Rattle.dhcp_script.specs.FieldReader.{flag_in, items_in};
 ghost use Rattle.dhcp_script.specs.Lease6Reader.{ia_type_in};
 
+use crate::decimal::{push_address, push_decimal};
 use crate::hex_text::push_hex;
 use dhcp_stream::{
     ReadError, TextReader, codes_field, cut_field, found, hex_field, ipv4_field, ipv6_field,
@@ -61,8 +62,7 @@ impl Field for Ipv4Addr {
     }
 
     fn push_to(&self, text: &mut String) -> Result<(), AllocError> {
-        let address = *self;
-        write!(text, "{address}")
+        push_address(text, *self)
     }
 }
 
@@ -98,8 +98,7 @@ impl Field for u32 {
     }
 
     fn push_to(&self, text: &mut String) -> Result<(), AllocError> {
-        let number = *self;
-        write!(text, "{number}")
+        push_decimal(text, *self)
     }
 }
 
@@ -117,8 +116,7 @@ impl Field for u16 {
     }
 
     fn push_to(&self, text: &mut String) -> Result<(), AllocError> {
-        let number = *self;
-        write!(text, "{number}")
+        push_decimal(text, u32::from(*self))
     }
 }
 
@@ -136,8 +134,7 @@ impl Field for u8 {
     }
 
     fn push_to(&self, text: &mut String) -> Result<(), AllocError> {
-        let number = *self;
-        write!(text, "{number}")
+        push_decimal(text, u32::from(*self))
     }
 }
 
@@ -197,7 +194,11 @@ impl Field for DhcpV4ClasslessRoute {
             prefix_length,
             router,
         } = *self;
-        write!(text, "{destination}/{prefix_length}/{router}")
+        push_address(text, destination)?;
+        text.push('/')?;
+        push_decimal(text, u32::from(prefix_length))?;
+        text.push('/')?;
+        push_address(text, router)
     }
 }
 

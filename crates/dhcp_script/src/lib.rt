@@ -2,6 +2,7 @@
 #![tactic(auto)]
 
 pub mod codes;
+mod decimal;
 mod demo;
 pub mod duid;
 mod event;

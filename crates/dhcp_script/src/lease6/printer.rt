@@ -36,8 +36,8 @@ fn push_server_more(text: &mut String, lease: &Lease6) -> Result<(), AllocError>
     ensures { OnOk result (string_bytes text.new ≡ string_bytes text.old
         ++ (decimal lease.now.prefix_len ++ 32 ∷ (hex_text lease.now.srv_duid ++ 32 ∷ []))) }
 {
-    let prefix_len = lease.prefix_len;
-    write!(text, "{prefix_len} ")?;
+    lease.prefix_len.push_to(text)?;
+    text.push(' ')?;
     push_hex(text, lease.srv_duid.as_slice())?;
     text.push(' ')
 }
@@ -49,9 +49,10 @@ fn push_client_more(text: &mut String, lease: &Lease6) -> Result<(), AllocError>
         ++ (decimal lease.now.valid_time_sec ++ 32 ∷ (decimal lease.now.xid
         ++ 32 ∷ (hex_text lease.now.cli_duid ++ 32 ∷ [])))) }
 {
-    let valid_time_sec = lease.valid_time_sec;
-    let xid = lease.xid;
-    write!(text, "{valid_time_sec} {xid} ")?;
+    lease.valid_time_sec.push_to(text)?;
+    text.push(' ')?;
+    lease.xid.push_to(text)?;
+    text.push(' ')?;
     push_hex(text, lease.cli_duid.as_slice())?;
     text.push(' ')
 }
