@@ -4,20 +4,27 @@
 usage, at the top of the repository, after: cd crates/dhcp_main && rt run < stdin -- run
   tools/benchmark_scripts.py [EVENTS..]        2000 and 20000 where none is given
 
+The environment may name other programs, as PROGRAMS=old:new: they are run in turns, with a line of
+the table each.
+
 Three kinds of scripts of each family: a client with a lease that is polled before T1; a lease that
 is renewed again and again; a client whose Discover or Solicit is open, with a packet for another
-client in each event. Each figure is the best of five runs, the start of the process taken off;
-memory is the most that the process held, by the command `time` of GNU, which has to be there.
+client in each event. Each figure is the best of 40 runs, which read a file and write to the null
+device, with the start of the process taken off; memory is the most that the process held, by the
+command `time` of GNU, which has to be there.
 """
 
+import itertools
 import os
+import pathlib
 import subprocess
 import sys
+import tempfile
 import time
 
 TOP = os.path.dirname(os.path.dirname(os.path.abspath(__file__)))
-PROGRAM = f"{TOP}/crates/dhcp_main/out/dhcp_main"
-ROUNDS = 5
+PROGRAMS = os.environ.get("PROGRAMS", f"{TOP}/crates/dhcp_main/out/dhcp_main").split(":")
+ROUNDS = 40
 
 
 def parts_of_a_life(name):
@@ -91,51 +98,59 @@ def foreign6(count, advertise, _):
 FAMILIES = (("renewal", (idle, renewed, foreign)), ("renewal6", (idle6, renewed6, foreign6)))
 
 
-def seconds_of(text, wanted=0):
-    """Returns the time of the fastest run over this text, which ends with the wanted status, and
-    what it printed."""
-    best, printed = None, b""
+def seconds_of(path):
+    """Returns the time of the fastest run of each program over this file; they run in turns."""
+    best = [float("inf")] * len(PROGRAMS)
     for _ in range(ROUNDS):
-        begin = time.perf_counter()
-        done = subprocess.run([PROGRAM, "run"], input=text, capture_output=True)
-        took = time.perf_counter() - begin
-        best, printed = min(took, best or took), done.stdout
-        if done.returncode != wanted:
-            sys.exit(f"status {done.returncode}")
-    return best, printed
+        for place, program in enumerate(PROGRAMS):
+            with open(path, "rb") as file:
+                begin = time.perf_counter()
+                subprocess.run([program, "run"], stdin=file, stdout=subprocess.DEVNULL)
+                best[place] = min(best[place], time.perf_counter() - begin)
+    return best
 
 
-def peak_of(text):
-    """Returns the most memory, in KiB, of a run over this text, as the command `time` tells it."""
-    command = ["env", "time", "--format", "%M", PROGRAM, "run"]
+def printed_by(program, path):
+    """Returns what a program prints for this file, which is a script."""
+    with open(path, "rb") as file:
+        return subprocess.run([program, "run"], stdin=file, capture_output=True, check=True).stdout
+
+
+def peak_of(program, path):
+    """Returns the most memory, in KiB, of a run over this file, as the command `time` tells it."""
+    command = ["env", "time", "--format", "%M", program, "run"]
     streams = {"stdout": subprocess.DEVNULL, "stderr": subprocess.PIPE}
-    done = subprocess.run(command, input=text, check=True, **streams)
-    return int(done.stderr)
+    with open(path, "rb") as file:
+        return int(subprocess.run(command, stdin=file, check=True, **streams).stderr)
 
 
-def cells_of(name, count, text, start):
-    """Returns the cells of a line of the table, where a process takes this long to start."""
-    took, printed = seconds_of(text)
-    took = max(took - start, 1e-6)
-    moved = (len(text) + len(printed)) / 1e6
-    cells = [name, f"{count:,}", f"{took:.4f}", f"{count / took:,.0f}", f"{len(text) / 1e6:.2f}"]
-    cells += [f"{len(printed) / 1e6:.2f}", f"{moved / took:.0f}"]
-    return cells + [f"{peak_of(text) / 1024:.1f}"]
+def lines_of(name, count, path, starts):
+    """Returns the lines of the table for a script, where the programs take so long to start."""
+    read = path.stat().st_size
+    for program, took, start in zip(PROGRAMS, seconds_of(path), starts):
+        took = max(took - start, 1e-6)
+        printed = len(printed_by(program, path))
+        cells = [name, f"{count:,}", f"{took:.4f}", f"{count / took:,.0f}"]
+        cells += [f"{read / 1e6:.2f}", f"{printed / 1e6:.2f}"]
+        cells += [f"{(read + printed) / took / 1e6:.0f}", f"{peak_of(program, path) / 1024:.1f}"]
+        yield f"| {' | '.join(cells)} |"
 
 
 def main(words):
     counts = [int(word) for word in words] or [2000, 20000]
-    # No text at all is the text of no script: status 2.
-    start, _ = seconds_of(b"", wanted=2)
     heads = ["script", "events", "seconds", "events a second", "MB read", "MB printed"]
     print(f"| {' | '.join(heads + ['MB a second', 'MiB of memory'])} |")
     print("|---|---|---|---|---|---|---|---|")
-    for script, kinds in FAMILIES:
-        front, offer, ack = parts_of_a_life(script)
-        for kind in kinds:
-            for count in counts:
-                text = "\n".join([*front, *kind(count, offer, ack), "end", ""]).encode()
-                print(f"| {' | '.join(cells_of(kind.__name__, count, text, start))} |")
+    with tempfile.TemporaryDirectory() as folder:
+        path = pathlib.Path(folder, "script")
+        # No text at all is the text of no script.
+        path.touch()
+        starts = seconds_of(path)
+        for script, kinds in FAMILIES:
+            front, offer, ack = parts_of_a_life(script)
+            for kind, count in itertools.product(kinds, counts):
+                path.write_text("\n".join([*front, *kind(count, offer, ack), "end", ""]), "ascii")
+                print(*lines_of(kind.__name__, count, path, starts), sep="\n", flush=True)
     return 0
 
 
