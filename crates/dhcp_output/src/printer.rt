@@ -64,8 +64,8 @@ fn push_each(alloc: Global, text: &mut String, outputs: &[Output]) -> Result<(),
 }
 
 /// Puts the line of an output at the end of a text: the number of its event, and what is reported.
-/// After an error, which is out of memory, a part of it may be there. A failure of a kind other than
-/// `Timeout` is printed as `io_error`.
+/// After an error, which is out of memory, a part of it may be there. A failure of a kind other
+/// than `Timeout` is printed as `io_error`.
 pub fn push_output(alloc: Global, text: &mut String, output: &Output) -> Result<(), AllocError>
     ensures { OnOk result (string_bytes text.new
         ≡ string_bytes text.old ++ output_line (plain_output output.now)) }
