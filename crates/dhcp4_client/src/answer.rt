@@ -12,6 +12,7 @@ ghost use Rattle.dhcp4_client.specs.Answer as answers;
 ghost use Rattle.dhcp4_client.specs.Message.{renewal_server};
 
 use crate::client_state::ClientState;
+use crate::granted_lease::GrantedLease;
 use crate::message::{CLIENT_PORT, renewal_server};
 use dhcp_clock::{Packet, PacketKind, Words};
 use dhcp_frame::FrameView;
@@ -25,7 +26,7 @@ use std::net::Ipv4Addr;
 #[derive(Drop)]
 pub enum Answer {
     /// A server offers or grants this lease.
-    Granted(DhcpV4Lease),
+    Granted(GrantedLease),
     /// A server refuses the request.
     Refused,
 }
@@ -234,7 +235,7 @@ pub fn lease_of<W: Words>(
     alloc: Global,
     message: &DhcpV4View,
     words: &mut W,
-) -> Result<Option<DhcpV4Lease>, DhcpError>
+) -> Result<Option<GrantedLease>, DhcpError>
     ensures drawn { IfOk result (λ lease. GivesDrawn (read_lease message.now)
         (W.left words.old) lease (W.left words.new)) }
     ensures taken { IfOk result (λ lease. DrawsBy W.gives (read_lease message.now)
@@ -242,5 +243,8 @@ pub fn lease_of<W: Words>(
     ensures error { IfErr result (λ error. error ≡ no_memory) }
 {
     let message = message.to_message(alloc)?;
-    none_if_refused(DhcpV4Lease::from_message(alloc, message, words))
+    match DhcpV4Lease::from_message(alloc, message, words) {
+        Ok(lease) => Ok(Some(GrantedLease::new(alloc, lease)?)),
+        Err(error) => none_if_refused(Err(error)),
+    }
 }

@@ -5,6 +5,7 @@
 mod answer;
 mod client;
 mod client_state;
+mod granted_lease;
 pub mod laws;
 mod message;
 mod rules;

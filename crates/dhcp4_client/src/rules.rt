@@ -10,12 +10,12 @@ ghost use Rattle.dhcp4_lease.specs.Config.{is_within_limits};
 ghost use Rattle.dhcp4_client.specs.Message as messages;
 ghost use Rattle.dhcp4_client.specs.Rules as table;
 ghost use Rattle.dhcp4_client.specs.State.{plain_state};
-ghost use Rattle.dhcp4_client.specs.declared.state.PlainState.TheVariants as plain;
 ghost use Rattle.dhcp4_client.specs.declared.client_state.Exchange.{Exchange};
 
 use crate::DhcpV4State;
 use crate::answer::{Answer, Awaited, read_answer};
 use crate::client_state::{ClientState, Exchange};
+use crate::granted_lease::GrantedLease;
 use crate::message::{attempt_message, release_message};
 use dhcp_clock::{Handed, Packet, Words, discovery_wait, draw, half_wait};
 use dhcp_history::{AttemptStart, BoundLease, NewAttempt, Rules, StateReport};
@@ -138,11 +138,7 @@ impl Rules for ClientRules {
         let Some(awaited) = Awaited::in_state(self.config.message_forms(), state) else {
             return Ok(None);
         };
-        // not by map_err, which copies a lease that is answered
-        match read_answer(self.alloc, awaited, exchange.xid, &packet, words) {
-            Ok(answer) => Ok(answer),
-            Err(_) => Err(AllocError),
-        }
+        read_answer(self.alloc, awaited, exchange.xid, &packet, words).map_err(|_| AllocError)
     }
 
     fn after_answer(
@@ -196,7 +192,7 @@ impl ClientRules {
     fn after_grant(
         &self,
         state: &mut ClientState,
-        lease: DhcpV4Lease,
+        lease: GrantedLease,
         now: u64,
         exchange: &mut Exchange,
     ) -> Result<StateReport<DhcpV4State>, AllocError>
@@ -209,7 +205,8 @@ impl ClientRules {
     {
         match state {
             ClientState::InitReboot => {
-                enter(state, ClientState::Selecting(lease));
+                let offer = Box::into_inner(lease.into_box());
+                enter(state, ClientState::Selecting(offer));
                 *exchange = requesting(self.config.message_forms(), *exchange);
                 Ok(StateReport::new(DhcpV4State::Selecting))
             }
@@ -225,7 +222,7 @@ impl ClientRules {
     fn bind(
         &self,
         state: &mut ClientState,
-        lease: DhcpV4Lease,
+        lease: GrantedLease,
         now: u64,
         exchange: &mut Exchange,
     ) -> Result<StateReport<DhcpV4State>, AllocError>
@@ -236,10 +233,14 @@ impl ClientRules {
             reported ≡ table.public_state state.new) }
         ensures unchanged { OnErr result (state.new ≡ state.old) }
     {
-        let reported = done_with(self.alloc, &lease)?;
-        enter(state, ClientState::Done(BoundLease::new(lease, now)));
+        // not by map_err, which copies the lease once more
+        let kept = match lease.lease().try_clone(self.alloc) {
+            Ok(kept) => kept,
+            Err(_) => return Err(AllocError),
+        };
+        enter(state, ClientState::Done(BoundLease::new(kept, now)));
         *exchange = restarted(*exchange);
-        Ok(StateReport::new(reported))
+        Ok(StateReport::new(DhcpV4State::Done(lease.into_box())))
     }
 }
 
@@ -286,19 +287,12 @@ fn exchange_after_end(state: &ClientState, exchange: Exchange) -> Exchange
     }
 }
 
-// Goes to a state.
-fn enter(state: &mut ClientState, next: ClientState)
+// Goes to a state. Its type is a parameter, since an assignment is proved for each field of a type
+// that is named.
+fn enter<S: Drop>(state: &mut S, next: S)
     ensures { state.new ≡ next }
 {
-    drop(mem::replace(state, next));
-}
-
-// What is reported of a client that has this lease.
-fn done_with(alloc: Global, lease: &DhcpV4Lease) -> Result<DhcpV4State, AllocError>
-    ensures { IfOk result (λ state. plain_state state ≡ plain.Done lease.now) }
-{
-    let copy = lease.try_clone(alloc).map_err(|_| AllocError)?;
-    Ok(DhcpV4State::Done(Box::new(alloc, copy)?))
+    *state = next;
 }
 
 // Whether this request of an offer is the last one. By RFC 2131 section 3.1 a client gives up an

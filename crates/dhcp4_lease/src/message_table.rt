@@ -16,6 +16,9 @@ use dhcp4_msg::{DhcpV4Message, DhcpV4MessageType, DhcpV4Option, DhcpV4Options};
 use std::alloc::Global;
 use std::net::Ipv4Addr;
 
+// How many options a message of a client has at most.
+const MOST_OPTIONS: usize = 6;
+
 /// The Discover that searches for servers, with this transaction id (RFC 2131, section 4.4.1). The
 /// configuration is within its limits, as `is_within_limits` tests; so for each message below. Out
 /// of memory is the only error.
@@ -242,6 +245,7 @@ fn add_options(
     requires { IsTrue (is_within_limits config.now) }
     ensures { Adds result options.old options.new (table.options_of config.now row) }
 {
+    options.reserve(MOST_OPTIONS)?;
     add_host_name(options, config.host_name.try_clone(alloc)?)?;
     add_requested(options, row.requested)?;
     options.insert(DhcpV4Option::MessageType(row.message_type))?;

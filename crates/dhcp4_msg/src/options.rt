@@ -132,6 +132,16 @@ impl DhcpV4Options {
         })
     }
 
+    /// Makes room for so many more options, which spares the growth in steps. Contracts do not see
+    /// the room. Out of memory is the only error.
+    pub fn reserve(&mut self, additional: usize) -> Result<(), DhcpError>
+        ensures same { self.new ≡ self.old }
+        ensures error { IfErr result (λ e. e ≡ no_memory) }
+    {
+        self.kept.reserve(additional)?;
+        Ok(())
+    }
+
     /// The option of that code, if it is kept: it is of that code, and can be written.
     #[tactic(auto, unfolding(crate::specs::OptionCode::number_of))]
     pub fn get(&self, code: DhcpV4OptionCode) -> Option<&DhcpV4Option>

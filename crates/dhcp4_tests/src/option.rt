@@ -54,6 +54,13 @@ fn what_is_kept_is_handed_on(rt: HostRuntime) {
 }
 
 #[test]
+fn room_for_more_options_changes_nothing(rt: HostRuntime) {
+    let mut options = with_mask(rt.alloc()).expect(&rt, "memory");
+    options.reserve(6).expect(&rt, "memory");
+    assert!(rt; options == with_mask(rt.alloc()).expect(&rt, "memory"));
+}
+
+#[test]
 fn of_two_options_51_the_second_is_kept(rt: HostRuntime) {
     let mut options = DhcpV4Options::new(rt.alloc());
     enter_first(rt.alloc(), &[0x33, 4, 0, 0, 0, 100], &mut options).expect(&rt, "memory");

@@ -225,11 +225,12 @@ impl ClientRules {
     }
 }
 
-// Goes to a state.
-fn enter(state: &mut ClientState, next: ClientState)
+// Goes to a state. Its type is a parameter, since an assignment is proved for each field of a type
+// that is named.
+fn enter<S: Drop>(state: &mut S, next: S)
     ensures { state.new ≡ next }
 {
-    drop(mem::replace(state, next));
+    *state = next;
 }
 
 // What is reported of a client that has this lease.

@@ -32,7 +32,7 @@ use std::marker::Model;
 use std::sync::ledger::Ledger;
 
 // How many options a usual message has at most: room for these is made before they are read.
-const USUAL_OPTIONS: usize = 8;
+const USUAL_OPTIONS: usize = 6;
 
 // How many bytes the code and the length of an option have.
 const OPTION_HEADER_LEN: usize = 4;
