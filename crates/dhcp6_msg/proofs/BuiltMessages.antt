@@ -9,6 +9,7 @@ use Rattle.std.specs.FinMap.Entries.{by_order, find, put}
 use Rattle.std.proofs.lemmas.Bool.{and_parts, leb-true}
 use Rattle.dhcp6_opt.specs.declared.duid.DhcpV6Duid.{DhcpV6Duid}
 use Rattle.dhcp6_opt.specs.declared.option.DhcpV6Option.{DhcpV6Option}
+use Rattle.dhcp6_opt.specs.declared.option.DhcpV6Option.TheVariants.{ClientId, ElapsedTime}
 use Rattle.dhcp6_opt.specs.declared.option_code.DhcpV6OptionCode.{DhcpV6OptionCode}
 use Rattle.dhcp6_opt.specs.Laws.{AreInRange, HasType, IsInRange, options_read_back}
 use Rattle.dhcp6_opt.specs.Options.{OptionLists, options_under, read_options, with_option, with_options, written_options}
@@ -21,7 +22,7 @@ use Rattle.dhcp6_msg.specs.declared.mode.DhcpV6Mode.TheVariants as modes
 use Rattle.dhcp6_msg.specs.Config.{Config}
 use Rattle.dhcp6_msg.specs.Laws.{ReadsBackAs, message_read_back}
 use Rattle.dhcp6_msg.specs.Lease.{Lease, is_duid}
-use Rattle.dhcp6_msg.specs.Message.{client_options}
+use Rattle.dhcp6_msg.specs.Message.{elapsed_hundredths}
 use Rattle.dhcp6_msg.specs.MessageTable.{RowParts, association_of_mode, association_of_type, association_option, lease_association, options_of, request_option, server_option, table_message}
 use Rattle.dhcp6_msg.proofs.LawLemmas.{length-id_bytes, message_back}
 
@@ -84,9 +85,13 @@ has_type : (duid : DhcpV6Duid) → IsTrue (is_duid duid) → HasType duid
 has_type duid is = leb-true _ _ (and_parts _ _ is).0
 
 -- those of every message
-client_in_range : (duid : DhcpV6Duid) (elapsed_ms : ℕ) → IsTrue (is_duid duid) → AllByRecursion IsInRange (client_options duid elapsed_ms)
+client_in_range : (duid : DhcpV6Duid) → IsTrue (is_duid duid) → IsInRange (ClientId duid)
 unfolding IsInRange
-client_in_range duid elapsed_ms is = (has_type duid is, (tt, tt))
+client_in_range duid is = has_type duid is
+
+elapsed_in_range : (hundredths : ℕ) → AllByRecursion IsInRange (ElapsedTime hundredths ∷ [])
+unfolding IsInRange
+elapsed_in_range hundredths = (tt, tt)
 
 server_in_range : (server : Option DhcpV6Duid) → IfSome server (λ duid. IsTrue (is_duid duid)) → AllByRecursion IsInRange (server_option server)
 unfolding IsInRange
@@ -116,9 +121,9 @@ row_in_range id config row is =
     let requests : List DhcpV6Option = request_option row.asks config.request_opts in
     let both = all_of_both server association (server_in_range row.server is.server) (association_in_range row.association is.association) in
     let own = all_of_both (server ++ association) requests both (request_in_range row.asks config.request_opts) in
-    let client = client_in_range config.duid row.elapsed_ms is.client in
+    let hundredths : ℕ = elapsed_hundredths row.elapsed_ms in
     all_added (options_of config row) empty none_kept
-    (all_of_both (client_options config.duid row.elapsed_ms) (server ++ association ++ requests) client own)
+    (client_in_range config.duid is.client, all_of_both (server ++ association ++ requests) (ElapsedTime hundredths ∷ []) own (elapsed_in_range hundredths))
 
 -- its id has three bytes
 length-table_xid : (id : ℕ) (config : Config) (row : RowParts) → length (table_message id config row).xid ≡ 3

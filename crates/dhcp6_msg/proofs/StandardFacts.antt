@@ -147,9 +147,9 @@ config = record {
 
 pub solicit-written : map written_option (options_of config (solicit config.mode 0 0)) ≡
     (0 ∷ 1 ∷ 0 ∷ 10 ∷ 0 ∷ 3 ∷ 0 ∷ 1 ∷ 2 ∷ 0 ∷ 0 ∷ 0 ∷ 0 ∷ 1 ∷ [])
-    ∷ (0 ∷ 8 ∷ 0 ∷ 2 ∷ 0 ∷ 0 ∷ [])
     ∷ (0 ∷ 3 ∷ 0 ∷ 12 ∷ 0 ∷ 0 ∷ 0 ∷ 0 ∷ 0 ∷ 0 ∷ 0 ∷ 0 ∷ 0 ∷ 0 ∷ 0 ∷ 0 ∷ [])
     ∷ (0 ∷ 6 ∷ 0 ∷ 2 ∷ 0 ∷ 23 ∷ [])
+    ∷ (0 ∷ 8 ∷ 0 ∷ 2 ∷ 0 ∷ 0 ∷ [])
     ∷ []
 unfolding association_of_mode written_option written_value written_raw_option number_of written_duid as_option written_ia_na option_code
 solicit-written = refl

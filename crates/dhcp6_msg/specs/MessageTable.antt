@@ -4,7 +4,7 @@ use Rattle.dhcp6_opt.specs.declared.duid.DhcpV6Duid.{DhcpV6Duid}
 use Rattle.dhcp6_opt.specs.declared.ia.address.DhcpV6OptionIaAddr.{DhcpV6OptionIaAddr}
 use Rattle.dhcp6_opt.specs.declared.ia.prefix.DhcpV6OptionIaPrefix.{DhcpV6OptionIaPrefix}
 use Rattle.dhcp6_opt.specs.declared.option.DhcpV6Option.{DhcpV6Option}
-use Rattle.dhcp6_opt.specs.declared.option.DhcpV6Option.TheVariants.{ServerId, IANA, IATA, IAPD, OptionRequestOption}
+use Rattle.dhcp6_opt.specs.declared.option.DhcpV6Option.TheVariants.{ClientId, ServerId, IANA, IATA, IAPD, OptionRequestOption, ElapsedTime}
 use Rattle.dhcp6_opt.specs.declared.option_code.DhcpV6OptionCode.{DhcpV6OptionCode}
 use Rattle.dhcp6_opt.specs.Ia.{plain_address, plain_prefix, unspecified}
 use Rattle.dhcp6_msg.specs.declared.message.DhcpV6Message.{DhcpV6Message}
@@ -16,7 +16,7 @@ use Rattle.dhcp6_msg.specs.declared.mode.DhcpV6Mode.{DhcpV6Mode}
 use Rattle.dhcp6_msg.specs.declared.mode.DhcpV6Mode.TheVariants as modes
 use Rattle.dhcp6_msg.specs.Config.{Config}
 use Rattle.dhcp6_msg.specs.Lease.{Lease}
-use Rattle.dhcp6_msg.specs.Message.{client_options, message_with}
+use Rattle.dhcp6_msg.specs.Message.{elapsed_hundredths, message_with}
 
 -- ---- identity associations
 
@@ -164,10 +164,12 @@ own_options config row =
     server_option row.server ++ association_option row.association
     ++ request_option row.asks config.request_opts
 
--- the options of a row, each of another code; they are written by rising code
+-- the options of a row, each of another code; they are written by rising code, which is as they
+-- stand here, but for an IA_PD
 abbrev pub options_of : Config → RowParts → List DhcpV6Option
 options_of config row =
-    client_options config.duid row.elapsed_ms ++ own_options config row
+    ClientId config.duid ∷ (own_options config row
+    ++ ElapsedTime (elapsed_hundredths row.elapsed_ms) ∷ [])
 
 -- the message of a row with this transaction id
 unfoldable pub table_message : ℕ → Config → RowParts → DhcpV6Message

@@ -1,9 +1,10 @@
 //! DHCPv6 messages between a client and a server, RFC 8415 section 8.
 
-ghost use Rattle.std.specs.Prelude.{◌≡◌, ◌≤◌, ◌⊎◌, length, IfErr, IfOk, Some};
+ghost use Rattle.std.specs.Prelude.{◌≡◌, ◌≤◌, ◌⊎◌, [], ◌∷◌, length, IfErr, IfOk, OnOk, Some};
 ghost use Rattle.dhcp_wire.specs.Error.{no_memory};
 ghost use Rattle.dhcp_wire.specs.Outcome.{Emits, Gives, Makes};
 ghost use Rattle.dhcp6_opt.specs.Duid.{written_duid};
+ghost use Rattle.dhcp6_opt.specs.declared.option.DhcpV6Option.TheVariants.{ClientId, ElapsedTime};
 ghost use Rattle.dhcp6_msg.specs.MessageTable.{lease_options, server_option};
 ghost use Rattle.dhcp6_msg.specs.Message.{
   client_options,
@@ -56,14 +57,39 @@ impl DhcpV6Message {
         ensures { Makes (λ message. message) result
             (message_with msg_type xid (client_options duid.now elapsed_ms)) }
     {
+        let mut message = DhcpV6Message::of_client(alloc, msg_type, xid, duid)?;
+        message.add_elapsed_time(elapsed_ms)?;
+        Ok(message)
+    }
+
+    // A message of a client with its identifier alone, and with room for a usual message's options.
+    pub(crate) fn of_client(
+        alloc: Global,
+        msg_type: DhcpV6MessageType,
+        xid: u32,
+        duid: &DhcpV6Duid,
+    ) -> Result<Self, DhcpError>
+        requires { length (written_duid duid.now) ≤ 65535 }
+        ensures { Makes (λ message. message) result
+            (message_with msg_type xid (ClientId duid.now ∷ [])) }
+    {
         let mut options = DhcpV6Options::with_capacity(alloc, USUAL_OPTIONS)?;
         options.insert(DhcpV6Option::ClientId(duid.try_clone(alloc)?))?;
-        options.insert(DhcpV6Option::ElapsedTime(hundredths(elapsed_ms)))?;
         Ok(DhcpV6Message {
             msg_type,
             xid: id_of_number(xid),
             options,
         })
+    }
+
+    // Adds the time since when a client tries, in milliseconds.
+    pub(crate) fn add_elapsed_time(&mut self, elapsed_ms: u64) -> Result<(), DhcpError>
+        ensures ok { OnOk result (self.new
+            ≡ with_more self.old (ElapsedTime (elapsed_hundredths elapsed_ms) ∷ [])) }
+        ensures err { IfErr result (λ e. e ≡ no_memory) }
+    {
+        self.options
+            .insert(DhcpV6Option::ElapsedTime(hundredths(elapsed_ms)))
     }
 
     /// Its transaction id as a number.

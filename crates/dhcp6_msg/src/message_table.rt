@@ -308,7 +308,8 @@ fn has_sixteen_bytes(address: Ipv6Addr)
     let _octets = address.octets();
 }
 
-// The message of a row.
+// The message of a row. Its options are added by rising code, so that they are written as they are
+// kept; an IA_PD alone comes early.
 fn message_of(
     alloc: Global,
     xid: u32,
@@ -320,9 +321,11 @@ fn message_of(
     requires association { IfSome row.association (λ option. IsTrue (fits option)) }
     ensures { Makes (λ message. message) result (table_message xid config.now row.entry) }
 {
-    let begun = DhcpV6Message::new(alloc, row.msg_type, xid, &config.duid, row.elapsed_ms);
+    let elapsed_ms = row.elapsed_ms;
+    let begun = DhcpV6Message::of_client(alloc, row.msg_type, xid, &config.duid);
     let (row, mut message) = beside(row, begun)?;
     add_options(&mut message.options, alloc, config, row)?;
+    message.add_elapsed_time(elapsed_ms)?;
     Ok(message)
 }
 
