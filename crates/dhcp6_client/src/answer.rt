@@ -8,7 +8,7 @@ ghost use Rattle.dhcp_wire.specs.Outcome.{Finds};
 ghost use Rattle.dhcp6_client.specs.Answer as answers;
 
 use crate::client_state::ClientState;
-use crate::granted_lease::GrantedLease;
+use crate::granted_lease::BoxedLease;
 use dhcp_clock::{Packet, PacketKind};
 use dhcp_wire::{DhcpError, none_if_refused};
 use dhcp6_msg::{DhcpV6Lease, DhcpV6MessageType, DhcpV6View};
@@ -35,7 +35,7 @@ pub fn read_answer(
     kind: DhcpV6MessageType,
     xid: u32,
     packet: &Packet,
-) -> Result<Option<GrantedLease>, DhcpError>
+) -> Result<Option<BoxedLease>, DhcpError>
     ensures answer { IfOk result (λ answer.
         answer ≡ answers.answer_of (answers.message_for (Some kind) xid packet.now)) }
     ensures error { IfErr result (λ error. error ≡ no_memory) }
@@ -74,11 +74,13 @@ fn concerns(kind: DhcpV6MessageType, xid: u32, message: &DhcpV6View) -> bool
 }
 
 // The lease that a message grants, if it grants one.
-fn lease_of(alloc: Global, message: &DhcpV6View) -> Result<Option<GrantedLease>, DhcpError>
+fn lease_of(alloc: Global, message: &DhcpV6View) -> Result<Option<BoxedLease>, DhcpError>
     ensures lease { IfOk result (λ lease. lease ≡ answers.granted_by message.now) }
     ensures error { IfErr result (λ error. error ≡ no_memory) }
 {
     let message = message.to_message(alloc)?;
-    let lease = none_if_refused(DhcpV6Lease::from_message(alloc, message))?;
-    Ok(lease.map(GrantedLease::new))
+    match DhcpV6Lease::from_message(alloc, message) {
+        Ok(lease) => Ok(Some(BoxedLease::new(alloc, lease)?)),
+        Err(error) => none_if_refused(Err(error)),
+    }
 }

@@ -5,7 +5,6 @@ ghost use Rattle.std.specs.Prelude.{◌≡◌, ◌<◌, ◌^◌, false, IfOk, Is
 ghost use Rattle.dhcp_history.specs.Rules.{IsNext};
 ghost use Rattle.dhcp6_msg.specs.Config.{is_within_limits};
 ghost use Rattle.dhcp6_client.specs.Rules as table;
-ghost use Rattle.dhcp6_client.specs.State.{plain_state};
 ghost use Rattle.dhcp6_client.specs.declared.client_state.Exchange.{Exchange};
 ghost use Rattle.dhcp6_client.specs.declared.state.PlainState.TheVariants as plain;
 
@@ -13,7 +12,7 @@ use crate::DhcpV6State;
 use crate::answer::{awaited_type, read_answer};
 use crate::client_state::{ClientState, Exchange};
 use crate::draws::{association_id, restarted, transaction_id, wait};
-use crate::granted_lease::{GrantedLease, expiry, rebinding, renewal};
+use crate::granted_lease::{BoxedLease, GrantedLease, expiry, rebinding, renewal};
 use crate::message::{attempt_message, release_message};
 use dhcp_clock::{Handed, Packet, Words, draw};
 use dhcp_history::{AttemptStart, BoundLease, NewAttempt, Rules, StateReport};
@@ -47,7 +46,7 @@ impl Rules for ClientRules {
 
     type Exchange = Exchange;
 
-    type Answer = GrantedLease;
+    type Answer = BoxedLease;
 
     type Lease = DhcpV6Lease;
 
@@ -139,7 +138,7 @@ impl Rules for ClientRules {
         exchange: Exchange,
         packet: Packet,
         words: &mut W,
-    ) -> Result<Option<GrantedLease>, AllocError> {
+    ) -> Result<Option<BoxedLease>, AllocError> {
         let Some(kind) = awaited_type(state) else {
             return Ok(None);
         };
@@ -152,13 +151,13 @@ impl Rules for ClientRules {
     fn after_answer(
         &self,
         state: &mut ClientState,
-        answer: GrantedLease,
+        answer: BoxedLease,
         now: u64,
         exchange: &mut Exchange,
     ) -> Result<StateReport<DhcpV6State>, AllocError> {
         match state {
             ClientState::Solicit => {
-                enter(state, ClientState::Request(answer));
+                enter(state, ClientState::Request(answer.into_granted()));
                 *exchange = restarted(*exchange);
                 Ok(StateReport::new(DhcpV6State::Request))
             }
@@ -205,7 +204,7 @@ impl ClientRules {
     fn bind(
         &self,
         state: &mut ClientState,
-        lease: GrantedLease,
+        lease: BoxedLease,
         now: u64,
         exchange: &mut Exchange,
     ) -> Result<StateReport<DhcpV6State>, AllocError>
@@ -217,11 +216,11 @@ impl ClientRules {
             reported ≡ table.public_state state.new) }
         ensures unchanged { OnErr result (state.new ≡ state.old) }
     {
-        let reported = done_with(self.alloc, lease.lease())?;
-        let next = bound_state(self.config.mode, BoundLease::new(lease, now));
+        let kept = lease.to_granted(self.alloc)?;
+        let next = bound_state(self.config.mode, BoundLease::new(kept, now));
         enter(state, next);
         *exchange = restarted(*exchange);
-        Ok(StateReport::new(reported))
+        Ok(StateReport::new(DhcpV6State::Done(lease.into_box())))
     }
 }
 
@@ -231,14 +230,6 @@ fn enter<S: Drop>(state: &mut S, next: S)
     ensures { state.new ≡ next }
 {
     *state = next;
-}
-
-// What is reported of a client that has this lease.
-fn done_with(alloc: Global, lease: &DhcpV6Lease) -> Result<DhcpV6State, AllocError>
-    ensures { IfOk result (λ state. plain_state state ≡ plain.Done lease.now) }
-{
-    let copy = lease.try_clone(alloc).map_err(|_| AllocError)?;
-    Ok(DhcpV6State::Done(Box::new(alloc, copy)?))
 }
 
 // The state after the end of one.
