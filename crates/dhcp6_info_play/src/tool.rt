@@ -91,8 +91,8 @@ impl ToolRequest for Run {
         true
     }
 
-    fn answer(&self, alloc: Global, bytes: &[u8]) -> Result<Bytes, Status> {
-        text_answer(alloc, bytes)
+    fn answer(&self, alloc: Global, input: Bytes) -> Result<Bytes, Status> {
+        text_answer(alloc, input.as_slice())
     }
 
     ghost one_request = { λ words a b asks_for_a asks_for_b. refl };

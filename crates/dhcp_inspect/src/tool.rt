@@ -91,8 +91,8 @@ impl ToolRequest for Inspection {
         true
     }
 
-    fn answer(&self, alloc: Global, bytes: &[u8]) -> Result<Bytes, Status> {
-        match inspect(alloc, bytes) {
+    fn answer(&self, alloc: Global, input: Bytes) -> Result<Bytes, Status> {
+        match inspect(alloc, input.as_slice()) {
             Ok(Some(text)) => Ok(text),
             Ok(None) => Err(Status::NoScript),
             Err(error) => Err(out_of_memory(error)),

@@ -1,7 +1,7 @@
 //! The program: a script comes in, and what is reported of its client goes out, or its text in the
 //! next version; or a demonstration is summed up.
 
-ghost use Rattle.std.specs.Prelude.{◌≡◌, ◌≢◌, ◌≤◌, ◌⊎◌, ◌↔◌, ℕ, Some, OnOk, length, map, string_bytes, true};
+ghost use Rattle.std.specs.Prelude.{◌≡◌, ◌≢◌, ◌≤◌, ◌⊎◌, ◌↔◌, ℕ, [], Some, OnOk, length, map, string_bytes, true};
 ghost use Rattle.dhcp_wire.specs.Outcome.{Makes};
 ghost use Rattle.dhcp_wire.specs.Fault.{Rose};
 ghost use Rattle.dhcp_stream.specs.Stream.{behind};
@@ -108,10 +108,10 @@ impl ToolRequest for Request {
         }
     }
 
-    fn answer(&self, alloc: Global, bytes: &[u8]) -> Result<Bytes, Status> {
+    fn answer(&self, alloc: Global, input: Bytes) -> Result<Bytes, Status> {
         match self {
-            Request::Run => run_answer(alloc, bytes),
-            Request::Upgrade => upgrade_answer(alloc, bytes),
+            Request::Run => run_answer(alloc, input),
+            Request::Upgrade => upgrade_answer(alloc, input.as_slice()),
             Request::Demo(rounds) => demo_answer(alloc, *rounds),
         }
     }
@@ -173,39 +173,49 @@ fn event_count(script: &Script) -> usize
     }
 }
 
-// The text to print for the script with these bytes as its text, or the status.
-fn run_answer(alloc: Global, bytes: &[u8]) -> Result<Bytes, Status>
-    ensures { AnswersText scripts result bytes.now }
+// The text to print for the script whose text was read, or the status. It is put where the input
+// was, which saves memory, and the time to come by it.
+fn run_answer(alloc: Global, input: Bytes) -> Result<Bytes, Status>
+    ensures { AnswersText scripts result input }
 {
-    match read_script(alloc, bytes) {
-        Ok(Some(script)) => script_answer(alloc, &script),
+    match read_script(alloc, input.as_slice()) {
+        Ok(Some(script)) => script_answer(alloc, &script, input),
         Ok(None) => Err(Status::NoScript),
         Err(error) => Err(out_of_memory(error)),
     }
 }
 
-// The text to print for a script, or the status.
-fn script_answer(alloc: Global, script: &Script) -> Result<Bytes, Status>
+// The text to print for a script, put where these bytes were, or the status.
+fn script_answer(alloc: Global, script: &Script, room: Bytes) -> Result<Bytes, Status>
     ensures { AnswersScript scripts result script.now }
 {
     if !script.is_valid() {
         return Err(Status::Invalid);
     }
-    match text_for(alloc, script) {
+    match text_for(alloc, script, room) {
         Ok(text) => Ok(text),
         Err(error) => Err(out_of_memory(error)),
     }
 }
 
-// The text to print for a valid script.
+// The text to print for a valid script, put where these bytes were.
 #[tactic(auto, unfolding(crate::specs::Tool::printed, dhcp_output::specs::Output::outputs_text))]
-fn text_for(alloc: Global, script: &Script) -> Result<Bytes, DhcpError>
+fn text_for(alloc: Global, script: &Script, room: Bytes) -> Result<Bytes, DhcpError>
     requires { is_valid script.now ≡ true }
     ensures text { Makes (λ text. text) result (printed script.now) }
     ensures promises { OnOk result (KeepsPromisesOf script.now) }
 {
-    let mut text = String::new(alloc);
+    let mut text = empty_text(room);
     print_script(alloc, script, &mut text)?;
     text.push_str("ok\n")?;
     Ok(Bytes::from(text.into_bytes()))
+}
+
+// An empty text where these bytes were.
+fn empty_text(room: Bytes) -> String
+    ensures { string_bytes result ≡ [] }
+{
+    let mut room = room.into_vec();
+    room.clear();
+    String::from_utf8(room).unwrap()
 }

@@ -28,11 +28,12 @@ pub trait ToolRequest: Drop {
     fn reads(&self) -> bool
         ensures { result ≡ is_reading (job self.now) };
 
-    /// The text to print for these bytes, or the status: `NoScript` or `Invalid` by their causes,
-    /// or out of memory. Where nothing is read for it, there are no bytes.
-    fn answer(&self, alloc: Global, bytes: &[u8]) -> Result<Bytes, Status>
+    /// The text to print for what was read, or the status: `NoScript` or `Invalid` by their causes,
+    /// or out of memory. Where nothing is read for it, the input has no bytes. The text may be put
+    /// where the input was.
+    fn answer(&self, alloc: Global, input: Bytes) -> Result<Bytes, Status>
         requires { IsAskedFor AsksFor self.now }
-        ensures { AnswersBytes (job self.now) result bytes.now };
+        ensures { AnswersBytes (job self.now) result input };
 
     /// Words ask for one thing.
     ghost one_request: { (words : List (List ℕ)) (a b : Self) → AsksFor words a

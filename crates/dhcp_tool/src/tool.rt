@@ -92,10 +92,10 @@ fn text_of<R: ToolRequest, S: Source>(
     ensures nothing_read { is_reading (R.job request.now) ≡ false → source.new ≡ source.old }
 {
     if !request.reads() {
-        return request.answer(alloc, &[]);
+        return request.answer(alloc, Bytes::new(alloc));
     }
     match input(alloc, source) {
-        Ok(bytes) => request.answer(alloc, bytes.as_slice()),
+        Ok(bytes) => request.answer(alloc, bytes),
         Err(status) => Err(status),
     }
 }
