@@ -92,8 +92,9 @@ impl Peer {
         ensures plays { IfOk result (λ reported. Plays event reported.items self.old self.new) }
         ensures error { IfErr result (λ error. error ≡ no_memory) }
     {
-        let mut events = Vec::new(alloc);
-        events.push(event)?;
-        self.client.replay(&mut self.words, events)
+        let mut reports = Vec::new(alloc);
+        self.client
+            .play_event(&mut self.words, event, &mut reports)?;
+        Ok(reports)
     }
 }

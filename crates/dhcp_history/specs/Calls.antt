@@ -15,7 +15,7 @@ use Rattle.dhcp_history.specs.Machine.{begin_stay, clean_up, first_view, is_list
 use Rattle.dhcp_history.specs.History.{history, outputs}
 use Rattle.dhcp_history.specs.Client.{unpolled, view_of}
 use Rattle.dhcp_history.specs.Errors.{release_answer, run_answer, send_refused, sent_of, timed_out}
-use Rattle.dhcp_history.specs.EventLoop.{HasReported, events_at, last_moment}
+use Rattle.dhcp_history.specs.EventLoop.{HasReported, event_at, events_at, last_moment}
 use Rattle.dhcp_history.specs.Release as release
 use Rattle.dhcp_history.specs.Release.{HasReleased, OnOutOfMemory, UnlessOutOfMemory}
 use Rattle.dhcp_history.specs.Run.{input_of, quiet_poll, HasPolled, HasPolledQuietly, IsSent, IsUnsent, NeedsMemory, OnNoMemory, OnTimeout, UnlessNoMemory, UsesLink, WhereKnown}
@@ -150,6 +150,19 @@ module _ {PublicState State Exchange Answer Lease : Type 0}
     pub unsent : OnOutOfMemory (release_answer result) (after ≡ before)
     pub errors : IfErr result (λ error. (error ≡ send_refused) ⊎ (error ≡ no_memory))
 
+  -- One event of a script, played: what it reports is put behind these reports.
+  pub record PlaysEvent {Returned : Type 0} (result : Result Returned ErrorParts)
+      (event : NumberedEvent Packet) (before after : List (NumberedReport PublicState Handed))
+      (old new : Client State Exchange) (available left : Option (List ℕ)) : Type 0 where
+    -- where the words are known, what is reported is that of the event
+    pub reported : OnOk result (IfSome available (λ words.
+        HasReported (event_at p event (view_of old words)) before after (view_of new) left))
+    -- the client keeps the moment of the event
+    pub moment : OnOk result (new.last_moment ≡ event.moment)
+    pub armed : HasNextAttempt p.has_attempts old → HasNextAttempt p.has_attempts new
+    pub keeps : Keeps p old.state new.state
+    pub error : IfErr result (λ error. error ≡ no_memory)
+
   -- The events of a script, played. What is returned has these outputs as its items.
   pub record Plays {Returned : Type 0} (result : Result Returned ErrorParts)
       (items : Returned → List (NumberedReport PublicState Handed))
@@ -272,6 +285,16 @@ module _ {Config PublicState State Exchange Answer Lease : Type 0}
       Type 0 where
     pub listens : HasListening (protocol parts.config) now result parts.client
     pub open listens use *
+
+  -- One event of a script, played.
+  pub record IsPlayedEvent {Returned : Type 0} (result : Result Returned ErrorParts)
+      (event : NumberedEvent Packet) (before after : List (NumberedReport PublicState Handed))
+      (old new : ClientParts Config State Exchange) (available left : Option (List ℕ)) :
+      Type 0 where
+    pub plays : PlaysEvent (protocol old.config) result event before after old.client new.client
+        available left
+    pub open plays use *
+    pub config : new.config ≡ old.config
 
   -- The events of a script, played, by a client whose protocol is lawful.
   pub record IsReplay {Returned : Type 0} (result : Result Returned ErrorParts)

@@ -3,7 +3,7 @@
 
 ghost use Rattle.std.specs.Prelude.{◌≡◌, ◌<◌, ◌^◌, ℕ, All, List, None, [], ◌∷◌, ◌++◌, Err, true, OnOk, IfOk, IfSome, slice_get, option_map};
 ghost use Rattle.dhcp_clock.specs.MemLink.{without_oldest};
-ghost use Rattle.dhcp_history.specs.Calls.{Replays};
+ghost use Rattle.dhcp_history.specs.Calls.{PlaysEvent, Replays};
 ghost use Rattle.dhcp_history.specs.Script.{Release, input_after_call};
 ghost use Rattle.dhcp_history.specs.Machine.{poll, handed_output};
 ghost use Rattle.dhcp_history.specs.Client.{view_of};
@@ -265,9 +265,8 @@ fn call_event<R: Rules>(
     }
 }
 
-/// One event: the call that it asks for, and then its polls. When out of memory, what was reported
-/// of the event so far may be among the outputs.
-pub fn run_event<R: Rules, W: Words>(
+// One event: the call that it asks for, and then its polls.
+fn run_event<R: Rules, W: Words>(
     alloc: Global,
     rules: &R,
     client: &mut Client<R::State, R::Exchange>,
@@ -293,6 +292,23 @@ pub fn run_event<R: Rules, W: Words>(
     link.set_refuse(at.refuse);
     call_event(rules, client, &mut link, at, event.input, outputs)?;
     poll_event(rules, client, words, &mut link, at, outputs)
+}
+
+/// Plays one event: the call that it asks for, and then its polls. What it reports is put at the
+/// end of a list. Out of memory is the only error; a part of the reports may then be there.
+pub fn play_event<R: Rules, W: Words>(
+    alloc: Global,
+    rules: &R,
+    client: &mut Client<R::State, R::Exchange>,
+    words: &mut W,
+    event: NumberedEvent<Packet>,
+    reports: &mut Vec<NumberedReport<R::PublicState, Handed>>,
+) -> Result<(), DhcpError>
+    requires { event.moment < 2 ^ 60 }
+    ensures { PlaysEvent (R.protocol rules.now) result event reports.old.items reports.new.items
+        client.old client.new (W.left words.old) (W.left words.new) }
+{
+    Ok(run_event(alloc, rules, client, words, event, reports)?)
 }
 
 // The outputs of the events, and the client after them.

@@ -20,7 +20,7 @@ mod timed_release;
 pub use attempt::send;
 pub use bound_lease::BoundLease;
 pub use client::{Client, Phase, Standing};
-pub use event_loop::{replay, run_event};
+pub use event_loop::{play_event, replay};
 pub use machine::{RunError, run};
 pub use release::{ReleaseError, clean_up, release_by, release_held};
 pub use reported::{Plain, StateReport};

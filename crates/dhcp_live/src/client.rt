@@ -99,11 +99,13 @@ impl<C: VerdictClient> LiveClient<C> {
         ensures error { IfErr result (λ error. error ≡ no_memory) }
     {
         let number = self.number + 1;
-        let events = vec![in alloc; numbered_event(alloc, number, event)?]?;
-        let reported = self.client.play(&mut self.words, events)?;
+        let numbered = numbered_event(alloc, number, event)?;
+        let mut reports = Vec::new(alloc);
+        self.client
+            .play_event(&mut self.words, numbered, &mut reports)?;
         self.number = number;
         self.moment = event.moment;
-        Ok(outputs_of(alloc, reported)?)
+        Ok(outputs_of(alloc, reports)?)
     }
 
     /// Adds random words behind those that are left. Out of memory is the only error.

@@ -38,22 +38,6 @@ module _ {Config PublicState State Exchange Answer Lease : Type 0} (protocol : C
   lines-append : (first more : List (NumberedReport PublicState Handed)) → lines (first ++ more) ≡ lines first ++ lines more
   lines-append first more = ap (λ (outs : List PlainOutput). flat_map output_line outs) (map-append (output_of changed) first more) ∙ flat_map-append output_line (map (output_of changed) first) (map (output_of changed) more)
 
-  -- an event is played as the one event of a list
-  module _ (event : NumberedEvent Packet) (made : List (NumberedEvent Packet)) (made_is : made ≡ event ∷ []) (old new : ClientParts Config State Exchange) (drawn left : Option (List ℕ)) (items : List (NumberedReport PublicState Handed)) where
-    abbrev Over : List (NumberedEvent Packet) → Option (List ℕ) → Type 0
-    Over events exposed = IfSome exposed (λ words. HasReported (events_at (protocol old.config) (view_of old.client words) events) [] items (view_of new.client) left)
-
-    one_of : (exposed : Option (List ℕ)) → Over (event ∷ []) exposed → IfSome exposed (λ words. HasReported (event_at (protocol old.config) event (view_of old.client words)) [] items (view_of new.client) left)
-    one_of None is = tt
-    one_of (Some words) is = record {
-      outputs = is.outputs ∙ append-nil (event_at (protocol old.config) event (view_of old.client words)).outputs;
-      client = is.client;
-      words = is.words;
-    }
-
-    pub one_event : Over made drawn → IfSome drawn (λ words. HasReported (event_at (protocol old.config) event (view_of old.client words)) [] items (view_of new.client) left)
-    one_event is = one_of drawn (subst (λ (events : List (NumberedEvent Packet)). Over events drawn) made_is is)
-
   -- What was printed so far and the events that are left make up all of them.
   pub record IsPrintedSoFar (all : List Event) (rest : List (NumberedEvent Packet)) (before now : List ℕ) (old here : ClientParts Config State Exchange) (drawn left : Option (List ℕ)) : Type 0 where
     pub items : List (NumberedReport PublicState Handed)

@@ -20,7 +20,13 @@ pub trait FamilyClient: Drop {
     ghost use Rattle.std.specs.Prelude.{◌<◌, ◌^◌, All};
     ghost use Rattle.dhcp_clock.specs.declared.link.Handed.{Handed};
     ghost use Rattle.dhcp_clock.specs.declared.link.Packet.{Packet};
-    ghost use Rattle.dhcp_history.specs.Calls.{ClientParts, HasNextPoll, IsListening, IsReplay};
+    ghost use Rattle.dhcp_history.specs.Calls.{
+      ClientParts,
+      HasNextPoll,
+      IsListening,
+      IsPlayedEvent,
+      IsReplay,
+    };
     ghost use Rattle.dhcp_history.specs.Protocol.{Protocol};
 
     /// A state as it reports it.
@@ -51,6 +57,17 @@ pub trait FamilyClient: Drop {
     ) -> Result<Vec<dhcp_history::NumberedReport<Self::Reported, Handed>>, DhcpError>
         requires { All (λ event. event.moment < 2 ^ 60) events.items }
         ensures { IsReplay protocol result (λ reported. reported.items) events.items
+            (parts self.old) (parts self.new) (W.left words.old) (W.left words.new) };
+
+    /// Plays one event, by its number, and puts what it reports at the end of a list.
+    fn play_event<W: Words>(
+        &mut self,
+        words: &mut W,
+        event: dhcp_history::NumberedEvent<Packet>,
+        reports: &mut Vec<dhcp_history::NumberedReport<Self::Reported, Handed>>,
+    ) -> Result<(), DhcpError>
+        requires { event.moment < 2 ^ 60 }
+        ensures { IsPlayedEvent protocol result event reports.old.items reports.new.items
             (parts self.old) (parts self.new) (W.left words.old) (W.left words.new) };
 
     /// The moment, in milliseconds, at which a poll next does something without a packet; none if
@@ -95,6 +112,15 @@ impl FamilyClient for DhcpV4Client {
         self.replay(words, events)
     }
 
+    fn play_event<W: Words>(
+        &mut self,
+        words: &mut W,
+        event: dhcp_history::NumberedEvent<Packet>,
+        reports: &mut Vec<dhcp_history::NumberedReport<Self::Reported, Handed>>,
+    ) -> Result<(), DhcpError> {
+        self.play_event(words, event, reports)
+    }
+
     fn next_poll(&self) -> Option<u64> {
         self.next_poll()
     }
@@ -133,6 +159,15 @@ impl FamilyClient for DhcpV6Client {
         events: Vec<dhcp_history::NumberedEvent<Packet>>,
     ) -> Result<Vec<dhcp_history::NumberedReport<Self::Reported, Handed>>, DhcpError> {
         self.replay(words, events)
+    }
+
+    fn play_event<W: Words>(
+        &mut self,
+        words: &mut W,
+        event: dhcp_history::NumberedEvent<Packet>,
+        reports: &mut Vec<dhcp_history::NumberedReport<Self::Reported, Handed>>,
+    ) -> Result<(), DhcpError> {
+        self.play_event(words, event, reports)
     }
 
     fn next_poll(&self) -> Option<u64> {
@@ -174,6 +209,15 @@ impl FamilyClient for DhcpV6InfoClient {
         events: Vec<dhcp_history::NumberedEvent<Packet>>,
     ) -> Result<Vec<dhcp_history::NumberedReport<Self::Reported, Handed>>, DhcpError> {
         self.replay(words, events)
+    }
+
+    fn play_event<W: Words>(
+        &mut self,
+        words: &mut W,
+        event: dhcp_history::NumberedEvent<Packet>,
+        reports: &mut Vec<dhcp_history::NumberedReport<Self::Reported, Handed>>,
+    ) -> Result<(), DhcpError> {
+        self.play_event(words, event, reports)
     }
 
     fn next_poll(&self) -> Option<u64> {

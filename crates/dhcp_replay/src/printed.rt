@@ -115,9 +115,10 @@ fn print_event<C: FamilyClient, W: Words>(
         (W.left words.old) (W.left words.new)) }
     ensures error { IfErr result (λ error. error ≡ no_memory) }
 {
-    let events = vec![in alloc; numbered_event(alloc, number, event)?]?;
-    let reported = client.play(words, events)?;
-    Ok(print_reports(alloc, reported, text)?)
+    let mut reports = Vec::new(alloc);
+    let event = numbered_event(alloc, number, event)?;
+    client.play_event(words, event, &mut reports)?;
+    Ok(print_reports(alloc, reports, text)?)
 }
 
 // Prints what was reported.

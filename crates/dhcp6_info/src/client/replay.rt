@@ -5,11 +5,11 @@ ghost use Rattle.std.specs.Prelude.{◌<◌, ◌^◌, All};
 use super::DhcpV6InfoClient;
 use crate::DhcpV6InfoState;
 use dhcp_clock::{Handed, Packet, Words};
-use dhcp_history::{NumberedEvent, NumberedReport, StateReport, replay};
+use dhcp_history::{NumberedEvent, NumberedReport, StateReport, play_event, replay};
 use dhcp_wire::DhcpError;
 
 impl DhcpV6InfoClient {
-    ghost use Rattle.dhcp_history.specs.Calls.{IsReplay};
+    ghost use Rattle.dhcp_history.specs.Calls.{IsPlayedEvent, IsReplay};
     ghost use Rattle.dhcp6_info.specs.Rules.{protocol};
 
     /// Plays the events of a script over a link in memory: at each event a clean-up, if it asks for
@@ -28,5 +28,21 @@ impl DhcpV6InfoClient {
         crate::laws::table_is_lawful();
         let alloc = self.rules.alloc;
         replay(alloc, &self.rules, &mut self.client, words, events)
+    }
+
+    /// Plays one event, as `replay` plays each of its events, and puts what it reports at the end
+    /// of a list. Out of memory is the only error; a part of the reports may then be there.
+    pub fn play_event<W: Words>(
+        &mut self,
+        words: &mut W,
+        event: NumberedEvent<Packet>,
+        reports: &mut Vec<NumberedReport<StateReport<DhcpV6InfoState>, Handed>>,
+    ) -> Result<(), DhcpError>
+        requires { event.moment < 2 ^ 60 }
+        ensures { IsPlayedEvent protocol result event reports.old.items reports.new.items
+            self.old self.new (W.left words.old) (W.left words.new) }
+    {
+        let alloc = self.rules.alloc;
+        play_event(alloc, &self.rules, &mut self.client, words, event, reports)
     }
 }
