@@ -1,6 +1,7 @@
 //! How a client begins, asks and asks again.
 
 use crate::parts::{CLIENT, Host, REPLY, SERVER, config};
+use dhcp_history::Report;
 use dhcp_wire::{DhcpError, ErrorKind};
 use dhcp6_info::DhcpV6InfoState;
 use dhcp6_msg::DhcpV6Config;
@@ -32,6 +33,24 @@ fn the_refresh_time_is_asked_for_once(rt: HostRuntime) {
     for codes in cases {
         assert!(rt; asks(rt.alloc(), codes).expect(&rt, "memory"), "{codes:?}");
     }
+}
+
+// Whether a client reports its first message at the event that it is sent at, and no more at the
+// next event, behind what was reported.
+fn reports_event_by_event(alloc: Global) -> Result<bool, DhcpError> {
+    let mut host = Host::new(alloc, config(alloc, &[23], 0)?)?;
+    let mut reports = Vec::new(alloc);
+    host.play(7, 0, &mut reports)?;
+    host.play(8, 1, &mut reports)?;
+    Ok(match reports.as_slice() {
+        [first] => first.event == 7 && matches!(first.report, Report::Handed(_)),
+        _ => false,
+    })
+}
+
+#[test]
+fn each_event_adds_what_it_reports(rt: HostRuntime) {
+    assert!(rt; reports_event_by_event(rt.alloc()).expect(&rt, "memory"));
 }
 
 // Whether a client that was given a configuration for 600 seconds asks again after them, with a

@@ -3,6 +3,7 @@
 ghost use Rattle.std.specs.Prelude.{◌<◌, ◌^◌};
 
 use dhcp_clock::{Handed, MemLink, Packet, PacketKind, WordList};
+use dhcp_history::{Input, NumberedEvent, NumberedReport, StateReport};
 use dhcp_wire::{BufferMut, Bytes, DhcpError};
 use dhcp6_info::{DhcpV6InfoClient, DhcpV6InfoState};
 use dhcp6_msg::{DhcpV6Config, DhcpV6Mode};
@@ -100,6 +101,24 @@ impl Host {
             bytes: joined(alloc, parts)?,
         }));
         self.poll(now)
+    }
+
+    // What an event in which nothing comes in reports, behind these reports.
+    pub(crate) fn play(
+        &mut self,
+        number: u32,
+        moment: u64,
+        reports: &mut Vec<NumberedReport<StateReport<DhcpV6InfoState>, Handed>>,
+    ) -> Result<(), DhcpError>
+        requires { moment < 2 ^ 60 }
+    {
+        let event = NumberedEvent {
+            number,
+            moment,
+            refuse: false,
+            input: Input::Nothing,
+        };
+        self.client.play_event(&mut self.words, event, reports)
     }
 
     // The oldest payload that it has sent.
