@@ -1,7 +1,7 @@
 //! A script, played and printed event by event: nothing that is reported is kept longer than its
 //! lines need.
 
-ghost use Rattle.std.specs.Prelude.{◌≡◌, ◌++◌, ◌<◌, ◌^◌, IfErr, OnOk, string_bytes, true};
+ghost use Rattle.std.specs.Prelude.{◌≡◌, ◌++◌, ◌<◌, ◌^◌, [], IfErr, OnOk, string_bytes, true};
 ghost use Rattle.std.specs.List.{flat_map};
 ghost use Rattle.dhcp_wire.specs.Error.{no_memory};
 ghost use Rattle.dhcp_history.specs.EventLoop.{event_at};
@@ -9,7 +9,7 @@ ghost use Rattle.dhcp_output.specs.Output.{output_line};
 ghost use Rattle.dhcp_script.specs.Script as scripts;
 ghost use Rattle.dhcp_script.specs.Script4 as v4;
 ghost use Rattle.dhcp_script.specs.Script6 as v6;
-ghost use Rattle.dhcp_replay.specs.Life.{CanPlay, numbered_event};
+ghost use Rattle.dhcp_replay.specs.Life.{CanPlay, output_of};
 ghost use Rattle.dhcp_replay.specs.Printed.{IsPrinted, lines_of, played_events};
 ghost use Rattle.dhcp_replay.specs.Promises.{KeepsPromisesOf};
 ghost use Rattle.dhcp_replay.specs.Promises4.{KeepsPromisesOfV4};
@@ -19,7 +19,7 @@ ghost use Rattle.dhcp_replay.specs.Replayed as lives;
 use crate::family::FamilyClient;
 use crate::life::{FamilyState, numbered_event, output_of};
 use crate::{begun4, begun6, laws};
-use dhcp_clock::{Handed, WordList, Words};
+use dhcp_clock::{Handed, Packet, WordList, Words};
 use dhcp_output::push_output;
 use dhcp_script::{Event, Script, Script4, Script6};
 use dhcp_wire::DhcpError;
@@ -91,47 +91,63 @@ fn print_events<C: FamilyClient, W: Words>(
         (W.left words.old) (W.left words.new)) }
     ensures error { IfErr result (λ error. error ≡ no_memory) }
 {
+    // One list has the reports of each event in turn, so that no event allocates one.
+    let mut reports = Vec::new(alloc);
     let mut number = 1u32;
     for event in events {
-        print_event(alloc, client, words, number, event, text)?;
+        let event = numbered_event(alloc, number, event)?;
+        print_event(alloc, client, words, event, &mut reports, text)?;
         number += 1;
     }
     Ok(())
 }
 
-// Plays an event, and prints what is reported.
+// Plays an event, and prints what is reported. The list of reports is empty before and after.
 fn print_event<C: FamilyClient, W: Words>(
     alloc: Global,
     client: &mut C,
     words: &mut W,
-    number: u32,
-    event: &Event,
+    event: dhcp_history::NumberedEvent<Packet>,
+    reports: &mut Vec<dhcp_history::NumberedReport<C::Reported, Handed>>,
     text: &mut String,
 ) -> Result<(), DhcpError>
-    requires { event.now.moment < 2 ^ 60 }
+    requires moment { event.moment < 2 ^ 60 }
+    requires empty { reports.old.items ≡ [] }
     ensures printed { OnOk result (IsPrinted C.Reported.changed
-        (event_at (C.protocol (C.parts client.old).config) (numbered_event number event.now))
+        (event_at (C.protocol (C.parts client.old).config) event)
         (string_bytes text.old) (string_bytes text.new) (C.parts client.old) (C.parts client.new)
         (W.left words.old) (W.left words.new)) }
+    ensures emptied { OnOk result (reports.new.items ≡ []) }
     ensures error { IfErr result (λ error. error ≡ no_memory) }
 {
-    let mut reports = Vec::new(alloc);
-    let event = numbered_event(alloc, number, event)?;
-    client.play_event(words, event, &mut reports)?;
+    client.play_event(words, event, reports)?;
     Ok(print_reports(alloc, reports, text)?)
 }
 
-// Prints what was reported.
+// Prints what was reported, and leaves the list empty.
 fn print_reports<S: FamilyState>(
     alloc: Global,
-    reported: Vec<dhcp_history::NumberedReport<S, Handed>>,
+    reports: &mut Vec<dhcp_history::NumberedReport<S, Handed>>,
+    text: &mut String,
+) -> Result<(), AllocError>
+    ensures printed { OnOk result (string_bytes text.new
+        ≡ string_bytes text.old ++ lines_of S.changed reports.old.items) }
+    ensures emptied { OnOk result (reports.new.items ≡ []) }
+{
+    for report in reports.drain(..) {
+        print_report(alloc, report, text)?;
+    }
+    Ok(())
+}
+
+// Prints one report.
+fn print_report<S: FamilyState>(
+    alloc: Global,
+    report: dhcp_history::NumberedReport<S, Handed>,
     text: &mut String,
 ) -> Result<(), AllocError>
     ensures { OnOk result (string_bytes text.new
-        ≡ string_bytes text.old ++ lines_of S.changed reported.items) }
+        ≡ string_bytes text.old ++ output_line (output_of S.changed report)) }
 {
-    for report in reported {
-        push_output(alloc, text, &output_of(report))?;
-    }
-    Ok(())
+    push_output(alloc, text, &output_of(report))
 }

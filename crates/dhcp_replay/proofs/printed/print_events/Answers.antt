@@ -8,10 +8,10 @@ use Rattle.dhcp_replay.proofs.PrintedLemmas.{begins, goes_on, next_first, rest_a
 use Rattle.dhcp_replay.proofs.printed.print_events.Goals as goal
 
 pub loop-event-init : goal.loop-event-init
-loop-event-init g c = record { so_far = begins _ _ c.args.events.now _ _ _ c.requires.moments; number = refl }
+loop-event-init g c = record { so_far = begins _ _ c.args.events.now _ _ _ c.requires.moments; number = refl; emptied = c.new-reports.ensures }
 
-pub print_event-requires : goal.print_event-requires
-print_event-requires g c =
+pub print_event-requires-moment : goal.print_event-requires-moment
+print_event-requires-moment g c =
     let all = c.args.events.now in
     let event = c.event-item.result in
     let so_far = next_first _ _ all c.loop-event.event-index c.loop-event.number event _ _ _ _ _ _ c.loop-event-test.true c.event-item.is c.loop-event.invariant.number c.loop-event.invariant.so_far in
@@ -21,4 +21,5 @@ pub loop-event-preserved : goal.loop-event-preserved
 loop-event-preserved g c = record {
   so_far = goes_on _ _ _ _ _ _ _ _ _ _ _ (next_first _ _ c.args.events.now c.loop-event.event-index c.loop-event.number c.event-item.result _ _ _ _ _ _ c.loop-event-test.true c.event-item.is c.loop-event.invariant.number c.loop-event.invariant.so_far) _ _ _ c.in_ok-print_event.ensures.printed;
   number = omega (arith, c.loop-event.invariant.number);
+  emptied = c.in_ok-print_event.ensures.emptied;
 }

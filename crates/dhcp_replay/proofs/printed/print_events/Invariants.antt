@@ -1,4 +1,4 @@
-use Rattle.std.proofs.Common.{◌≡◌, ◌+◌}
+use Rattle.std.proofs.Common.{◌≡◌, ◌+◌, []}
 use Rattle.std.specs.Prelude.{string_bytes}
 use Rattle.dhcp_replay.proofs.PrintedLemmas.{IsPrintedSoFar, rest_at}
 use Rattle.dhcp_replay.proofs.printed.print_events.Given as goal
@@ -11,4 +11,5 @@ invariant-loop-event g l =
     record {
       so_far : IsPrintedSoFar g.C.FamilyClient.protocol g.C.Reported.FamilyState.changed l.events (rest_at l.events l.event-index) (string_bytes l.fn.text) (string_bytes l.text) (parts l.fn.client) (parts l.client) (left l.fn.words) (left l.words);
       number : l.number ≡ 1 + l.event-index;
+      emptied : l.reports.items ≡ [];
     }
