@@ -1,7 +1,7 @@
 //! Decimal numbers, and addresses that are written in them, put at the end of a text. Out of memory
 //! is the only error; a part of the digits may then be there.
 
-ghost use Rattle.std.specs.Prelude.{◌≡◌, ◌<◌, ◌++◌, OnOk, string_bytes};
+ghost use Rattle.std.specs.Prelude.{◌≡◌, ◌<◌, ◌++◌, ◌/◌, ◌%◌, OnOk, string_bytes};
 ghost use Rattle.std.specs.Fmt.{decimal};
 ghost use Rattle.dhcp_stream.specs.Number.{address_text};
 
@@ -15,7 +15,20 @@ pub fn push_decimal(text: &mut String, number: u32) -> Result<(), AllocError>
     if number < 10 {
         return push_digit(text, number);
     }
-    push_decimal(text, number / 10)?;
+    if number < 100 {
+        return push_two(text, number);
+    }
+    push_decimal(text, number / 100)?;
+    push_two(text, number % 100)
+}
+
+// Puts two digits at the end of a text.
+fn push_two(text: &mut String, number: u32) -> Result<(), AllocError>
+    requires { number < 100 }
+    ensures { OnOk result (string_bytes text.new
+        ≡ string_bytes text.old ++ (decimal (number / 10) ++ decimal (number % 10))) }
+{
+    push_digit(text, number / 10)?;
     push_digit(text, number % 10)
 }
 
