@@ -1,8 +1,8 @@
 -- What is printed of a client, event by event.
-use Rattle.std.proofs.Common.{◌≡◌, ◌<◌, ◌^◌, ◌+◌, ℕ, suc, List, [], ◌∷◌, ◌++◌, Option, Some, None, refl, sym, ap, subst, ◌∙◌, append_assoc, append-nil, arith, drop, get_or, length}
+use Rattle.std.proofs.Common.{◌≡◌, ◌<◌, ◌^◌, ◌+◌, ℕ, suc, List, [], ◌∷◌, ◌++◌, Option, Some, None, refl, sym, ap, subst, ◌∙◌, append_assoc, append-nil, arith, length}
 use Rattle.std.specs.Prelude.{All, IfSome, IsSomeAnd, map}
 use Rattle.std.specs.List.{flat_map}
-use Rattle.std.proofs.lemmas.List.{drop_more, map-append}
+use Rattle.std.proofs.lemmas.List.{map-append}
 use Rattle.std.proofs.lemmas.List.Concat.{flat_map-append}
 use Rattle.std.proofs.lemmas.List.Elements.{All-tail}
 use Rattle.dhcp_clock.specs.declared.link.Handed.{Handed}
@@ -10,6 +10,7 @@ use Rattle.dhcp_clock.specs.declared.link.Packet.{Packet}
 use Rattle.dhcp_history.specs.Calls.{ClientParts}
 use Rattle.dhcp_history.specs.Client.{view_of}
 use Rattle.dhcp_history.specs.EventLoop.{HasReported, MakesUp, event_at, events_at}
+use Rattle.dhcp_history.specs.Machine.{View}
 use Rattle.dhcp_history.specs.Protocol.{Protocol}
 use Rattle.dhcp_history.specs.declared.script.NumberedEvent.{NumberedEvent}
 use Rattle.dhcp_history.specs.declared.script.NumberedReport.{NumberedReport}
@@ -19,17 +20,11 @@ use Rattle.dhcp_script.specs.declared.event.Event.{Event}
 use Rattle.dhcp_replay.specs.Life.{numbered, numbered_event, output_of}
 use Rattle.dhcp_replay.specs.Printed.{IsPrinted, lines_of, played_events}
 
--- the events from this index on, by their numbers
-abbrev pub rest_at : List Event → ℕ → List (NumberedEvent Packet)
-rest_at events i = numbered (1 + i) (drop i events)
-
-pub rest_next : (events : List Event) (i number : ℕ) (event : Event) → i < length events → event ≡ get_or events i event → number ≡ 1 + i → rest_at events i ≡ numbered_event number event ∷ rest_at events (i + 1)
-rest_next events i number event below is number_is =
-    let next : suc (1 + i) ≡ 1 + (i + 1) = omega arith in
-    ap (numbered (1 + i)) (drop_more events i event below)
-    ∙ ap (λ (e : Event). numbered_event (1 + i) e ∷ numbered (suc (1 + i)) (drop (i + 1) events)) (sym is)
-    ∙ ap (λ (n : ℕ). numbered_event n event ∷ numbered (suc (1 + i)) (drop (i + 1) events)) (sym number_is)
-    ∙ ap (λ (n : ℕ). numbered_event number event ∷ numbered n (drop (i + 1) events)) next
+-- events by their numbers, of which the first is known
+numbered_first : (number : ℕ) (event : Event) (entry : NumberedEvent Packet) (events rest : List Event) → events ≡ event ∷ rest → entry ≡ numbered_event number event → numbered number events ≡ entry ∷ numbered (number + 1) rest
+numbered_first number event entry events rest steps entry_is =
+    let next : suc number ≡ number + 1 = omega arith in
+    ap (numbered number) steps ∙ ap (λ (n : ℕ). numbered_event number event ∷ numbered n rest) next ∙ ap (λ (e : NumberedEvent Packet). e ∷ numbered (number + 1) rest) (sym entry_is)
 
 module _ {Config PublicState State Exchange Answer Lease : Type 0} (protocol : Config → Protocol PublicState Packet Handed State Exchange Answer Lease) (changed : PublicState → PlainReport) where
   abbrev lines : List (NumberedReport PublicState Handed) → List ℕ
@@ -79,7 +74,40 @@ module _ {Config PublicState State Exchange Answer Lease : Type 0} (protocol : C
       }
 
   -- the events that are left begin with the next one
-  pub next_first : (all : List Event) (i number : ℕ) (event : Event) (before now : List ℕ) (old here : ClientParts Config State Exchange) (drawn left : Option (List ℕ)) → i < length all → event ≡ get_or all i event → number ≡ 1 + i →
-      IsPrintedSoFar all (rest_at all i) before now old here drawn left → IsPrintedSoFar all (numbered_event number event ∷ rest_at all (i + 1)) before now old here drawn left
-  next_first all i number event before now old here drawn left below is number_is so_far =
-      subst (λ (rest : List (NumberedEvent Packet)). IsPrintedSoFar all rest before now old here drawn left) (rest_next all i number event below is number_is) so_far
+  pub next_first : (all : List Event) (number : ℕ) (event : Event) (entry : NumberedEvent Packet) (events rest : List Event) (before now : List ℕ) (old here : ClientParts Config State Exchange) (drawn left : Option (List ℕ)) →
+      events ≡ event ∷ rest → entry ≡ numbered_event number event → IsPrintedSoFar all (numbered number events) before now old here drawn left → IsPrintedSoFar all (entry ∷ numbered (number + 1) rest) before now old here drawn left
+  next_first all number event entry events rest before now old here drawn left steps entry_is so_far =
+      subst (λ (rest : List (NumberedEvent Packet)). IsPrintedSoFar all rest before now old here drawn left) (numbered_first number event entry events rest steps entry_is) so_far
+
+  -- where no event is left, what was printed is what all of them report
+  module _ (all : List Event) (before now : List ℕ) (old here : ClientParts Config State Exchange) (drawn left : Option (List ℕ)) where
+    abbrev Reported : List (NumberedReport PublicState Handed) → Option (List ℕ) → Option (List ℕ) → Type 0
+    Reported items drawn' left' = IfSome drawn' (λ words. HasReported (played_events protocol old all (view_of old.client words)) [] items (view_of here.client) left')
+
+    all_reported : (items : List (NumberedReport PublicState Handed)) (drawn' left' : Option (List ℕ)) →
+        IfSome drawn' (λ words. IsSomeAnd left' (λ available. MakesUp (events_at (protocol old.config) (view_of here.client available) []) (played_events protocol old all (view_of old.client words)) items [])) →
+        Reported items drawn' left'
+    all_reported items None left' made = tt
+    all_reported items (Some words) None made = absurd made
+    all_reported items (Some words) (Some available) made =
+        let whole = played_events protocol old all (view_of old.client words) in
+        let words_are : available ≡ whole.view.words = ap (λ (view : View State Exchange). view.words) made.view in
+        record {
+          outputs = sym (append-nil items) ∙ made.outputs;
+          client = ap (view_of here.client) (sym words_are) ∙ made.view;
+          words = ap Some words_are;
+        }
+
+    pub ends : IsPrintedSoFar all [] before now old here drawn left → IsPrinted changed (played_events protocol old all) before now old here drawn left
+    ends so_far = record {
+      items = so_far.items;
+      text_is = so_far.text_is;
+      reported = all_reported so_far.items drawn left so_far.makes_up;
+      config_kept = so_far.config_kept;
+    }
+
+  -- the same of events by their numbers, where there are none
+  pub ends_with : (all events : List Event) (number : ℕ) (before now : List ℕ) (old here : ClientParts Config State Exchange) (drawn left : Option (List ℕ)) → length events ≡ 0 →
+      IsPrintedSoFar all (numbered number events) before now old here drawn left → IsPrinted changed (played_events protocol old all) before now old here drawn left
+  ends_with all [] number before now old here drawn left none so_far = ends all before now old here drawn left so_far
+  ends_with all (event ∷ events) number before now old here drawn left none so_far = absurd (omega (arith, none))

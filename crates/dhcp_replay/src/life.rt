@@ -76,7 +76,7 @@ pub fn numbered(
     Ok(made)
 }
 
-/// An event by its number. Out of memory is the only error.
+/// A copy of an event, by its number. Out of memory is the only error.
 pub fn numbered_event(
     alloc: Global,
     number: u32,
@@ -84,34 +84,64 @@ pub fn numbered_event(
 ) -> Result<dhcp_history::NumberedEvent<Packet>, AllocError>
     ensures { IfOk result (λ made. made ≡ lives.numbered_event number event.now) }
 {
-    Ok(dhcp_history::NumberedEvent {
+    let copy = Event {
+        moment: event.moment,
+        refuse: event.refuse,
+        what: copy_of(alloc, &event.what)?,
+    };
+    Ok(into_numbered(number, copy))
+}
+
+/// An event by its number.
+pub fn into_numbered(number: u32, event: Event) -> dhcp_history::NumberedEvent<Packet>
+    ensures { result ≡ lives.numbered_event number event }
+{
+    dhcp_history::NumberedEvent {
         number,
         moment: event.moment,
         refuse: event.refuse,
-        input: input_of(alloc, &event.what)?,
-    })
+        input: input_of(event.what),
+    }
+}
+
+// A copy of what happens at an event.
+fn copy_of(alloc: Global, what: &EventWhat) -> Result<EventWhat, AllocError>
+    ensures { IfOk result (λ copy. copy ≡ what.now) }
+{
+    match what {
+        EventWhat::Nothing => Ok(EventWhat::Nothing),
+        EventWhat::Frame(bytes) => Ok(EventWhat::Frame(copied_bytes(alloc, bytes)?)),
+        EventWhat::Payload(bytes) => Ok(EventWhat::Payload(copied_bytes(alloc, bytes)?)),
+        EventWhat::Release => Ok(EventWhat::Release),
+        EventWhat::CleanUp => Ok(EventWhat::CleanUp),
+    }
+}
+
+// A copy of bytes.
+fn copied_bytes(alloc: Global, bytes: &Bytes) -> Result<Bytes, AllocError>
+    ensures { IfOk result (λ copy. copy ≡ bytes.now) }
+{
+    Ok(Bytes::from(bytes.as_slice().to_vec(alloc)?))
 }
 
 // What an event brings to the client.
-fn input_of(alloc: Global, what: &EventWhat) -> Result<Input<Packet>, AllocError>
-    ensures { IfOk result (λ input. input ≡ lives.input_of what.now) }
+fn input_of(what: EventWhat) -> Input<Packet>
+    ensures { result ≡ lives.input_of what }
 {
     match what {
-        EventWhat::Nothing => Ok(Input::Nothing),
-        EventWhat::Frame(bytes) => arrival(alloc, PacketKind::Frame, bytes),
-        EventWhat::Payload(bytes) => arrival(alloc, PacketKind::Payload, bytes),
-        EventWhat::Release => Ok(Input::Release),
-        EventWhat::CleanUp => Ok(Input::CleanUp),
+        EventWhat::Nothing => Input::Nothing,
+        EventWhat::Frame(bytes) => arrival(PacketKind::Frame, bytes),
+        EventWhat::Payload(bytes) => arrival(PacketKind::Payload, bytes),
+        EventWhat::Release => Input::Release,
+        EventWhat::CleanUp => Input::CleanUp,
     }
 }
 
 // A packet that comes in.
-fn arrival(alloc: Global, kind: PacketKind, bytes: &Bytes) -> Result<Input<Packet>, AllocError>
-    ensures { IfOk result (λ input.
-        input ≡ Input.Arrival (record { kind = kind; bytes = bytes.now })) }
+fn arrival(kind: PacketKind, bytes: Bytes) -> Input<Packet>
+    ensures { result ≡ Input.Arrival (record { kind = kind; bytes = bytes }) }
 {
-    let bytes = Bytes::from(bytes.as_slice().to_vec(alloc)?);
-    Ok(Input::Arrival(Packet { kind, bytes }))
+    Input::Arrival(Packet { kind, bytes })
 }
 
 /// What was reported, as outputs of a script.

@@ -17,35 +17,36 @@ ghost use Rattle.dhcp_replay.specs.Promises6.{KeepsPromisesOfV6};
 ghost use Rattle.dhcp_replay.specs.Replayed as lives;
 
 use crate::family::FamilyClient;
-use crate::life::{FamilyState, numbered_event, output_of};
+use crate::life::{FamilyState, into_numbered, output_of};
 use crate::{begun4, begun6, laws};
 use dhcp_clock::{Handed, Packet, WordList, Words};
 use dhcp_output::push_output;
 use dhcp_script::{Event, Script, Script4, Script6};
-use dhcp_wire::DhcpError;
+use dhcp_wire::{DhcpError, Sequence};
 use std::alloc::{AllocError, Global};
+use std::mem;
 
 /// Plays a valid script, and puts a line for each thing that is reported at the end of a text. Out
 /// of memory is the only error; a part of the lines may then be there.
-pub fn print_script(alloc: Global, script: &Script, text: &mut String) -> Result<(), DhcpError>
-    requires { scripts.is_valid script.now ≡ true }
+pub fn print_script(alloc: Global, script: Script, text: &mut String) -> Result<(), DhcpError>
+    requires { scripts.is_valid script ≡ true }
     ensures lines { OnOk result (string_bytes text.new
-        ≡ string_bytes text.old ++ flat_map output_line (lives.outputs_of script.now)) }
-    ensures promises { OnOk result (KeepsPromisesOf script.now) }
+        ≡ string_bytes text.old ++ flat_map output_line (lives.outputs_of script)) }
+    ensures promises { OnOk result (KeepsPromisesOf script) }
     ensures error { IfErr result (λ error. error ≡ no_memory) }
 {
     match script {
-        Script::V4(script) => print_script4(alloc, script, text),
-        Script::V6(script) => print_script6(alloc, script, text),
+        Script::V4(mut script) => print_script4(alloc, &mut script, text),
+        Script::V6(mut script) => print_script6(alloc, &mut script, text),
     }
 }
 
-// Plays an IPv4 script, and prints what is reported.
-fn print_script4(alloc: Global, script: &Script4, text: &mut String) -> Result<(), DhcpError>
-    requires { v4.is_valid script.now ≡ true }
+// Plays an IPv4 script, and prints what is reported. It takes the events out of the script.
+fn print_script4(alloc: Global, script: &mut Script4, text: &mut String) -> Result<(), DhcpError>
+    requires { v4.is_valid script.old ≡ true }
     ensures lines { OnOk result (string_bytes text.new
-        ≡ string_bytes text.old ++ flat_map output_line (lives.outputs_of_v4 script.now)) }
-    ensures promises { OnOk result (KeepsPromisesOfV4 script.now) }
+        ≡ string_bytes text.old ++ flat_map output_line (lives.outputs_of_v4 script.old)) }
+    ensures promises { OnOk result (KeepsPromisesOfV4 script.old) }
     ensures error { IfErr result (λ error. error ≡ no_memory) }
 {
     let mut words = WordList::new(script.words.as_slice().to_vec(alloc)?);
@@ -55,15 +56,16 @@ fn print_script4(alloc: Global, script: &Script4, text: &mut String) -> Result<(
     let mut client = begun4(alloc, config, lease, &mut words, script.start, events)?;
     laws::promises_are_kept(&client);
     dhcp4_client::laws::table_is_lawful();
+    let events = mem::replace(&mut script.events, Sequence::new(alloc)).into_vec();
     print_events(alloc, &mut *client, &mut words, events, text)
 }
 
-// Plays an IPv6 script, and prints what is reported.
-fn print_script6(alloc: Global, script: &Script6, text: &mut String) -> Result<(), DhcpError>
-    requires { v6.is_valid script.now ≡ true }
+// Plays an IPv6 script, and prints what is reported. It takes the events out of the script.
+fn print_script6(alloc: Global, script: &mut Script6, text: &mut String) -> Result<(), DhcpError>
+    requires { v6.is_valid script.old ≡ true }
     ensures lines { OnOk result (string_bytes text.new
-        ≡ string_bytes text.old ++ flat_map output_line (lives.outputs_of_v6 script.now)) }
-    ensures promises { OnOk result (KeepsPromisesOfV6 script.now) }
+        ≡ string_bytes text.old ++ flat_map output_line (lives.outputs_of_v6 script.old)) }
+    ensures promises { OnOk result (KeepsPromisesOfV6 script.old) }
     ensures error { IfErr result (λ error. error ≡ no_memory) }
 {
     let mut words = WordList::new(script.words.as_slice().to_vec(alloc)?);
@@ -73,6 +75,7 @@ fn print_script6(alloc: Global, script: &Script6, text: &mut String) -> Result<(
     let mut client = begun6(alloc, config, lease, &mut words, script.start, events)?;
     laws::promises6_are_kept(&client);
     dhcp6_client::laws::table_is_lawful();
+    let events = mem::replace(&mut script.events, Sequence::new(alloc)).into_vec();
     print_events(alloc, &mut *client, &mut words, events, text)
 }
 
@@ -81,12 +84,12 @@ fn print_events<C: FamilyClient, W: Words>(
     alloc: Global,
     client: &mut C,
     words: &mut W,
-    events: &[Event],
+    events: Vec<Event>,
     text: &mut String,
 ) -> Result<(), DhcpError>
-    requires { CanPlay events.now }
+    requires { CanPlay events.items }
     ensures printed { OnOk result (IsPrinted C.Reported.changed
-        (played_events C.protocol (C.parts client.old) events.now)
+        (played_events C.protocol (C.parts client.old) events.items)
         (string_bytes text.old) (string_bytes text.new) (C.parts client.old) (C.parts client.new)
         (W.left words.old) (W.left words.new)) }
     ensures error { IfErr result (λ error. error ≡ no_memory) }
@@ -95,7 +98,7 @@ fn print_events<C: FamilyClient, W: Words>(
     let mut reports = Vec::new(alloc);
     let mut number = 1u32;
     for event in events {
-        let event = numbered_event(alloc, number, event)?;
+        let event = into_numbered(number, event);
         print_event(alloc, client, words, event, &mut reports, text)?;
         number += 1;
     }

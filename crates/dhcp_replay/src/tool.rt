@@ -179,15 +179,15 @@ fn run_answer(alloc: Global, input: Bytes) -> Result<Bytes, Status>
     ensures { AnswersText scripts result input }
 {
     match read_script(alloc, input.as_slice()) {
-        Ok(Some(script)) => script_answer(alloc, &script, input),
+        Ok(Some(script)) => script_answer(alloc, script, input),
         Ok(None) => Err(Status::NoScript),
         Err(error) => Err(out_of_memory(error)),
     }
 }
 
 // The text to print for a script, put where these bytes were, or the status.
-fn script_answer(alloc: Global, script: &Script, room: Bytes) -> Result<Bytes, Status>
-    ensures { AnswersScript scripts result script.now }
+fn script_answer(alloc: Global, script: Script, room: Bytes) -> Result<Bytes, Status>
+    ensures { AnswersScript scripts result script }
 {
     if !script.is_valid() {
         return Err(Status::Invalid);
@@ -200,10 +200,10 @@ fn script_answer(alloc: Global, script: &Script, room: Bytes) -> Result<Bytes, S
 
 // The text to print for a valid script, put where these bytes were.
 #[tactic(auto, unfolding(crate::specs::Tool::printed, dhcp_output::specs::Output::outputs_text))]
-fn text_for(alloc: Global, script: &Script, room: Bytes) -> Result<Bytes, DhcpError>
-    requires { is_valid script.now ≡ true }
-    ensures text { Makes (λ text. text) result (printed script.now) }
-    ensures promises { OnOk result (KeepsPromisesOf script.now) }
+fn text_for(alloc: Global, script: Script, room: Bytes) -> Result<Bytes, DhcpError>
+    requires { is_valid script ≡ true }
+    ensures text { Makes (λ text. text) result (printed script) }
+    ensures promises { OnOk result (KeepsPromisesOf script) }
 {
     let mut text = empty_text(room);
     print_script(alloc, script, &mut text)?;

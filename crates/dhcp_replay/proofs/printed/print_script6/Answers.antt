@@ -1,11 +1,12 @@
 -- By the life of the client that begins.
-use Rattle.std.proofs.Common.{◌≡◌, Result, Err, rules}
+use Rattle.std.proofs.Common.{◌≡◌, ◌∙◌, Result, Err, rules, subst, sym}
 use Rattle.std.specs.Prelude.{◌&&◌}
 use Rattle.std.proofs.lemmas.Bool.{and_parts}
 use Rattle.dhcp_wire.specs.Error.{ErrorParts}
 use Rattle.dhcp6_client.specs.Client.{can_begin}
 use Rattle.dhcp_script.specs.Event.{are_valid}
 use Rattle.dhcp_script.specs.Script6.{is_valid}
+use Rattle.dhcp_replay.specs.Life.{CanPlay}
 use Rattle.dhcp_replay.specs.Replayed6.{fit_a_script}
 use Rattle.dhcp_replay.proofs.PrintedScripts.{keeps6, lines6, no_memory_only, where_ok}
 use Rattle.dhcp_replay.proofs.ReplayLemmas.{can_play}
@@ -23,16 +24,19 @@ print_events-requires c =
     let start = c.args.script.now.start in
     let events = c.as_slice-events.result.now in
     let fit = fit_a_script c.in_ok-config.config c.in_ok-lease.lease in
-    can_play start events (and_parts (are_valid start events) fit (and_parts (are_valid start events && fit) (can_begin c.in_ok-config.config c.in_ok-lease.lease) c.in_ok-client.ensures.valid).0).0
+    let events_are : c.into_vec-events.result.items ≡ c.args.script.now.events = search rules in
+    subst CanPlay (c.as_slice-events.ensures ∙ sym events_are) (can_play start events (and_parts (are_valid start events) fit (and_parts (are_valid start events && fit) (can_begin c.in_ok-config.config c.in_ok-lease.lease) c.in_ok-client.ensures.valid).0).0)
 
 pub returns-clause-lines : goal.returns-clause-lines
 returns-clause-lines c =
     let words_are : c.new-words.result ≡ c.args.script.now.words = search rules in
-    lines6 c.args.script.now c.in_ok-config.config c.in_ok-lease.lease c.new-words.result c.as_slice-events.result.now c.in_ok-config.ensures c.in_ok-lease.ensures words_are c.as_slice-events.ensures
+    let events_are : c.into_vec-events.result.items ≡ c.args.script.now.events = search rules in
+    lines6 c.args.script.now c.in_ok-config.config c.in_ok-lease.lease c.new-words.result c.into_vec-events.result.items c.in_ok-config.ensures c.in_ok-lease.ensures words_are events_are
     c.in_ok-client.client.value _ c.in_ok-client.ensures.begun c.in_ok-client.ensures.drawn _ c.deref_mut.ensures.value c.print_events.result _ _ _ _ (c.table_is_lawful.ensures c.in_ok-client.client.value.config) c.print_events.ensures.printed
 
 pub returns-clause-promises : goal.returns-clause-promises
 returns-clause-promises c =
     let words_are : c.new-words.result ≡ c.args.script.now.words = search rules in
-    where_ok c.print_events.result (keeps6 c.args.script.now c.in_ok-config.config c.in_ok-lease.lease c.new-words.result c.as_slice-events.result.now c.in_ok-config.ensures c.in_ok-lease.ensures words_are c.as_slice-events.ensures
+    let events_are : c.into_vec-events.result.items ≡ c.args.script.now.events = search rules in
+    where_ok c.print_events.result (keeps6 c.args.script.now c.in_ok-config.config c.in_ok-lease.lease c.new-words.result c.into_vec-events.result.items c.in_ok-config.ensures c.in_ok-lease.ensures words_are events_are
     c.in_ok-client.client.value _ c.in_ok-client.ensures.begun c.in_ok-client.ensures.drawn c.deref.result.now c.deref.ensures c.promises6_are_kept.ensures)
