@@ -17,8 +17,7 @@ ghost use Rattle.dhcp4_lease.specs.Lease.{HasFieldsOf, ReadsLease, ReadsLeaseBy,
 use self::times::{LeaseTimes, read_times};
 use dhcp_clock::Words;
 use dhcp_wire::{
-    BROADCAST_MAC_ADDRESS, DhcpError, ErrorKind, FixedText, Sequence, Text, beside, copied,
-    copied_list,
+    BROADCAST_MAC_ADDRESS, DhcpError, ErrorKind, FixedText, Sequence, Text, copied, copied_list,
 };
 use dhcp4_msg::{DhcpV4ClasslessRoute, DhcpV4Message, DhcpV4OptionCode, DhcpV4Options};
 use std::alloc::Global;
@@ -168,7 +167,7 @@ impl DhcpV4Lease {
     }
 
     /// The same as `new_from_msg`, of a message that is no longer needed: its options are moved
-    /// into the lease, and not copied.
+    /// into the lease, and not shared with it.
     pub fn from_message<W: Words>(
         alloc: Global,
         msg: DhcpV4Message,
@@ -266,15 +265,13 @@ impl DhcpV4Lease {
             self.gateways.as_ref(),
             self.ntp_srvs.as_ref(),
         )?;
-        let names = copied_names(alloc, self.host_name.as_ref(), self.domain_name.as_ref());
-        let (lists, names) = beside(lists, names)?;
-        let routes = copied_list(alloc, self.classless_routes.as_ref());
-        let ((lists, names), routes) = beside((lists, names), routes)?;
+        let names = copied_names(alloc, self.host_name.as_ref(), self.domain_name.as_ref())?;
+        let routes = copied_list(alloc, self.classless_routes.as_ref())?;
         Ok((lists, names, routes))
     }
 }
 
-// The lease of a message with these times, with a copy of its options.
+// The lease of a message with these times, with which it shares the options.
 fn copied_lease(
     alloc: Global,
     msg: &DhcpV4Message,
@@ -351,10 +348,8 @@ fn values_in(
         alloc,
         options.text(DhcpV4OptionCode::HostName),
         options.text(DhcpV4OptionCode::DomainName),
-    );
-    let (lists, names) = beside(lists, names)?;
-    let routes = options.classless_routes(alloc);
-    let ((lists, names), routes) = beside((lists, names), routes)?;
+    )?;
+    let routes = options.classless_routes(alloc)?;
     Ok((lists, names, routes))
 }
 

@@ -6,6 +6,7 @@ mod message;
 mod message_type;
 mod option;
 mod option_code;
+mod option_table;
 mod options;
 mod route;
 mod value;

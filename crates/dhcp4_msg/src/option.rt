@@ -5,7 +5,7 @@ ghost use Rattle.dhcp4_msg.specs.Value.{option_code, written_value, written_opti
 ghost use Rattle.dhcp_wire.specs.Outcome.{Makes, Emits, ReadsOption};
 ghost use Rattle.dhcp4_msg.specs.Options.{option_at};
 
-use crate::options::{END, PAD};
+use crate::option_table::{END, PAD};
 use crate::value::{
     TEXT_MAX, addresses_len, emit_addresses, emit_codes, emit_routes, emit_text, read_value,
     routes_len,

@@ -1,8 +1,7 @@
 //! The options of a message, by their numbers.
 
-ghost use Rattle.std.specs.Prelude.{◌≡◌, ◌≤◌, ◌<◌, ◌==◌, ◌&&◌, length, OnOk, IfErr, MatchResult, IfSome, IsTrue, option_copied, option_map, slice_set, vec_items};
-ghost use Rattle.std.specs.List.{All, flat_map};
-ghost use Rattle.std.specs.Option.{option_eq};
+ghost use Rattle.std.specs.Prelude.{◌≡◌, ◌==◌, ◌&&◌, OnOk, IfErr, IfSome, IsTrue, option_copied, option_map, unwrap_or, vec_items};
+ghost use Rattle.std.specs.Arc.{arc_value};
 ghost use Rattle.std.specs.Cmp.{on_per, on_equiv, and_per, and_equiv, nat_eq_equiv, partial_equiv_from_equiv};
 ghost use Rattle.std.specs.Cmp.Lexicographic.{pointwise, lists_per, lists_equiv};
 ghost use Rattle.std.specs.FinMap as map;
@@ -26,48 +25,36 @@ ghost use Rattle.dhcp4_msg.specs.Value.{
   written_option,
 };
 ghost use Rattle.dhcp4_msg.specs.Options.{
-  RiseFrom,
   classless_routes,
-  entry_of,
-  parts_of,
   read_options,
-  reading_of,
   said_by,
-  with_entry,
   written_options,
 };
 
-use crate::laws::option_widths;
-use crate::value::read_value;
+use crate::option_table::{END, OptionTable};
 use crate::{DhcpV4ClasslessRoute, DhcpV4Option, DhcpV4OptionCode};
-use dhcp_wire::{
-    BufferMut, Bytes, DhcpError, OptionFormat, RawOption, Sequence, Text, none_if_refused,
-};
+use dhcp_wire::{BufferMut, Bytes, DhcpError, Sequence, Text};
 use std::alloc::Global;
 use std::marker::Model;
 use std::net::Ipv4Addr;
-
-// The codes of the options that are a code alone, RFC 2132 sections 3.1 and 3.2.
-pub(crate) const PAD: u8 = 0;
-
-pub(crate) const END: u8 = 255;
-
-// How many options a usual message has at most: room for these is made before they are read.
-const USUAL_OPTIONS: usize = 16;
+use std::sync::Arc;
 
 // The code of the option in which some servers send routes.
 const PRIVATE_ROUTES: u8 = 249;
 
-/// The options of a message, RFC 2132. Contracts see it as a finite map from number to option.
+/// The options of a message, RFC 2132. Contracts see it as a finite map from number to option. A
+/// copy shares them, until the one or the other is changed.
 #[derive(Debug, Drop)]
 pub struct DhcpV4Options {
-    // The options that are kept.
-    kept: Vec<DhcpV4Option>,
-    // For each number the place of its option among them, if it is there.
-    places: [Option<u8>; 256],
+    // Gives the memory for a table.
+    alloc: Global,
+    // The options. Where there is no table, there are none.
+    table: Option<Arc<OptionTable>>,
 }
 
 impl Model for DhcpV4Options {
+    ghost use Rattle.std.specs.Arc.{arc_value};
+    ghost use Rattle.std.specs.Prelude.{option_map, unwrap_or};
     ghost use Rattle.std.specs.FinMap as map;
     ghost use Rattle.dhcp4_msg.specs.Options.{OptionMap};
     ghost use Rattle.std.specs.Coded.{coded_ℕ};
@@ -77,11 +64,7 @@ impl Model for DhcpV4Options {
 
     ghost coded = { map.code coded_ℕ option.the_row.coded };
 
-    ghost use Rattle.dhcp4_msg.specs.Options.{IsIndexed, map_of};
-
-    ghost view = { λ options. map_of options.kept.items };
-
-    ghost invariant = { λ options. IsIndexed options.kept.items options.places };
+    ghost view = { λ options. unwrap_or (option_map arc_value options.table) map.empty };
 }
 
 impl PartialEq for DhcpV4Options {
@@ -94,14 +77,12 @@ impl PartialEq for DhcpV4Options {
         (on_per (λ p. p.1) option_per.laws-law))) };
 
     fn eq(&self, other: &Self) -> bool {
-        let _ = &self.kept;
-        let _ = &other.kept;
-        for number in 0..=u8::MAX {
-            if !self.agrees_at(other, number) {
-                return false;
-            }
+        match (&self.table, &other.table) {
+            (Some(mine), Some(theirs)) => mine == theirs,
+            (Some(mine), None) => **mine == OptionTable::new(self.alloc),
+            (None, Some(theirs)) => OptionTable::new(self.alloc) == **theirs,
+            (None, None) => true,
         }
-        true
     }
 }
 
@@ -116,20 +97,7 @@ impl DhcpV4Options {
     pub fn new(alloc: Global) -> Self
         ensures { result ≡ map.empty }
     {
-        DhcpV4Options {
-            kept: Vec::new(alloc),
-            places: [None; 256],
-        }
-    }
-
-    // No options, with room for so many.
-    fn with_capacity(alloc: Global, capacity: usize) -> Result<Self, DhcpError>
-        ensures { Makes (λ options. options) result map.empty }
-    {
-        Ok(DhcpV4Options {
-            kept: Vec::with_capacity(alloc, capacity)?,
-            places: [None; 256],
-        })
+        DhcpV4Options { alloc, table: None }
     }
 
     /// Makes room for so many more options, which spares the growth in steps. Contracts do not see
@@ -138,8 +106,14 @@ impl DhcpV4Options {
         ensures same { self.new ≡ self.old }
         ensures error { IfErr result (λ e. e ≡ no_memory) }
     {
-        self.kept.reserve(additional)?;
-        Ok(())
+        match &mut self.table {
+            Some(table) => Arc::make_mut(table)?.reserve(additional),
+            None => {
+                let table = OptionTable::with_capacity(self.alloc, additional)?;
+                self.table = Some(Arc::new(self.alloc, table)?);
+                Ok(())
+            }
+        }
     }
 
     /// The option of that code, if it is kept: it is of that code, and can be written.
@@ -229,30 +203,26 @@ impl DhcpV4Options {
         ensures ok { OnOk result (self.new ≡ map.insert self.old (option_number option) option) }
         ensures err { IfErr result (λ e. (e ≡ no_memory) × (self.new ≡ self.old)) }
     {
-        let number = usize::from(u8::from(option.code()));
-        match self.places[number] {
-            Some(place) => put(&mut self.kept, usize::from(place), option),
+        match &mut self.table {
+            Some(table) => Arc::make_mut(table)?.insert(option),
             None => {
-                let place = self.kept.len();
-                self.kept.push(option)?;
-                self.places[number] = Some(place as u8);
+                let mut table = OptionTable::new(self.alloc);
+                table.insert(option)?;
+                self.table = Some(Arc::new(self.alloc, table)?);
+                Ok(())
             }
         }
-        Ok(())
     }
 
-    /// A copy; out of memory is the only error.
+    /// A copy, which shares the options: none of them is copied. Out of memory is the only error.
     pub fn try_clone(&self, alloc: Global) -> Result<Self, DhcpError>
         ensures { Makes (λ made. made) result self.now }
     {
-        let mut kept = Vec::with_capacity(alloc, self.kept.len())?;
-        for option in &self.kept {
-            kept.push(option.try_clone(alloc)?)?;
-        }
-        Ok(DhcpV4Options {
-            kept,
-            places: self.places,
-        })
+        let table = match &self.table {
+            Some(table) => Some(Arc::try_clone(table)?),
+            None => None,
+        };
+        Ok(DhcpV4Options { alloc, table })
     }
 
     /// Reads a list of options, RFC 2132 section 2. Of a code that comes more than once the last
@@ -261,29 +231,9 @@ impl DhcpV4Options {
     pub fn parse(alloc: Global, raw: &[u8]) -> Result<Self, DhcpError>
         ensures { Makes (λ options. options) result (read_options raw.now) }
     {
-        let room = raw.len().min(USUAL_OPTIONS);
-        let mut options = DhcpV4Options::with_capacity(alloc, room)?;
-        let mut rest = raw;
-        while let Some((raw, later)) = OptionFormat::DhcpV4.raw_option_at(rest) {
-            options.keep(alloc, raw)?;
-            rest = OptionFormat::DhcpV4.counted_after(raw.code, later);
-        }
-        Ok(options)
-    }
-
-    // Keeps the option that a raw option reads as, if it reads.
-    #[inline(always)]
-    #[tactic(auto, using(crate::proofs::ValueLemmas::option_number_value_of))]
-    fn keep(&mut self, alloc: Global, raw: RawOption) -> Result<(), DhcpError>
-        requires { (raw.code < 256) × (length raw.value.now < 256) }
-        ensures { MatchResult result
-            (λ _. self.new ≡ with_entry self.old (entry_of (parts_of raw.entry)))
-            (λ e. e ≡ no_memory) }
-    {
-        match reading_of(alloc, raw)? {
-            Some(option) => self.insert(option),
-            None => Ok(()),
-        }
+        let table = OptionTable::parse(alloc, raw)?;
+        let table = Some(Arc::new(alloc, table)?);
+        Ok(DhcpV4Options { alloc, table })
     }
 
     /// The bytes that the option of this code is written as, if it is kept: its code, the length of
@@ -306,127 +256,37 @@ impl DhcpV4Options {
         ensures own { IfSome result (λ option. option_number option.now ≡ number) }
         ensures fit { IfSome result (λ option. IsTrue (fits option.now)) }
     {
-        match self.places[usize::from(number)] {
-            Some(place) => Some(&self.kept[usize::from(place)]),
+        match &self.table {
+            Some(table) => table.kept_at(number),
             None => None,
         }
     }
 
     // How many bytes the options are written in at most, with End.
     pub(crate) fn room(&self) -> usize {
-        let mut room = 1usize;
-        for option in &self.kept {
-            room = room.saturating_add(option.room());
+        match &self.table {
+            Some(table) => table.room(),
+            None => 1,
         }
-        room
     }
 
     // Each option stands under its own number, fits, and has the widths of its type.
     pub(crate) fn stand(&self)
         ensures { AllStand self.now }
     {
-        for option in &self.kept {
-            option_widths(option);
+        if let Some(table) = &self.table {
+            table.stand();
         }
-    }
-
-    // Whether both keep equal options under this number, or none.
-    fn agrees_at(&self, other: &Self, number: u8) -> bool
-        ensures { result ≡ option_eq ⟦<DhcpV4Option as PartialEq>⟧.eq
-            (map.get self.now number) (map.get other.now number) }
-    {
-        self.kept_at(number) == other.kept_at(number)
     }
 
     /// Writes the options by rising code, and End last, which is added if it is not among them. Out
     /// of memory is the only error; some of the bytes are then written.
-    #[tactic(auto, unfolding(crate::specs::Options::written_options))]
     pub fn emit(&self, buf: &mut BufferMut) -> Result<(), DhcpError>
         ensures { Emits result buf.old buf.new (written_options self.now) }
     {
-        self.emit_kept(buf)?;
-        if self.kept_at(END).is_none() {
-            buf.write_u8(END)?;
-        }
-        Ok(())
-    }
-
-    // Writes the options that are kept, by rising number, as most senders keep them.
-    fn emit_kept(&self, buf: &mut BufferMut) -> Result<(), DhcpError>
-        ensures { Emits result buf.old buf.new (flat_map written_option (map.values self.now)) }
-    {
-        if are_rising(self.kept.as_slice()) {
-            emit_all(self.kept.as_slice(), buf)
-        } else {
-            self.emit_by_place(buf)
+        match &self.table {
+            Some(table) => table.emit(buf),
+            None => buf.write_u8(END),
         }
     }
-
-    // Writes them number by number. End, the last of all numbers, comes after the walk over the
-    // table, so that the walk ends with the last of the others.
-    fn emit_by_place(&self, buf: &mut BufferMut) -> Result<(), DhcpError>
-        ensures { Emits result buf.old buf.new (flat_map written_option (map.values self.now)) }
-    {
-        let end = self.kept_at(END);
-        let last = usize::from(end.is_some());
-        let mut left = self.kept.len();
-        for place in &self.places {
-            if left == last {
-                break;
-            }
-            if let Some(place) = place {
-                self.kept[usize::from(*place)].emit(buf)?;
-                left -= 1;
-            }
-        }
-        match end {
-            Some(option) => option.emit(buf),
-            None => Ok(()),
-        }
-    }
-}
-
-// Whether the numbers of the options rise.
-fn are_rising(options: &[DhcpV4Option]) -> bool
-    ensures { IsTrue result → RiseFrom 0 options.now }
-{
-    let mut least = 0;
-    for option in options {
-        let number = u16::from(u8::from(option.code()));
-        if number < least {
-            return false;
-        }
-        least = number + 1;
-    }
-    true
-}
-
-// Writes options one after the other.
-fn emit_all(options: &[DhcpV4Option], buf: &mut BufferMut) -> Result<(), DhcpError>
-    requires { All (λ option. IsTrue (fits option)) options.now }
-    ensures { Emits result buf.old buf.new (flat_map written_option options.now) }
-{
-    for option in options {
-        option.emit(buf)?;
-    }
-    Ok(())
-}
-
-// Puts the option in place of the one that stands there.
-#[inline(always)]
-fn put(kept: &mut Vec<DhcpV4Option>, place: usize, option: DhcpV4Option)
-    requires { place < length kept.old.items }
-    ensures { kept.new.items ≡ slice_set kept.old.items place option }
-{
-    kept[place] = option;
-}
-
-// The reading of a raw option, if it has one.
-#[inline(always)]
-fn reading_of(alloc: Global, raw: RawOption) -> Result<Option<DhcpV4Option>, DhcpError>
-    requires { raw.code < 256 }
-    ensures { Makes (λ read. read) result (reading_of (parts_of raw.entry)) }
-{
-    let code = DhcpV4OptionCode::from(raw.code as u8);
-    none_if_refused(read_value(alloc, code, raw.value))
 }

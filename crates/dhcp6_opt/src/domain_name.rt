@@ -13,6 +13,9 @@ use std::alloc::Global;
 // The most bytes of a label.
 const LABEL_MAX: usize = 63;
 
+// How many bytes a usual name has at most: room for these is made before it is read.
+const USUAL_NAME_LEN: usize = 32;
+
 // The names of a value, one after the other to its end. `InvalidDhcpMessage` if and only if names
 // do not fill it.
 pub(crate) fn names_in(alloc: Global, value: &[u8]) -> Result<Sequence<Text>, DhcpError>
@@ -35,7 +38,7 @@ pub(crate) fn name_at(alloc: Global, bytes: &[u8]) -> Result<(Text, &[u8]), Dhcp
     ensures { Gives (λ read. (read.0, read.1.now)) result
         (ok_or (names.name_at bytes.now) ErrorKind.InvalidDhcpMessage) }
 {
-    let mut text = String::new(alloc);
+    let mut text = String::with_capacity(alloc, bytes.len().min(USUAL_NAME_LEN))?;
     let mut rest = bytes;
     while let Some((length, later)) = rest.split_first() {
         if *length == 0 {

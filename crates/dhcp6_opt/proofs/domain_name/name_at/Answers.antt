@@ -19,7 +19,7 @@ returns-in_err-label c =
     let so_far = subst (λ bytes. named_after (string_bytes c.loop-length.text) bytes ≡ name_at c.args.bytes.now) split c.loop-length.invariant in
     let refused = refused_read (label_at c.loop-length.rest.now) InvalidDhcpMessage _ c.in_err-label.ensures in
     let none = name_refused _ _ _ _ so_far c.if-length-eq0.false (ap label_at (sym split) ∙ refused.0) in
-    let exit = err_from_is_err_and c.from_residual.result c.from_residual.ensures.1 in
+    let exit = err_from_is_err_and c.from_residual-in_err-label.result c.from_residual-in_err-label.ensures.1 in
     rw (exit.1, exit.2) (inr (ap (λ read. ok_or read InvalidDhcpMessage) none ∙ ap Err (sym refused.1)))
 
 pub loop-length-smaller : goal.loop-length-smaller

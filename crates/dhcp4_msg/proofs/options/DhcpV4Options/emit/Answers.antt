@@ -1,10 +1,11 @@
--- The options that are kept come before End.
-use Rattle.dhcp4_msg.specs.Options.{written_options}
-use Rattle.dhcp_wire.proofs.EmitLemmas.{emits_exit, front_first}
+-- Where there is no table, End alone is written.
+use Rattle.std.proofs.Common.{sym, subst}
+use Rattle.dhcp_wire.specs.Outcome.{Emits}
+use Rattle.dhcp_wire.proofs.EmitLemmas.{emits_appends}
+use Rattle.dhcp4_msg.proofs.RiseLemmas.{written_none}
 use Rattle.dhcp4_msg.proofs.options.DhcpV4Options.emit.Goals as goal
 
-pub returns-in_err-emit_kept : goal.returns-in_err-emit_kept
-unfolding written_options
-returns-in_err-emit_kept c =
-    emits_exit _ _ _ _ _ c.from_residual.ensures.1 c.in_err-emit_kept.ensures.0
-    (front_first _ _ _ _ c.in_err-emit_kept.ensures.1)
+pub returns-in-None : goal.returns-in-None
+returns-in-None c =
+    rw (← c.self.view_is, c.in-None.is) (subst (Emits c.write_u8.result c.args.buf.now c.write_u8.new.self) (sym written_none)
+    (emits_appends _ _ _ _ c.write_u8.ensures))

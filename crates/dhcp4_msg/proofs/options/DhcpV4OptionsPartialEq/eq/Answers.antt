@@ -1,18 +1,8 @@
--- Options that are equal under each byte are equal.
-use Rattle.std.proofs.Common.{sym, arith, below_more}
-use Rattle.dhcp4_msg.proofs.SlotLemmas.{agree-at, agree_everywhere}
+-- Without a table on either side there are no options on either side.
+use Rattle.std.proofs.Common.{refl}
+use Rattle.dhcp4_msg.proofs.RiseLemmas.{no_entries}
 use Rattle.dhcp4_msg.proofs.options.DhcpV4OptionsPartialEq.eq.Goals as goal
 
-pub returns-then-not-agrees_at : goal.returns-then-not-agrees_at
-returns-then-not-agrees_at c = agree-at _ _ c.loop-number.number (sym c.if-not-agrees_at.ensures)
-
-pub loop-number-preserved : goal.loop-number-preserved
-loop-number-preserved c = below_more _ _ c.loop-number.invariant (sym c.if-not-agrees_at.ensures)
-
-pub returns-else-not-agrees_at : goal.returns-else-not-agrees_at
-returns-else-not-agrees_at c =
-    rw (← c.self.view_is, ← c.other.view_is) (agree_everywhere _ _ _ _ c.self.invariant c.other.invariant (λ q below.
-    rw (c.self.view_is, c.other.view_is) (below_more _ _ c.loop-number.invariant (sym c.if-not-agrees_at.ensures) q (omega arith))))
-
-pub returns : goal.returns
-returns c = absurd (omega arith)
+pub returns-in-None-None : goal.returns-in-None-None
+returns-in-None-None c =
+    rw (← c.self.view_is, ← c.other.view_is, c.in-None-None.is-0, c.in-None-None.is-1) (rw no_entries refl)

@@ -1,7 +1,7 @@
 -- An option that was read from a short value fits.
 use Rattle.std.proofs.Common.{refl, sym, ◌∙◌, arith}
 use Rattle.dhcp4_msg.proofs.ValueLemmas.{fits-value_of}
-use Rattle.dhcp4_msg.proofs.options.DhcpV4Options.keep.Goals as goal
+use Rattle.dhcp4_msg.proofs.option_table.OptionTable.keep.Goals as goal
 
 pub insert-requires : goal.insert-requires
 insert-requires c =

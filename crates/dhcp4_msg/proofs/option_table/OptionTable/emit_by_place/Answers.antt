@@ -13,8 +13,8 @@ use Rattle.dhcp4_msg.specs.Options.{kept_in, map_of}
 use Rattle.dhcp_wire.proofs.EmitLemmas.{emits_exit, emits_last, front_walk}
 use Rattle.std.proofs.lemmas.List.Sums.{count_by_more_no, count_by_more_yes}
 use Rattle.dhcp4_msg.proofs.SlotLemmas.{all_kept, end_left, kept_split, kept_more, kept_same, some_kept, values_kept, place_inside}
-use Rattle.dhcp4_msg.proofs.options.DhcpV4Options.emit_by_place.Goals as goal
-use Rattle.dhcp4_msg.proofs.options.DhcpV4Options.emit_by_place.Goals.{else-loop-place-test, in-Some+in_ok-emit, in_default, then-loop-place-test+then-left-last}
+use Rattle.dhcp4_msg.proofs.option_table.OptionTable.emit_by_place.Goals as goal
+use Rattle.dhcp4_msg.proofs.option_table.OptionTable.emit_by_place.Goals.{else-loop-place-test, in-Some+in_ok-emit, in_default, then-loop-place-test+then-left-last}
 
 -- End is one of the options, where it is kept
 end_counted : (kept : List DhcpV4Option) (end : Option (Bor DhcpV4Option)) → option_copied end ≡ map.get (map_of kept) 255 → from_bool (is_some end) ≤ length kept

@@ -3,7 +3,7 @@ use Rattle.std.proofs.Common.{◌≡◌, ◌≤◌, ◌+◌, ◌∙◌, ap, arit
 use Rattle.dhcp4_msg.specs.OptionCode.{number_of}
 use Rattle.dhcp4_msg.specs.Value.{option_number}
 use Rattle.dhcp4_msg.proofs.RiseLemmas.{rise_more}
-use Rattle.dhcp4_msg.proofs.options.are_rising.Goals as goal
+use Rattle.dhcp4_msg.proofs.option_table.are_rising.Goals as goal
 
 pub loop-option-preserved : goal.loop-option-preserved
 loop-option-preserved c =

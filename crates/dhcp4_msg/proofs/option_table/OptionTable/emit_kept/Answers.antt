@@ -5,7 +5,7 @@ use Rattle.dhcp_wire.specs.Outcome.{Emits}
 use Rattle.dhcp4_msg.specs.Value.{fits, written_option}
 use Rattle.dhcp4_msg.specs.Options.{RiseFrom}
 use Rattle.dhcp4_msg.proofs.RiseLemmas.{all_fit, values_rising}
-use Rattle.dhcp4_msg.proofs.options.DhcpV4Options.emit_kept.Goals as goal
+use Rattle.dhcp4_msg.proofs.option_table.OptionTable.emit_kept.Goals as goal
 
 pub emit_all-requires : goal.emit_all-requires
 emit_all-requires c =

@@ -2,7 +2,7 @@
 use Rattle.dhcp_wire.specs.declared.raw_option.OptionFormat.TheVariants.{DhcpV4}
 use Rattle.dhcp_wire.proofs.RawOptionLemmas.{counted_after-shorter}
 use Rattle.dhcp4_msg.proofs.OptionsLemmas.{entered_more, entered_end, read_options-entered}
-use Rattle.dhcp4_msg.proofs.options.DhcpV4Options.parse.Goals as goal
+use Rattle.dhcp4_msg.proofs.option_table.OptionTable.parse.Goals as goal
 
 pub loop-raw-init : goal.loop-raw-init
 loop-raw-init c = rw c.in_ok-options.ensures (read_options-entered _)

@@ -1,6 +1,6 @@
 -- No options, and no place for any number.
 use Rattle.dhcp4_msg.proofs.SlotLemmas.{IsIndexed-nil}
-use Rattle.dhcp4_msg.proofs.options.DhcpV4Options.with_capacity.Goals as goal
+use Rattle.dhcp4_msg.proofs.option_table.OptionTable.with_capacity.Goals as goal
 
 pub invariant_of-result : goal.invariant_of-result
 invariant_of-result c = rw c.in_ok-with_capacity.ensures.items IsIndexed-nil

@@ -3,7 +3,7 @@ use Rattle.std.proofs.Common.{◌≡◌, ◌≤◌, ◌+◌, ◌++◌, length, t
 use Rattle.std.specs.List.{count_by, flat_map}
 use Rattle.dhcp4_msg.specs.Options.{kept_in}
 use Rattle.dhcp4_msg.specs.Value.{written_option}
-use Rattle.dhcp4_msg.proofs.options.DhcpV4Options.emit_by_place.Given as goal
+use Rattle.dhcp4_msg.proofs.option_table.OptionTable.emit_by_place.Given as goal
 
 abbrev pub invariant-loop-place : goal.invariant-loop-place
 invariant-loop-place l = record {

@@ -3,8 +3,8 @@ use Rattle.std.proofs.Common.{◌≡◌, ◌<◌, length, None, get_or, sym, ap,
 use Rattle.dhcp4_msg.specs.OptionCode.{number_of}
 use Rattle.dhcp4_msg.specs.Value.{option_number}
 use Rattle.dhcp4_msg.proofs.SlotLemmas.{place_is, map_of-set, map_of-push, IsIndexed-set, IsIndexed-push, fewer}
-use Rattle.dhcp4_msg.proofs.options.DhcpV4Options.insert.Goals as goal
-use Rattle.dhcp4_msg.proofs.options.DhcpV4Options.insert.Goals.{in-Some, in-None+in_ok-push-in-None}
+use Rattle.dhcp4_msg.proofs.option_table.OptionTable.insert.Goals as goal
+use Rattle.dhcp4_msg.proofs.option_table.OptionTable.insert.Goals.{in-Some, in-None+in_ok-push-in-None}
 
 pub invariant_of-self : goal.invariant_of-self
 invariant_of-self c =
