@@ -61,6 +61,24 @@ fn room_for_more_options_changes_nothing(rt: HostRuntime) {
 }
 
 #[test]
+fn a_copy_stays_when_the_original_changes(rt: HostRuntime) {
+    let mut options = with_mask(rt.alloc()).expect(&rt, "memory");
+    let copy = options.try_clone(rt.alloc()).expect(&rt, "memory");
+    enter_first(rt.alloc(), &[0x33, 4, 0, 0, 0, 100], &mut options).expect(&rt, "memory");
+    assert!(rt; options.seconds(DhcpV4OptionCode::IpAddressLeaseTime) == Some(100));
+    assert!(rt; copy == with_mask(rt.alloc()).expect(&rt, "memory"));
+}
+
+#[test]
+fn what_reads_from_no_bytes_is_no_options(rt: HostRuntime) {
+    let none = DhcpV4Options::new(rt.alloc());
+    let read = DhcpV4Options::parse(rt.alloc(), &[]).expect(&rt, "memory");
+    assert!(rt; read == none);
+    assert!(rt; none == read);
+    assert!(rt; none != with_mask(rt.alloc()).expect(&rt, "memory"));
+}
+
+#[test]
 fn of_two_options_51_the_second_is_kept(rt: HostRuntime) {
     let mut options = DhcpV4Options::new(rt.alloc());
     enter_first(rt.alloc(), &[0x33, 4, 0, 0, 0, 100], &mut options).expect(&rt, "memory");

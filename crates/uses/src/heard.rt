@@ -1,8 +1,5 @@
 //! What contracts of one's own say of a client: of a poll, and of the lease that it holds.
 
-#[cfg(test)]
-mod tests;
-
 ghost use Rattle.std.specs.Prelude.{◌≡◌, ◌<◌, ◌^◌, Box};
 ghost use Rattle.std.specs.declared.alloc.Global.{Global};
 ghost use Rattle.dhcp_history.specs.Calls.{IsRun};

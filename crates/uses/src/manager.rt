@@ -2,8 +2,6 @@
 
 mod clients;
 mod interface;
-#[cfg(test)]
-mod tests;
 
 ghost use Rattle.std.specs.Prelude.{◌≡◌, ◌<◌, ◌^◌, ◌⊎◌, Bool, IfErr, IfOk, is_some, not};
 ghost use Rattle.dhcp_wire.specs.Error.{no_memory};

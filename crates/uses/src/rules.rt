@@ -1,9 +1,6 @@
 //! A protocol of one's own over the steps of dhcp_history: a client that asks until a packet comes,
 //! holds what it got for five seconds, and asks again.
 
-#[cfg(test)]
-mod tests;
-
 ghost use Rattle.std.specs.Prelude.{◌≡◌, ◌+◌, ◌%◌, Some, None, IfOk, Ok, [], ◌∷◌};
 
 use dhcp_clock::{Handed, Packet, Words};

@@ -1,4 +1,5 @@
-use crate::Repeater;
+//! A client of rules of one's own.
+
 use dhcp_clock::{Handed, MemLink, Packet, PacketKind, WordList};
 use dhcp_history::{
     Client, Input, NumberedEvent, NumberedReport, Phase, Report, Standing, clean_up, next_poll,
@@ -6,7 +7,7 @@ use dhcp_history::{
 };
 use dhcp_wire::Bytes;
 use std::alloc::Global;
-use std::test::Fail;
+use uses::Repeater;
 
 // A client that was not polled yet, with no time limit.
 fn client() -> Client<Option<u64>, u32> {
@@ -43,32 +44,27 @@ fn kind(output: NumberedReport<bool, Handed>) -> u32 {
 }
 
 #[test]
-fn a_client_asks_holds_and_is_released(rt: HostRuntime) -> Result<(), Fail> {
+fn a_client_asks_holds_and_is_released(rt: HostRuntime) {
     let alloc = rt.alloc();
     let rules = Repeater { alloc };
     let mut client = client();
     let mut words = WordList::new(vec![in alloc; 500, 0].expect(&rt, "memory"));
     let mut link = MemLink::new(alloc);
-    assert_eq!(rt; next_poll(&rules, &client), Some(0));
-    assert_eq!(rt;
-        run(&rules, &mut client, 10, &mut words, &mut link),
-        Ok(None)
-    );
-    assert_eq!(rt; next_poll(&rules, &client), Some(1510));
+    assert!(rt; next_poll(&rules, &client) == Some(0));
+    let first = run(&rules, &mut client, 10, &mut words, &mut link);
+    assert!(rt; first.expect(&rt, "answer").is_none());
+    assert!(rt; next_poll(&rules, &client) == Some(1510));
     link.load(Some(packet(alloc)));
-    assert_eq!(rt;
-        run(&rules, &mut client, 100, &mut words, &mut link),
-        Ok(Some(true))
-    );
-    assert_eq!(rt; next_poll(&rules, &client), Some(5100));
-    assert_eq!(rt; release_held(&rules, &mut client, &mut link), Ok(true));
+    let second = run(&rules, &mut client, 100, &mut words, &mut link);
+    assert!(rt; second.expect(&rt, "answer") == Some(true));
+    assert!(rt; next_poll(&rules, &client) == Some(5100));
+    assert!(rt; release_held(&rules, &mut client, &mut link).expect(&rt, "answer"));
     clean_up(&rules, &mut client);
-    assert_eq!(rt; next_poll(&rules, &client), Some(100));
-    Ok(())
+    assert!(rt; next_poll(&rules, &client) == Some(100));
 }
 
 #[test]
-fn a_replay_reports_each_event(rt: HostRuntime) -> Result<(), Fail> {
+fn a_replay_reports_each_event(rt: HostRuntime) {
     let alloc = rt.alloc();
     let rules = Repeater { alloc };
     let mut client = client();
@@ -97,6 +93,5 @@ fn a_replay_reports_each_event(rt: HostRuntime) -> Result<(), Fail> {
     for output in outputs {
         kinds.push(kind(output)).expect(&rt, "memory");
     }
-    assert_eq!(rt; kinds.as_slice(), [2, 1, 3, 1].as_slice());
-    Ok(())
+    assert!(rt; kinds.as_slice() == [2, 1, 3, 1].as_slice());
 }
