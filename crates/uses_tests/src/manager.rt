@@ -1,5 +1,6 @@
 //! Turns of the loop of a network manager.
 
+use crate::boxed::boxed;
 use dhcp_clock::{MemLink, WordList};
 use std::net::Ipv6Addr;
 use uses::{
@@ -11,10 +12,11 @@ use uses::{
 fn a_client_of_ipv6_sleeps_until_its_first_solicit(rt: HostRuntime) {
     let alloc = rt.alloc();
     let mut words = WordList::new(vec![in alloc; 1, 600].expect(&rt, "memory"));
-    let mut client = new_client6(alloc, Ipv6Addr::LOCALHOST, &mut words).expect(&rt, "memory");
+    let made = new_client6(alloc, Ipv6Addr::LOCALHOST, &mut words);
+    let mut client = boxed(&rt, alloc, made);
     let mut interface = Interface::default();
     let wake = turn(
-        &mut client,
+        &mut *client,
         &mut interface,
         0,
         &mut words,
@@ -27,10 +29,11 @@ fn a_client_of_ipv6_sleeps_until_its_first_solicit(rt: HostRuntime) {
 fn a_client_for_configuration_alone_runs_in_the_same_loop(rt: HostRuntime) {
     let alloc = rt.alloc();
     let mut words = WordList::new(vec![in alloc; 700].expect(&rt, "memory"));
-    let mut client = new_info_client(alloc, Ipv6Addr::LOCALHOST, &mut words).expect(&rt, "memory");
+    let made = new_info_client(alloc, Ipv6Addr::LOCALHOST, &mut words);
+    let mut client = boxed(&rt, alloc, made);
     let mut interface = Interface::default();
     let wake = turn(
-        &mut client,
+        &mut *client,
         &mut interface,
         0,
         &mut words,
@@ -53,10 +56,10 @@ fn a_link_of_ones_own_keeps_what_is_to_be_sent(rt: HostRuntime) {
     let mut words = SystemWords {
         left: Vec::new(alloc),
     };
-    let mut client = new_client(alloc, &mut words).expect(&rt, "memory");
+    let mut client = boxed(&rt, alloc, new_client(alloc, &mut words));
     let mut interface = Interface::default();
     let mut link = QueueLink::new(alloc);
-    let wake = keep_turn(&mut client, &mut interface, 0, &mut words, &mut link);
+    let wake = keep_turn(&mut *client, &mut interface, 0, &mut words, &mut link);
     assert!(rt; wake.expect(&rt, "answer") == Some(3_000));
     assert!(rt; link.to_send.len() == 1);
 }
@@ -67,11 +70,12 @@ fn a_client_without_a_lease_has_nothing_to_give_up(rt: HostRuntime) {
     let mut words = SystemWords {
         left: Vec::new(alloc),
     };
-    let mut client = new_client6(alloc, Ipv6Addr::LOCALHOST, &mut words).expect(&rt, "memory");
+    let made = new_client6(alloc, Ipv6Addr::LOCALHOST, &mut words);
+    let mut client = boxed(&rt, alloc, made);
     let mut interface = Interface::default();
     let mut link = QueueLink::new(alloc);
-    let changed = follow_poll6(&mut client, &mut interface, 0, &mut words, &mut link);
+    let changed = follow_poll6(&mut *client, &mut interface, 0, &mut words, &mut link);
     assert!(rt; changed.expect(&rt, "answer").is_none());
-    let given_up = give_up6(&mut client, &mut interface, 0, &mut link);
+    let given_up = give_up6(&mut *client, &mut interface, 0, &mut link);
     assert!(rt; !given_up.expect(&rt, "answer"));
 }
