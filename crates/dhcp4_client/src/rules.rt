@@ -18,7 +18,7 @@ use crate::client_state::{ClientState, Exchange};
 use crate::granted_lease::GrantedLease;
 use crate::message::{attempt_message, release_message};
 use dhcp_clock::{Handed, Packet, Words, discovery_wait, draw, half_wait};
-use dhcp_history::{AttemptStart, BoundLease, NewAttempt, Rules, StateReport};
+use dhcp_history::{AttemptStart, BoundLease, NewAttempt, Rules, StateReport, enter};
 use dhcp4_lease::{DhcpV4Config, DhcpV4Lease, DhcpV4MessageForms};
 use std::alloc::{AllocError, Global};
 use std::mem;
@@ -285,14 +285,6 @@ fn exchange_after_end(state: &ClientState, exchange: Exchange) -> Exchange
         ClientState::Renewing(_) => restarted(exchange),
         ClientState::Rebinding(_) => exchange,
     }
-}
-
-// Goes to a state. Its type is a parameter, since an assignment is proved for each field of a type
-// that is named.
-fn enter<S: Drop>(state: &mut S, next: S)
-    ensures { state.new ≡ next }
-{
-    *state = next;
 }
 
 // Whether this request of an offer is the last one. By RFC 2131 section 3.1 a client gives up an

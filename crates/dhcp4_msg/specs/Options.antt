@@ -1,8 +1,10 @@
 -- Options as a map from their numbers, RFC 2132: how they are read from a list, how they are
 -- written, and how they are kept.
-use Rattle.std.specs.Prelude.{◌≡◌, ℕ, ◌<◌, ◌≤◌, ◌+◌, Bool, ◌==◌, List, [], ◌∷◌, ◌++◌, length, reverse, position, Option, Some, None, IsTrue, is_some, option_map, slice_get, slice_index_or, if◌then◌else◌}
+use Rattle.std.specs.Prelude.{◌≡◌, ℕ, ◌<◌, ◌≤◌, ◌+◌, Bool, ◌==◌, ◌&&◌, List, [], ◌∷◌, ◌++◌, length, reverse, position, Option, Some, None, IsTrue, is_some, option_map, slice_get, slice_index_or, if◌then◌else◌}
 use Rattle.std.specs.Ordering.{nat_cmp}
 use Rattle.std.specs.List.{All, count_by, flat_map, filter_map}
+use Rattle.std.specs.Cmp.{IsPartialEquivalence, on_per, and_per, nat_eq_equiv, partial_equiv_from_equiv}
+use Rattle.std.specs.Cmp.Lexicographic.{pointwise, lists_per}
 use Rattle.std.specs.Option.{option_or}
 use Rattle.std.specs.FinMap as map
 use Rattle.std.specs.declared.net.Ipv4Addr.{Ipv4Addr}
@@ -19,6 +21,19 @@ use Rattle.dhcp4_msg.specs.Value.{address_said, value_of, written_option, type_s
 -- options by their numbers
 abbrev pub OptionMap : Type 0
 OptionMap = map.FinMap nat_cmp DhcpV4Option
+
+-- whether two maps have the same numbers, and options under them that are equal
+abbrev pub same_options : (DhcpV4Option → DhcpV4Option → Bool) → OptionMap → OptionMap → Bool
+same_options same x y =
+    pointwise (λ p q. (p.0 == q.0) && same p.1 q.1) (map.entries x) (map.entries y)
+
+-- it is symmetric and transitive, as that of options is
+pub same_options_per : {same : DhcpV4Option → DhcpV4Option → Bool}
+    → IsPartialEquivalence same → IsPartialEquivalence (same_options same)
+same_options_per per =
+    on_per map.entries (lists_per (and_per
+      (on_per (λ p. p.0) (partial_equiv_from_equiv nat_eq_equiv))
+      (on_per (λ p. p.1) per)))
 
 -- a raw option as contracts see it
 abbrev pub parts_of : RawOption → RawOptionParts

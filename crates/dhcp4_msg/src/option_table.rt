@@ -1,10 +1,8 @@
 //! Options in a list, with the place of the option of each number.
 
-ghost use Rattle.std.specs.Prelude.{◌≡◌, ◌<◌, ◌==◌, ◌&&◌, length, OnOk, IfErr, MatchResult, IfSome, IsTrue, option_copied, slice_set};
+ghost use Rattle.std.specs.Prelude.{◌≡◌, ◌<◌, length, OnOk, IfErr, MatchResult, IfSome, IsTrue, option_copied, slice_set};
 ghost use Rattle.std.specs.List.{All, flat_map};
 ghost use Rattle.std.specs.Option.{option_eq};
-ghost use Rattle.std.specs.Cmp.{on_per, and_per, nat_eq_equiv, partial_equiv_from_equiv};
-ghost use Rattle.std.specs.Cmp.Lexicographic.{pointwise, lists_per};
 ghost use Rattle.std.specs.FinMap as map;
 ghost use Rattle.dhcp_wire.specs.Error.{no_memory};
 ghost use Rattle.dhcp_wire.specs.Outcome.{Makes, Emits};
@@ -17,6 +15,8 @@ ghost use Rattle.dhcp4_msg.specs.Options.{
   parts_of,
   read_options,
   reading_of,
+  same_options,
+  same_options_per,
   with_entry,
   written_options,
 };
@@ -63,13 +63,9 @@ impl Model for OptionTable {
 }
 
 impl PartialEq for OptionTable {
-    ghost eq = { λ x y. pointwise
-        (λ p q. (p.0 == q.0) && ⟦<DhcpV4Option as PartialEq>⟧.eq p.1 q.1)
-        (map.entries x) (map.entries y) };
+    ghost eq = { same_options ⟦<DhcpV4Option as PartialEq>⟧.eq };
 
-    ghost laws = { on_per map.entries (lists_per (and_per
-        (on_per (λ p. p.0) (partial_equiv_from_equiv nat_eq_equiv))
-        (on_per (λ p. p.1) option_per.laws-law))) };
+    ghost laws = { same_options_per option_per.laws-law };
 
     fn eq(&self, other: &Self) -> bool {
         let _ = &self.kept;

@@ -1,9 +1,9 @@
 //! The options of a message, by their numbers.
 
-ghost use Rattle.std.specs.Prelude.{◌≡◌, ◌==◌, ◌&&◌, OnOk, IfErr, IfSome, IsTrue, option_copied, option_map, unwrap_or, vec_items};
+ghost use Rattle.std.specs.Prelude.{◌≡◌, OnOk, IfErr, IfSome, IsTrue, option_copied, option_map, unwrap_or, vec_items};
 ghost use Rattle.std.specs.Arc.{arc_value};
-ghost use Rattle.std.specs.Cmp.{on_per, on_equiv, and_per, and_equiv, nat_eq_equiv, partial_equiv_from_equiv};
-ghost use Rattle.std.specs.Cmp.Lexicographic.{pointwise, lists_per, lists_equiv};
+ghost use Rattle.std.specs.Cmp.{on_equiv, and_equiv, nat_eq_equiv};
+ghost use Rattle.std.specs.Cmp.Lexicographic.{lists_equiv};
 ghost use Rattle.std.specs.FinMap as map;
 ghost use Rattle.dhcp_wire.specs.Error.{no_memory};
 ghost use Rattle.dhcp_wire.specs.Outcome.{Makes, Emits};
@@ -28,6 +28,8 @@ ghost use Rattle.dhcp4_msg.specs.Options.{
   classless_routes,
   read_options,
   said_by,
+  same_options,
+  same_options_per,
   written_options,
 };
 
@@ -68,13 +70,9 @@ impl Model for DhcpV4Options {
 }
 
 impl PartialEq for DhcpV4Options {
-    ghost eq = { λ x y. pointwise
-        (λ p q. (p.0 == q.0) && ⟦<DhcpV4Option as PartialEq>⟧.eq p.1 q.1)
-        (map.entries x) (map.entries y) };
+    ghost eq = { same_options ⟦<DhcpV4Option as PartialEq>⟧.eq };
 
-    ghost laws = { on_per map.entries (lists_per (and_per
-        (on_per (λ p. p.0) (partial_equiv_from_equiv nat_eq_equiv))
-        (on_per (λ p. p.1) option_per.laws-law))) };
+    ghost laws = { same_options_per option_per.laws-law };
 
     fn eq(&self, other: &Self) -> bool {
         match (&self.table, &other.table) {

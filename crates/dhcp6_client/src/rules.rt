@@ -15,7 +15,7 @@ use crate::draws::{association_id, restarted, transaction_id, wait};
 use crate::granted_lease::{BoxedLease, GrantedLease, expiry, rebinding, renewal};
 use crate::message::{attempt_message, release_message};
 use dhcp_clock::{Handed, Packet, Words, draw};
-use dhcp_history::{AttemptStart, BoundLease, NewAttempt, Rules, StateReport};
+use dhcp_history::{AttemptStart, BoundLease, NewAttempt, Rules, StateReport, enter};
 use dhcp6_msg::{DhcpV6Config, DhcpV6Lease, DhcpV6Mode};
 use std::alloc::{AllocError, Global};
 use std::mem;
@@ -222,14 +222,6 @@ impl ClientRules {
         *exchange = restarted(*exchange);
         Ok(StateReport::new(DhcpV6State::Done(lease.into_box())))
     }
-}
-
-// Goes to a state. Its type is a parameter, since an assignment is proved for each field of a type
-// that is named.
-fn enter<S: Drop>(state: &mut S, next: S)
-    ensures { state.new ≡ next }
-{
-    *state = next;
 }
 
 // The state after the end of one.

@@ -14,10 +14,9 @@ use crate::draws::{restarted, transaction_id, wait};
 use crate::given_info::{GivenInfo, refresh_moment};
 use crate::message::attempt_message;
 use dhcp_clock::{Handed, Packet, Words, draw};
-use dhcp_history::{AttemptStart, BoundLease, NewAttempt, Rules, StateReport};
+use dhcp_history::{AttemptStart, BoundLease, NewAttempt, Rules, StateReport, enter};
 use dhcp6_msg::DhcpV6Config;
 use std::alloc::{AllocError, Global};
-use std::mem;
 
 /// The pause before the first Information-request is below so many milliseconds. RFC 8415 section
 /// 7.6.
@@ -154,13 +153,6 @@ impl Rules for ClientRules {
     ) -> Result<Option<Handed>, AllocError> {
         Ok(None)
     }
-}
-
-// Goes to a state.
-fn enter(state: &mut ClientState, next: ClientState)
-    ensures { state.new ≡ next }
-{
-    drop(mem::replace(state, next));
 }
 
 // What is reported of a client that was given this configuration.

@@ -1,9 +1,9 @@
 -- What leads from one value to another, and what is drawn from words that were taken.
-use Rattle.std.proofs.Common.{◌≡◌, ℕ, List, [], ◌∷◌, ◌++◌, append_assoc, ap, subst, sym, ◌∙◌, refl, ◌<◌, ◌≤◌}
+use Rattle.std.proofs.Common.{◌≡◌, ℕ, List, [], ◌∷◌, ◌++◌, append_assoc, ap, subst, ◌∙◌, refl, ◌<◌, ◌≤◌}
 use Rattle.std.proofs.lemmas.Bool.{le-leb, lt-leb}
 use Rattle.dhcp_clock.specs.Leads.{Leads}
 use Rattle.dhcp_clock.specs.Wait.{first_time, next_time, bounded_time, retransmit_wait}
-use Rattle.dhcp_clock.specs.Words.{Drawn, undrawn, drawn_word, drawn_then, Takes, DrawsBy}
+use Rattle.dhcp_clock.specs.Words.{Drawn, undrawn, drawn_word, drawn_then, DrawsBy}
 
 module _ {Step Value : Type 0} (moves : Step → Value → Value → Type 0) where
   -- no step

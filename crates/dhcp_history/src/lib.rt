@@ -24,7 +24,7 @@ pub use event_loop::{play_event, replay};
 pub use machine::{RunError, run};
 pub use release::{ReleaseError, clean_up, release_by, release_held};
 pub use reported::{Plain, StateReport};
-pub use rules::{AttemptStart, NewAttempt, Rules};
+pub use rules::{AttemptStart, NewAttempt, Rules, enter};
 pub use schedule::{is_listening, next_poll};
 pub use script::{Failure, Input, NumberedEvent, NumberedReport, Report};
 pub use timed_release::{release_at, release_held_at};

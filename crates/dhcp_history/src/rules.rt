@@ -151,3 +151,11 @@ pub trait Rules {
             ((protocol self.now).held_lease state.now)) }
         ensures needed { OnErr result (is_some ((protocol self.now).held_lease state.now) ≡ true) };
 }
+
+/// Goes to a state; the one before is dropped. A rule changes a state by this call, since here the
+/// type is a parameter: an assignment is proved for each field of a type that is named.
+pub fn enter<S: Drop>(state: &mut S, next: S)
+    ensures { state.new ≡ next }
+{
+    *state = next;
+}
