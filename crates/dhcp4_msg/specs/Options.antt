@@ -32,8 +32,8 @@ pub same_options_per : {same : DhcpV4Option → DhcpV4Option → Bool}
     → IsPartialEquivalence same → IsPartialEquivalence (same_options same)
 same_options_per per =
     on_per map.entries (lists_per (and_per
-      (on_per (λ p. p.0) (partial_equiv_from_equiv nat_eq_equiv))
-      (on_per (λ p. p.1) per)))
+    (on_per (λ p. p.0) (partial_equiv_from_equiv nat_eq_equiv))
+    (on_per (λ p. p.1) per)))
 
 -- a raw option as contracts see it
 abbrev pub parts_of : RawOption → RawOptionParts
