@@ -250,12 +250,20 @@ fn ended(state: ClientState) -> ClientState
 {
     match state {
         ClientState::InitReboot => ClientState::InitReboot,
-        ClientState::Selecting(_) => ClientState::InitReboot,
-        ClientState::Rebooting(_) => ClientState::InitReboot,
+        ClientState::Selecting(offer) => search_without(offer),
+        ClientState::Rebooting(held) => search_without(held),
         ClientState::Done(bound) => ClientState::Renewing(bound),
         ClientState::Renewing(bound) => ClientState::Rebinding(bound),
-        ClientState::Rebinding(_) => ClientState::InitReboot,
+        ClientState::Rebinding(bound) => search_without(bound),
     }
+}
+
+// A search, once a lease is dropped.
+fn search_without<T: Drop>(lease: T) -> ClientState
+    ensures { result ≡ ClientState.InitReboot }
+{
+    drop(lease);
+    ClientState::InitReboot
 }
 
 // What is reported after the end of a state.

@@ -2,6 +2,7 @@
 
 ghost use Rattle.std.specs.Prelude.{◌<◌, ◌^◌};
 
+use crate::boxed::boxed;
 use dhcp_clock::{Handed, MemLink, Sent, WordList};
 use dhcp_wire::{DhcpError, ErrorKind};
 use dhcp4_client::{DhcpV4Client, DhcpV4State};
@@ -15,12 +16,6 @@ const LAST_MOMENT: u64 = 1_152_921_504_606_846_975;
 // Random words, all of them 0.
 fn zeros(alloc: Global) -> WordList {
     WordList::new(Vec::new(alloc))
-}
-
-// What was made in a box: a type of its own, so that it is not dropped field by field.
-fn boxed<T: Drop>(alloc: Global, made: Result<T, DhcpError>) -> Result<Box<T>, DhcpError> {
-    let made = made?;
-    Ok(Box::new(alloc, made)?)
 }
 
 // A client without a lease, with this time limit in seconds.

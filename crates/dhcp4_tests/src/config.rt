@@ -32,24 +32,25 @@ pub(crate) fn stepped(alloc: Global, step: Step) -> Result<DhcpV4Config, DhcpErr
 
 // Changes a configuration.
 fn change(alloc: Global, config: &mut DhcpV4Config, step: Step) -> Result<(), DhcpError> {
-    match step {
-        Step::None => config,
-        Step::Override => config.override_request_dhcp_opts(alloc, &[6, 3, 1, 3])?,
+    let changed = match step {
+        Step::None => Ok(config),
+        Step::Override => config.override_request_dhcp_opts(alloc, &[6, 3, 1, 3]),
         Step::Rfc2131 => config
-            .override_request_dhcp_opts(alloc, &[1, 3, 6])?
-            .set_message_forms(DhcpV4MessageForms::Rfc2131),
+            .set_message_forms(DhcpV4MessageForms::Rfc2131)
+            .override_request_dhcp_opts(alloc, &[1, 3, 6]),
         Step::Rfc2131WithClient => config
             .set_message_forms(DhcpV4MessageForms::Rfc2131)
-            .set_client_id(alloc, 5, &[9])?,
-        Step::Extra => config.request_extra_dhcp_opts(alloc, &[3, 2])?,
-        Step::Client => config.set_client_id(alloc, 5, &[9])?,
-        Step::MacAsClient => config.use_mac_as_client_id(alloc)?,
-        Step::Host => config.set_host_name(alloc, "foo")?,
+            .set_client_id(alloc, 5, &[9]),
+        Step::Extra => config.request_extra_dhcp_opts(alloc, &[3, 2]),
+        Step::Client => config.set_client_id(alloc, 5, &[9]),
+        Step::MacAsClient => config.use_mac_as_client_id(alloc),
+        Step::Host => config.set_host_name(alloc, "foo"),
         Step::HostAsClient => config
             .set_host_name(alloc, "foo")?
-            .use_host_name_as_client_id(alloc)?,
-        Step::NoHostAsClient => config.use_host_name_as_client_id(alloc)?,
+            .use_host_name_as_client_id(alloc),
+        Step::NoHostAsClient => config.use_host_name_as_client_id(alloc),
     };
+    changed?;
     Ok(())
 }
 
@@ -64,13 +65,13 @@ fn refusal(alloc: Global, mac: &str) -> Result<Option<ErrorKind>, DhcpError> {
 
 #[test]
 fn a_mac_address_has_six_bytes_in_hex(rt: HostRuntime) {
-    let cases = [
+    const CASES: [(&str, Option<ErrorKind>); 4] = [
         ("01:02", Some(ErrorKind::NotSupported)),
         ("01:02:2a:2c:f7", Some(ErrorKind::NotSupported)),
         ("01:02:2a:2c:f7:g", Some(ErrorKind::InvalidArgument)),
         ("01:02:2a:2c:f7:04", None),
     ];
-    for (mac, wanted) in cases {
+    for &(mac, wanted) in &CASES {
         assert!(rt; refusal(rt.alloc(), mac).expect(&rt, "answer") == wanted);
     }
 }

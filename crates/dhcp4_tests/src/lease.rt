@@ -1,5 +1,6 @@
 //! Leases, as they are read from messages.
 
+use crate::boxed::boxed;
 use dhcp_clock::{WordList, Words};
 use dhcp_wire::{DhcpError, ErrorKind, FixedText, Sequence, Text};
 use dhcp4_lease::DhcpV4Lease;
@@ -19,15 +20,25 @@ fn message(alloc: Global, options: &[u8]) -> Result<DhcpV4Message, DhcpError> {
 }
 
 // The lease of a message with these options; these words are drawn for it and no more.
-fn lease(alloc: Global, options: &[u8], words: &[u32]) -> Result<DhcpV4Lease, DhcpError> {
+fn lease(alloc: Global, options: &[u8], words: &[u32]) -> Result<Box<DhcpV4Lease>, DhcpError> {
     let mut listed = Vec::from_slice(alloc, words)?;
     listed.push(UNTOUCHED)?;
     let mut list = WordList::new(listed);
-    let lease = DhcpV4Lease::new_from_msg(alloc, &message(alloc, options)?, &mut list)?;
+    let lease = drawn_lease(alloc, options, &mut list)?;
     if list.next_word() != UNTOUCHED {
         return Err(DhcpError::new_fixed(ErrorKind::Bug, FixedText::Lease));
     }
     Ok(lease)
+}
+
+// The lease of a message with these options, for which words are drawn of this list.
+fn drawn_lease(
+    alloc: Global,
+    options: &[u8],
+    words: &mut WordList,
+) -> Result<Box<DhcpV4Lease>, DhcpError> {
+    let message = message(alloc, options)?;
+    boxed(alloc, DhcpV4Lease::new_from_msg(alloc, &message, words))
 }
 
 // T1, T2 and the end of a lease.
@@ -59,18 +70,18 @@ fn says(text: &Option<Text>, wanted: &str) -> bool {
 
 #[test]
 fn times_are_those_said_or_drawn_about_half_and_seven_eighths(rt: HostRuntime) {
-    let said = [
+    const SAID: [u8; 18] = [
         0x33, 4, 0, 0, 0, 100, 0x3a, 4, 0, 0, 0, 30, 0x3b, 4, 0, 0, 0, 60,
     ];
-    let endless = [0x33, 4, 255, 255, 255, 255];
-    let cases: [(&[u8], &[u32], (u32, u32, u32)); 5] = [
+    const ENDLESS: [u8; 6] = [0x33, 4, 255, 255, 255, 255];
+    const CASES: [(&[u8], &[u32], (u32, u32, u32)); 5] = [
         (&[0x33, 4, 0, 0, 0, 100], &[0, 3], (48, 88, 100)),
-        (&said, &[], (30, 60, 100)),
+        (&SAID, &[], (30, 60, 100)),
         (&[0x33, 4, 0, 0, 0, 39], &[0], (19, 32, 39)),
-        (&endless, &[0, 0], (2147483645, 3758096381, u32::MAX)),
-        (&endless, &[3, 3], (2147483648, 3758096384, u32::MAX)),
+        (&ENDLESS, &[0, 0], (2147483645, 3758096381, u32::MAX)),
+        (&ENDLESS, &[3, 3], (2147483648, 3758096384, u32::MAX)),
     ];
-    for (options, words, wanted) in cases {
+    for &(options, words, wanted) in &CASES {
         assert!(rt; times_of(rt.alloc(), options, words).expect(&rt, "answer") == wanted);
     }
 }
@@ -93,7 +104,7 @@ fn refusal_of<T: Drop>(answer: Result<T, DhcpError>) -> Result<Option<ErrorKind>
 
 #[test]
 fn a_message_without_a_lease_time_or_out_of_order_is_refused(rt: HostRuntime) {
-    let cases: [&[u8]; 3] = [
+    const CASES: [&[u8]; 3] = [
         &[0x35, 1, 5],
         &[
             0x33, 4, 0, 0, 0, 100, 0x3a, 4, 0, 0, 0, 61, 0x3b, 4, 0, 0, 0, 60,
@@ -102,7 +113,7 @@ fn a_message_without_a_lease_time_or_out_of_order_is_refused(rt: HostRuntime) {
             0x33, 4, 0, 0, 0, 59, 0x3a, 4, 0, 0, 0, 30, 0x3b, 4, 0, 0, 0, 60,
         ],
     ];
-    for options in cases {
+    for &options in &CASES {
         let kind = refusal(rt.alloc(), options).expect(&rt, "answer");
         assert!(rt; kind == Some(ErrorKind::InvalidDhcpMessage));
     }
@@ -116,7 +127,7 @@ const USUAL: [u8; 66] = [
 ];
 
 // The lease of those options.
-fn usual_lease(alloc: Global) -> Result<DhcpV4Lease, DhcpError> {
+fn usual_lease(alloc: Global) -> Result<Box<DhcpV4Lease>, DhcpError> {
     lease(alloc, &USUAL, &[])
 }
 
@@ -174,7 +185,7 @@ fn a_copy_of_a_lease_is_equal_to_it(rt: HostRuntime) {
 }
 
 // The lease of a message with routes in option 249.
-fn routed_lease(alloc: Global) -> Result<DhcpV4Lease, DhcpError> {
+fn routed_lease(alloc: Global) -> Result<Box<DhcpV4Lease>, DhcpError> {
     let options = [
         0x33, 4, 0, 0, 0, 39, 0xf9, 8, 0x18, 0xcb, 0, 0x71, 0xc0, 0, 2, 0x28,
     ];
@@ -206,7 +217,8 @@ fn option_249_is_read_as_routes(rt: HostRuntime) {
 
 #[test]
 fn the_prefix_of_a_mask_is_its_one_bits(rt: HostRuntime) {
-    let mut lease = DhcpV4Lease::empty(rt.alloc());
+    let empty = DhcpV4Lease::empty(rt.alloc());
+    let mut lease = Box::new(rt.alloc(), empty).expect(&rt, "memory");
     assert!(rt; lease.prefix_length() == 0);
     lease.subnet_mask = Ipv4Addr::new(255, 255, 255, 224);
     assert!(rt; lease.prefix_length() == 27);

@@ -1,5 +1,6 @@
 //! Messages and views of their payloads.
 
+use crate::boxed::boxed;
 use dhcp_wire::{BufferMut, Bytes, DhcpError, ErrorKind};
 use dhcp4_msg::{DhcpV4Message, DhcpV4MessageType, DhcpV4Options, DhcpV4View};
 use std::alloc::Global;
@@ -20,6 +21,11 @@ fn offer(alloc: Global) -> Result<Bytes, DhcpError> {
     Ok(payload.into_bytes())
 }
 
+// The message of a payload.
+fn read(alloc: Global, payload: &[u8]) -> Result<Box<DhcpV4Message>, DhcpError> {
+    boxed(alloc, DhcpV4Message::parse(alloc, payload))
+}
+
 #[test]
 fn a_payload_reads_from_240_bytes_on(rt: HostRuntime) {
     let payload = offer(rt.alloc()).expect(&rt, "memory");
@@ -37,7 +43,7 @@ fn the_first_240_bytes_of_an_offer_have_no_type(rt: HostRuntime) {
     );
     assert!(rt; view.xid() == 0x12345678);
     assert!(rt; view.message_type().is_none());
-    let message = view.to_message(rt.alloc()).expect(&rt, "answer");
+    let message = boxed(rt.alloc(), view.to_message(rt.alloc())).expect(&rt, "answer");
     assert!(rt; message.options == DhcpV4Options::new(rt.alloc()));
 }
 
@@ -46,7 +52,7 @@ fn an_offer_reads(rt: HostRuntime) {
     let payload = offer(rt.alloc()).expect(&rt, "memory");
     let view = DhcpV4View::new(payload.as_slice()).expect(&rt, "unread");
     assert!(rt; view.message_type() == Some(DhcpV4MessageType::Offer));
-    let message = DhcpV4Message::parse(rt.alloc(), payload.as_slice()).expect(&rt, "answer");
+    let message = read(rt.alloc(), payload.as_slice()).expect(&rt, "answer");
     assert!(rt; message.message_type() == Some(DhcpV4MessageType::Offer));
     assert!(rt; message.yiaddr == Ipv4Addr::new(192, 0, 2, 10));
 }
@@ -54,12 +60,13 @@ fn an_offer_reads(rt: HostRuntime) {
 #[test]
 fn a_message_is_written_as_it_was_read(rt: HostRuntime) {
     let payload = offer(rt.alloc()).expect(&rt, "memory");
-    let message = DhcpV4Message::parse(rt.alloc(), payload.as_slice()).expect(&rt, "answer");
+    let message = read(rt.alloc(), payload.as_slice()).expect(&rt, "answer");
     let mut written = BufferMut::new(rt.alloc());
     message.emit(&mut written).expect(&rt, "memory");
     // The options are written by rising code.
     assert!(rt; written.bytes().get(..240) == payload.as_slice().get(..240));
-    assert!(rt; DhcpV4Message::parse(rt.alloc(), written.bytes()).expect(&rt, "answer") == message);
+    let again = read(rt.alloc(), written.bytes()).expect(&rt, "answer");
+    assert!(rt; *again == *message);
 }
 
 #[test]

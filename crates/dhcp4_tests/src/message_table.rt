@@ -117,25 +117,25 @@ fn is_written(
 
 #[test]
 fn each_message_is_its_row_byte_by_byte(rt: HostRuntime) {
-    let discover = [0x35, 1, 1, 0x37, 3, 1, 3, 6, 0x3d, 0, 255];
-    let request = [
+    const DISCOVER: [u8; 11] = [0x35, 1, 1, 0x37, 3, 1, 3, 6, 0x3d, 0, 255];
+    const REQUEST: [u8; 23] = [
         0x32, 4, 192, 0, 2, 10, 0x35, 1, 3, 0x36, 4, 192, 0, 2, 1, 0x37, 3, 1, 3, 6, 0x3d, 0, 255,
     ];
-    let reboot = [
+    const REBOOT: [u8; 17] = [
         0x32, 4, 192, 0, 2, 10, 0x35, 1, 3, 0x37, 3, 1, 3, 6, 0x3d, 0, 255,
     ];
-    let release = [
+    const RELEASE: [u8; 23] = [
         0x32, 4, 192, 0, 2, 10, 0x35, 1, 7, 0x36, 4, 192, 0, 2, 1, 0x37, 3, 1, 3, 6, 0x3d, 0, 255,
     ];
-    let cases: [(Sent, [u8; 4], &[u8]); 6] = [
-        (Sent::Discover, [0; 4], &discover),
-        (Sent::Request, [0; 4], &request),
-        (Sent::Reboot, [0; 4], &reboot),
-        (Sent::Renew, [192, 0, 2, 10], &request),
-        (Sent::Rebind, [192, 0, 2, 10], &request),
-        (Sent::Release, [0; 4], &release),
+    const CASES: [(Sent, [u8; 4], &[u8]); 6] = [
+        (Sent::Discover, [0; 4], &DISCOVER),
+        (Sent::Request, [0; 4], &REQUEST),
+        (Sent::Reboot, [0; 4], &REBOOT),
+        (Sent::Renew, [192, 0, 2, 10], &REQUEST),
+        (Sent::Rebind, [192, 0, 2, 10], &REQUEST),
+        (Sent::Release, [0; 4], &RELEASE),
     ];
-    for (sent, ciaddr, options) in cases {
+    for &(sent, ciaddr, options) in &CASES {
         let is_written = is_written(rt.alloc(), Step::Override, sent, ciaddr, options);
         assert!(rt; is_written.expect(&rt, "answer"));
     }
@@ -144,22 +144,22 @@ fn each_message_is_its_row_byte_by_byte(rt: HostRuntime) {
 // By tables 4 and 5 of RFC 2131, without a client identifier.
 #[test]
 fn each_message_by_rfc_2131_is_its_row_byte_by_byte(rt: HostRuntime) {
-    let discover = [0x35, 1, 1, 0x37, 3, 1, 3, 6, 255];
-    let request = [
+    const DISCOVER: [u8; 9] = [0x35, 1, 1, 0x37, 3, 1, 3, 6, 255];
+    const REQUEST: [u8; 21] = [
         0x32, 4, 192, 0, 2, 10, 0x35, 1, 3, 0x36, 4, 192, 0, 2, 1, 0x37, 3, 1, 3, 6, 255,
     ];
-    let reboot = [0x32, 4, 192, 0, 2, 10, 0x35, 1, 3, 0x37, 3, 1, 3, 6, 255];
-    let extend = [0x35, 1, 3, 0x37, 3, 1, 3, 6, 255];
-    let release = [0x35, 1, 7, 0x36, 4, 192, 0, 2, 1, 0x37, 3, 1, 3, 6, 255];
-    let cases: [(Sent, [u8; 4], &[u8]); 6] = [
-        (Sent::Discover, [0; 4], &discover),
-        (Sent::Request, [0; 4], &request),
-        (Sent::Reboot, [0; 4], &reboot),
-        (Sent::Renew, [192, 0, 2, 10], &extend),
-        (Sent::Rebind, [192, 0, 2, 10], &extend),
-        (Sent::Release, [192, 0, 2, 10], &release),
+    const REBOOT: [u8; 15] = [0x32, 4, 192, 0, 2, 10, 0x35, 1, 3, 0x37, 3, 1, 3, 6, 255];
+    const EXTEND: [u8; 9] = [0x35, 1, 3, 0x37, 3, 1, 3, 6, 255];
+    const RELEASE: [u8; 15] = [0x35, 1, 7, 0x36, 4, 192, 0, 2, 1, 0x37, 3, 1, 3, 6, 255];
+    const CASES: [(Sent, [u8; 4], &[u8]); 6] = [
+        (Sent::Discover, [0; 4], &DISCOVER),
+        (Sent::Request, [0; 4], &REQUEST),
+        (Sent::Reboot, [0; 4], &REBOOT),
+        (Sent::Renew, [192, 0, 2, 10], &EXTEND),
+        (Sent::Rebind, [192, 0, 2, 10], &EXTEND),
+        (Sent::Release, [192, 0, 2, 10], &RELEASE),
     ];
-    for (sent, ciaddr, options) in cases {
+    for &(sent, ciaddr, options) in &CASES {
         let is_written = is_written(rt.alloc(), Step::Rfc2131, sent, ciaddr, options);
         assert!(rt; is_written.expect(&rt, "answer"));
     }
@@ -191,12 +191,12 @@ fn discovers_after(alloc: Global, step: Step, option: &[u8]) -> Result<bool, Dhc
 
 #[test]
 fn what_is_set_is_sent(rt: HostRuntime) {
-    let usual = [0x37, 9, 0x0c, 1, 3, 6, 0x0f, 0x1a, 0x2a, 0x79, 0xf9];
-    let more = [0x37, 10, 1, 2, 3, 6, 0x0c, 0x0f, 0x1a, 0x2a, 0x79, 0xf9];
-    let cases: [(Step, &[u8]); 9] = [
+    const USUAL: [u8; 11] = [0x37, 9, 0x0c, 1, 3, 6, 0x0f, 0x1a, 0x2a, 0x79, 0xf9];
+    const MORE: [u8; 12] = [0x37, 10, 1, 2, 3, 6, 0x0c, 0x0f, 0x1a, 0x2a, 0x79, 0xf9];
+    const CASES: [(Step, &[u8]); 9] = [
         (Step::Rfc2131WithClient, &[0x3d, 2, 5, 9]),
-        (Step::None, &usual),
-        (Step::Extra, &more),
+        (Step::None, &USUAL),
+        (Step::Extra, &MORE),
         (Step::Client, &[0x3d, 2, 5, 9]),
         (Step::MacAsClient, &[0x3d, 7, 1, 2, 0, 0, 0, 0, 1]),
         (Step::Host, &[0x0c, 4, 0x66, 0x6f, 0x6f, 0]),
@@ -204,7 +204,7 @@ fn what_is_set_is_sent(rt: HostRuntime) {
         (Step::NoHostAsClient, &[0x3d, 0]),
         (Step::Override, &[0x37, 3, 1, 3, 6]),
     ];
-    for (step, option) in cases {
+    for &(step, option) in &CASES {
         assert!(rt; discovers_after(rt.alloc(), step, option).expect(&rt, "answer"));
     }
 }

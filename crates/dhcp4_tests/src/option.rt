@@ -164,7 +164,7 @@ fn written(alloc: Global, option: &DhcpV4Option) -> Result<Bytes, DhcpError>
 
 #[test]
 fn each_kind_of_option_is_written_as_it_was_read(rt: HostRuntime) {
-    for bytes in KINDS {
+    for &bytes in &KINDS {
         assert!(rt;
             rewritten(rt.alloc(), bytes)
                 .expect(&rt, "answer")
@@ -177,7 +177,7 @@ fn each_kind_of_option_is_written_as_it_was_read(rt: HostRuntime) {
 // The options of all kinds.
 fn every_kind(alloc: Global) -> Result<DhcpV4Options, DhcpError> {
     let mut options = DhcpV4Options::new(alloc);
-    for bytes in KINDS {
+    for &bytes in &KINDS {
         enter_first(alloc, bytes, &mut options)?;
     }
     Ok(options)

@@ -2,6 +2,7 @@
 
 ghost use Rattle.std.specs.Prelude.{◌<◌, ◌^◌};
 
+use crate::boxed::boxed;
 use dhcp_clock::{MemLink, Packet, PacketKind, WordList};
 use dhcp_wire::{BufferMut, Bytes, DhcpError, ErrorKind};
 use dhcp4_client::{DhcpV4Client, PacketVerdict};
@@ -59,8 +60,8 @@ fn client(alloc: Global) -> Result<Box<DhcpV4Client>, DhcpError> {
         .set_timeout_sec(100)
         .set_message_forms(DhcpV4MessageForms::Rfc2131);
     let mut zeros = WordList::new(Vec::new(alloc));
-    let client = DhcpV4Client::init(alloc, config, None, &mut zeros)?;
-    Ok(Box::new(alloc, client)?)
+    let client = DhcpV4Client::init(alloc, config, None, &mut zeros);
+    boxed(alloc, client)
 }
 
 // A poll at this moment, in milliseconds, where this packet waits.
@@ -194,13 +195,13 @@ fn each_packet_is_an_answer_or_says_why_not(rt: HostRuntime) {
 
 #[test]
 fn a_packet_answers_between_the_first_message_and_the_time_limit(rt: HostRuntime) {
-    let cases: [(bool, u64, Verdict); 4] = [
+    const CASES: [(bool, u64, Verdict); 4] = [
         (false, 0, PacketVerdict::NotListening),
         (true, 0, PacketVerdict::Answer),
         (true, 99_999, PacketVerdict::Answer),
         (true, 100_000, PacketVerdict::NotListening),
     ];
-    for (is_polled, now, wanted) in cases {
+    for &(is_polled, now, wanted) in &CASES {
         let verdict = offered(rt.alloc(), is_polled, now).expect(&rt, "memory");
         assert!(rt; verdict == wanted);
         assert!(rt; verdict.is_answer() == (wanted == PacketVerdict::Answer));

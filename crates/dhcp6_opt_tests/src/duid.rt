@@ -34,7 +34,7 @@ const DUIDS: [(&[u8], bool); 6] = [
 
 #[test]
 fn identifiers_are_written_as_they_were_read(rt: HostRuntime) {
-    for (bytes, has_name) in DUIDS {
+    for &(bytes, has_name) in &DUIDS {
         let duid = DhcpV6Duid::parse(rt.alloc(), bytes).expect(&rt, "answer");
         assert!(rt; matches!(duid, DhcpV6Duid::Raw(_)) != has_name);
         assert!(rt; duid.written_len() == bytes.len());
@@ -44,7 +44,7 @@ fn identifiers_are_written_as_they_were_read(rt: HostRuntime) {
 
 #[test]
 fn each_identifier_is_copied(rt: HostRuntime) {
-    for (bytes, _) in DUIDS {
+    for &(bytes, _) in &DUIDS {
         let duid = DhcpV6Duid::parse(rt.alloc(), bytes).expect(&rt, "answer");
         assert!(rt; is_copied(rt.alloc(), duid).expect(&rt, "answer"));
     }

@@ -148,7 +148,7 @@ pub(crate) const HINT: [u8; 45] = [
 
 #[test]
 fn options_are_written_as_they_were_read(rt: HostRuntime) {
-    for bytes in OPTIONS {
+    for &bytes in &OPTIONS {
         assert!(rt;
             written_again(rt.alloc(), bytes)
                 .expect(&rt, "memory")
@@ -160,7 +160,7 @@ fn options_are_written_as_they_were_read(rt: HostRuntime) {
 
 #[test]
 fn each_option_is_copied(rt: HostRuntime) {
-    for bytes in OPTIONS {
+    for &bytes in &OPTIONS {
         let option = DhcpV6Option::parse(rt.alloc(), &mut Buffer::new(bytes)).expect(&rt, "answer");
         assert!(rt; is_copied(rt.alloc(), option).expect(&rt, "answer"));
     }

@@ -59,7 +59,7 @@ const UNREADABLE: [&[u8]; 5] = [
 
 #[test]
 fn what_does_not_read_is_skipped(rt: HostRuntime) {
-    for bytes in UNREADABLE {
+    for &bytes in &UNREADABLE {
         assert!(rt;
             list_again(rt.alloc(), bytes)
                 .expect(&rt, "memory")
@@ -195,7 +195,7 @@ const OPEN_NAMES: [(u16, u16, u8, bool); 3] = [
 
 #[test]
 fn a_name_reads_if_it_can_be_written_again(rt: HostRuntime) {
-    for (len, labels, last, reads) in OPEN_NAMES {
+    for &(len, labels, last, reads) in &OPEN_NAMES {
         assert!(rt; open_name_reads(rt.alloc(), len, labels, last).expect(&rt, "memory") == reads);
     }
 }

@@ -1,6 +1,7 @@
 //! What no script says: leases that are given or released by hand, counters that begin anew, and
 //! how a client begins.
 
+use crate::boxed::boxed;
 use crate::reply::refusal;
 use dhcp_clock::{Handed, MemLink, Sent, WordList};
 use dhcp_wire::{Bytes, DhcpError, ErrorKind};
@@ -71,12 +72,6 @@ fn flawed(alloc: Global, flaw: Flaw) -> Result<DhcpV6Lease, DhcpError> {
         Flaw::Server => lease.srv_duid = DhcpV6Duid::Raw(Bytes::new(alloc)),
     }
     Ok(lease)
-}
-
-// What was made in a box: a type of its own, so that it is not dropped field by field.
-fn boxed<T: Drop>(alloc: Global, made: Result<T, DhcpError>) -> Result<Box<T>, DhcpError> {
-    let made = made?;
-    Ok(Box::new(alloc, made)?)
 }
 
 // A client of this mode that held a lease before.

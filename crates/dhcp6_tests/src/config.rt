@@ -1,5 +1,6 @@
 //! Configurations.
 
+use crate::boxed::boxed;
 use crate::reply::{ELAPSED, MAC, joined, plain_config, solicit_of};
 use dhcp_clock::{WordList, Words};
 use dhcp_wire::{BufferMut, Bytes, DhcpError};
@@ -46,7 +47,7 @@ fn asks_for(alloc: Global, config: &DhcpV6Config, requests: &[u8]) -> Result<boo
 
 #[test]
 fn codes_are_asked_for_in_rising_order_each_once(rt: HostRuntime) {
-    let cases: [(&[u16], bool, &[u8]); 3] = [
+    const CASES: [(&[u16], bool, &[u8]); 3] = [
         (&[], false, &[0, 6, 0, 10, 0, 6, 0, 7, 0, 23, 0, 24, 0, 56]),
         (
             &[82],
@@ -55,7 +56,7 @@ fn codes_are_asked_for_in_rising_order_each_once(rt: HostRuntime) {
         ),
         (&[24, 23, 24], true, &[0, 6, 0, 4, 0, 23, 0, 24]),
     ];
-    for (codes, alone, requests) in cases {
+    for &(codes, alone, requests) in &CASES {
         assert!(rt; is_asked(rt.alloc(), codes, alone, requests).expect(&rt, "memory"));
     }
 }
@@ -133,9 +134,10 @@ fn are_made_equal(
 #[test]
 fn nothing_but_the_identifier_is_made(rt: HostRuntime) {
     for mac in [None, Some(MAC)] {
-        let mut made = of_mac(rt.alloc(), mac).expect(&rt, "memory");
-        let mut set = of_mac(rt.alloc(), mac).expect(&rt, "memory");
-        assert!(rt; are_made_equal(rt.alloc(), &mut made, &mut set).expect(&rt, "memory"));
+        let mut made = boxed(rt.alloc(), of_mac(rt.alloc(), mac)).expect(&rt, "memory");
+        let mut set = boxed(rt.alloc(), of_mac(rt.alloc(), mac)).expect(&rt, "memory");
+        let are_equal = are_made_equal(rt.alloc(), &mut *made, &mut *set);
+        assert!(rt; are_equal.expect(&rt, "memory"));
     }
 }
 
@@ -160,17 +162,18 @@ fn stays(
 #[test]
 fn an_identifier_that_is_set_stays(rt: HostRuntime) {
     let mut words = words(rt.alloc()).expect(&rt, "memory");
-    let mut config = identified(rt.alloc()).expect(&rt, "memory");
+    let mut config = boxed(rt.alloc(), identified(rt.alloc())).expect(&rt, "memory");
     let wanted = [0, 3, 0, 1, 2, 0, 0, 0, 0, 1];
     assert!(rt;
-        stays(rt.alloc(), &mut config, &mut words, &wanted).expect(&rt, "memory")
+        stays(rt.alloc(), &mut *config, &mut words, &wanted).expect(&rt, "memory")
             && words.next_word() == 1
     );
 }
 
 #[test]
 fn numbers_and_addresses_are_set_in_a_chain(rt: HostRuntime) {
-    let mut config = DhcpV6Config::empty(rt.alloc()).expect(&rt, "memory");
+    let empty = DhcpV6Config::empty(rt.alloc());
+    let mut config = boxed(rt.alloc(), empty).expect(&rt, "memory");
     config.set_iface_index(3).set_timeout_sec(60);
     assert!(rt;
         config.iface_index == 3 && config.timeout_sec == 60 && config.src_ip.is_unspecified()
@@ -179,6 +182,7 @@ fn numbers_and_addresses_are_set_in_a_chain(rt: HostRuntime) {
 
 #[test]
 fn a_copy_of_a_configuration_is_equal(rt: HostRuntime) {
-    let config = plain_config(rt.alloc()).expect(&rt, "memory");
-    assert!(rt; config.try_clone(rt.alloc()).expect(&rt, "memory") == config);
+    let config = boxed(rt.alloc(), plain_config(rt.alloc())).expect(&rt, "memory");
+    let copy = boxed(rt.alloc(), config.try_clone(rt.alloc())).expect(&rt, "memory");
+    assert!(rt; *copy == *config);
 }

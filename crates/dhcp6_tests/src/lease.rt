@@ -12,7 +12,7 @@ use std::alloc::Global;
 const ADDRESS: [u8; 16] = [0x20, 1, 0x0d, 0xb8, 0, 0, 0, 0, 0, 0, 0, 0, 0, 0, 0, 0x10];
 
 // The lease of a Reply with four pieces of options.
-fn lease(alloc: Global, options: [&[u8]; 4]) -> Result<DhcpV6Lease, DhcpError> {
+fn lease(alloc: Global, options: [&[u8]; 4]) -> Result<Box<DhcpV6Lease>, DhcpError> {
     let [first, second, third, fourth] = options;
     let payload = joined(alloc, &[&REPLY, first, second, third, fourth])?;
     lease_of(alloc, payload.as_slice())
@@ -38,7 +38,7 @@ fn a_reply_grants_its_address_and_times(rt: HostRuntime) {
 }
 
 // An IA_NA of 2001:db8::10 with these times: T1, T2, preferred and valid, below 256 each.
-fn association(alloc: Global, times: [u8; 4]) -> Result<DhcpV6Lease, DhcpError> {
+fn association(alloc: Global, times: [u8; 4]) -> Result<Box<DhcpV6Lease>, DhcpError> {
     let [t1, t2, preferred, valid] = times;
     let ia = [
         0, 3, 0, 40, 0, 0, 0, 9, 0, 0, 0, t1, 0, 0, 0, t2, 0, 5, 0, 24,
@@ -49,13 +49,13 @@ fn association(alloc: Global, times: [u8; 4]) -> Result<DhcpV6Lease, DhcpError> 
 
 #[test]
 fn a_time_of_zero_is_left_to_the_client(rt: HostRuntime) {
-    let cases: [([u8; 4], (u32, u32, u32, u32)); 4] = [
+    const CASES: [([u8; 4], (u32, u32, u32, u32)); 4] = [
         ([0, 0, 101, 200], (50, 75, 101, 200)),
         ([0, 90, 100, 200], (50, 90, 100, 200)),
         ([10, 0, 100, 200], (10, 75, 100, 200)),
         ([0, 0, 0, 200], (0, 0, 0, 200)),
     ];
-    for (said, wanted) in cases {
+    for &(said, wanted) in &CASES {
         assert!(rt; times(&association(rt.alloc(), said).expect(&rt, "memory")) == wanted);
     }
 }
@@ -82,7 +82,7 @@ fn a_message_without_server_status_or_order_gives_no_lease(rt: HostRuntime) {
 }
 
 // The lease of the plain Reply with an IA_PD that has failed.
-fn lease_with_failed_prefix(alloc: Global) -> Result<DhcpV6Lease, DhcpError> {
+fn lease_with_failed_prefix(alloc: Global) -> Result<Box<DhcpV6Lease>, DhcpError> {
     let failed = [0, 25, 0, 12, 0xc1, 0xdb, 0x20, 0x5c, 0, 0, 0, 0, 0, 0, 0, 0];
     lease(alloc, [&CLIENT, &SERVER, &ASSOCIATION, &failed])
 }
@@ -134,7 +134,7 @@ fn temporary_addresses_and_prefixes_have_their_terms(rt: HostRuntime) {
 }
 
 // The lease of a Reply with an IA_PD of 56 bits.
-fn prefix_lease(alloc: Global) -> Result<DhcpV6Lease, DhcpError> {
+fn prefix_lease(alloc: Global) -> Result<Box<DhcpV6Lease>, DhcpError> {
     let ia = [
         0, 25, 0, 41, 0, 0, 0, 6, 0, 0, 0, 0, 0, 0, 0, 0, 0, 26, 0, 25,
     ];

@@ -29,13 +29,13 @@ fn is_time(alloc: Global, elapsed_ms: u64, written: &[u8]) -> Result<bool, DhcpE
 
 #[test]
 fn a_long_time_is_written_as_the_greatest(rt: HostRuntime) {
-    let cases: [(u64, [u8; 2]); 4] = [
+    const CASES: [(u64, [u8; 2]); 4] = [
         (655_349, [0xff, 0xfe]),
         (655_350, [0xff, 0xff]),
         (655_360, [0xff, 0xff]),
         (u64::MAX, [0xff, 0xff]),
     ];
-    for (elapsed_ms, written) in cases {
+    for &(elapsed_ms, written) in &CASES {
         assert!(rt; is_time(rt.alloc(), elapsed_ms, &written).expect(&rt, "memory"));
     }
 }
@@ -81,7 +81,7 @@ fn a_truncated_option_ends_the_reading(rt: HostRuntime) {
 
 #[test]
 fn a_payload_is_refused_by_its_length_and_its_type(rt: HostRuntime) {
-    let cases: [(&[u8], Option<ErrorKind>); 7] = [
+    const CASES: [(&[u8], Option<ErrorKind>); 7] = [
         (&[], Some(ErrorKind::InvalidDhcpMessage)),
         (&[0], Some(ErrorKind::NotSupported)),
         (&[14, 0, 0, 0], Some(ErrorKind::NotSupported)),
@@ -90,7 +90,7 @@ fn a_payload_is_refused_by_its_length_and_its_type(rt: HostRuntime) {
         (&[7, 0, 0, 0], None),
         (&[13, 0, 0, 0], None),
     ];
-    for (payload, wanted) in cases {
+    for &(payload, wanted) in &CASES {
         assert!(rt;
             refusal(DhcpV6Message::parse(rt.alloc(), payload)).expect(&rt, "answer") == wanted
         );

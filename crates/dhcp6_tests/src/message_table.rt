@@ -76,16 +76,15 @@ fn is_written(alloc: Global, sent: Sent, parts: &[&[u8]]) -> Result<bool, DhcpEr
 
 #[test]
 fn each_message_is_its_row_byte_by_byte(rt: HostRuntime) {
-    let alloc = rt.alloc();
-    let empty = [0, 3, 0, 12, 0, 0, 0, 0, 0, 0, 0, 0, 0, 0, 0, 0];
-    let cases: [(Sent, [&[u8]; 6]); 5] = [
+    const EMPTY: [u8; 16] = [0, 3, 0, 12, 0, 0, 0, 0, 0, 0, 0, 0, 0, 0, 0, 0];
+    const CASES: [(Sent, [&[u8]; 6]); 5] = [
         (
             Sent::Solicit,
             [
                 &[1, 0xab, 0xcd, 0xef],
                 &CLIENT,
                 &[],
-                &empty,
+                &EMPTY,
                 &REQUESTS,
                 &ELAPSED,
             ],
@@ -128,8 +127,8 @@ fn each_message_is_its_row_byte_by_byte(rt: HostRuntime) {
             [&[8, 0, 0, 0], &CLIENT, &SERVER, &ASSOCIATION, &[], &ELAPSED],
         ),
     ];
-    for (sent, parts) in cases {
-        assert!(rt; is_written(alloc, sent, &parts).expect(&rt, "memory"));
+    for &(sent, parts) in &CASES {
+        assert!(rt; is_written(rt.alloc(), sent, &parts).expect(&rt, "memory"));
     }
 }
 

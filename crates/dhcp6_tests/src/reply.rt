@@ -1,5 +1,6 @@
 //! What several tests share: a Reply that grants an address, and configurations.
 
+use crate::boxed::boxed;
 use dhcp_wire::{BufferMut, Bytes, DhcpError, ErrorKind, FixedText};
 use dhcp6_msg::{DhcpV6Config, DhcpV6Lease, DhcpV6Message, DhcpV6Mode, new_solicit_msg};
 use std::alloc::Global;
@@ -60,12 +61,13 @@ pub(crate) fn refusal<T: Drop>(
 }
 
 // The lease of a payload.
-pub(crate) fn lease_of(alloc: Global, payload: &[u8]) -> Result<DhcpV6Lease, DhcpError> {
-    DhcpV6Lease::from_message(alloc, DhcpV6Message::parse(alloc, payload)?)
+pub(crate) fn lease_of(alloc: Global, payload: &[u8]) -> Result<Box<DhcpV6Lease>, DhcpError> {
+    let message = DhcpV6Message::parse(alloc, payload)?;
+    boxed(alloc, DhcpV6Lease::from_message(alloc, message))
 }
 
 // The lease of that Reply.
-pub(crate) fn plain_lease(alloc: Global) -> Result<DhcpV6Lease, DhcpError> {
+pub(crate) fn plain_lease(alloc: Global) -> Result<Box<DhcpV6Lease>, DhcpError> {
     let payload = reply(alloc)?;
     lease_of(alloc, payload.as_slice())
 }

@@ -1,5 +1,6 @@
 //! What a packet is to a client.
 
+use crate::boxed::boxed;
 use crate::reply::{ASSOCIATION, CLIENT, SERVER, joined, plain_config};
 use dhcp_clock::{MemLink, Packet, PacketKind, WordList};
 use dhcp_wire::{DhcpError, ErrorKind};
@@ -32,8 +33,8 @@ fn client(alloc: Global) -> Result<Box<DhcpV6Client>, DhcpError> {
         .set_timeout_sec(100)
         .set_link_local_ip(Ipv6Addr::new(0xfe80, 0, 0, 0, 0, 0, 0, 1));
     let mut zeros = WordList::new(Vec::new(alloc));
-    let client = DhcpV6Client::init(alloc, config, None, 0, &mut zeros)?;
-    Ok(Box::new(alloc, client)?)
+    let client = DhcpV6Client::init(alloc, config, None, 0, &mut zeros);
+    boxed(alloc, client)
 }
 
 // A poll at moment 0, which sends a Solicit.
@@ -119,13 +120,13 @@ fn each_packet_is_an_answer_or_says_why_not(rt: HostRuntime) {
 
 #[test]
 fn a_packet_answers_between_the_first_message_and_the_time_limit(rt: HostRuntime) {
-    let cases: [(bool, u64, Verdict); 4] = [
+    const CASES: [(bool, u64, Verdict); 4] = [
         (false, 0, PacketVerdict::NotListening),
         (true, 0, PacketVerdict::Answer),
         (true, 99_999, PacketVerdict::Answer),
         (true, 100_000, PacketVerdict::NotListening),
     ];
-    for (is_polled, now, wanted) in cases {
+    for &(is_polled, now, wanted) in &CASES {
         assert!(rt; offered(rt.alloc(), is_polled, now).expect(&rt, "memory") == wanted);
     }
 }

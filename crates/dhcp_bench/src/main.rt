@@ -121,20 +121,21 @@ fn count_with(
     first: &[u8],
     rest: &[&str],
 ) -> Result<u64, Failure> {
-    match what {
-        "idle" => Ok(idle::<DhcpV4Client>(alloc, times)?),
-        "idle6" => Ok(idle::<DhcpV6Client>(alloc, times)?),
-        "foreign" => Ok(foreign::<DhcpV4Client>(alloc, times, client4::frame(first))?),
-        "foreign6" => Ok(foreign::<DhcpV6Client>(alloc, times, client6::payload(first))?),
-        "written" => Ok(repeat::<DhcpV4Message>(alloc, KeptTask::Write, times, first)?),
-        "kept" => Ok(repeat::<DhcpV4Message>(alloc, KeptTask::Lease, times, first)?),
-        "written6" => Ok(repeat::<DhcpV6Message>(alloc, KeptTask::Write, times, first)?),
-        "kept6" => Ok(repeat::<DhcpV6Message>(alloc, KeptTask::Lease, times, first)?),
-        "serve256" => Ok(server4::handle(alloc, 256, times, first)?),
-        "serve65536" => Ok(server4::handle(alloc, 65_536, times, first)?),
-        "life" | "life6" => count_of_lives(alloc, what, times, first, rest),
-        what => total_of(alloc, what, times, first),
-    }
+    let count = match what {
+        "idle" => idle::<DhcpV4Client>(alloc, times),
+        "idle6" => idle::<DhcpV6Client>(alloc, times),
+        "foreign" => foreign::<DhcpV4Client>(alloc, times, client4::frame(first)),
+        "foreign6" => foreign::<DhcpV6Client>(alloc, times, client6::payload(first)),
+        "written" => repeat::<DhcpV4Message>(alloc, KeptTask::Write, times, first),
+        "kept" => repeat::<DhcpV4Message>(alloc, KeptTask::Lease, times, first),
+        "written6" => repeat::<DhcpV6Message>(alloc, KeptTask::Write, times, first),
+        "kept6" => repeat::<DhcpV6Message>(alloc, KeptTask::Lease, times, first),
+        "serve256" => server4::handle(alloc, 256, times, first),
+        "serve65536" => server4::handle(alloc, 65_536, times, first),
+        "life" | "life6" => return count_of_lives(alloc, what, times, first, rest),
+        what => return total_of(alloc, what, times, first),
+    };
+    Ok(count?)
 }
 
 // How many lives there were, with this packet of an offer, and that of the answer with the lease in
@@ -166,30 +167,35 @@ fn bytes_of(alloc: Global, line: &str) -> Result<Vec<u8>, Failure> {
 fn total_of(alloc: Global, what: &str, times: u32, bytes: &[u8]) -> Result<u64, Failure> {
     let mut total = 0u64;
     for _ in 0..times {
-        let count = match what {
-            "read" => read(alloc, bytes)?,
-            "message" => read_and_write(alloc, bytes)?,
-            "lease" => read_to_lease(alloc, bytes)?,
-            "moved" => moved_to_lease(alloc, bytes)?,
-            "discover" => discover(alloc)?,
-            "frame" => frame(alloc, bytes)?,
-            "read6" => options6::read(alloc, bytes)?,
-            "options6" => options6::read_and_write(alloc, bytes)?,
-            what => count_of_message6(alloc, what, bytes)?,
-        };
-        total = total.saturating_add(count as u64);
+        total = total.saturating_add(count_of(alloc, what, bytes)? as u64);
     }
     Ok(total)
 }
 
-// How many bytes are read and written when one thing is done with a DHCPv6 message.
-fn count_of_message6(alloc: Global, what: &str, bytes: &[u8]) -> Result<usize, Failure> {
+// How many bytes are read and written when one thing is done once.
+fn count_of(alloc: Global, what: &str, bytes: &[u8]) -> Result<usize, Failure> {
+    let count = match what {
+        "read" => read(alloc, bytes),
+        "message" => read_and_write(alloc, bytes),
+        "lease" => read_to_lease(alloc, bytes),
+        "moved" => moved_to_lease(alloc, bytes),
+        "discover" => discover(alloc),
+        "frame" => frame(alloc, bytes),
+        "read6" => options6::read(alloc, bytes),
+        "options6" => options6::read_and_write(alloc, bytes),
+        "reply6" => messages6::read(alloc, bytes),
+        "message6" => messages6::read_and_write(alloc, bytes),
+        "lease6" => messages6::read_to_lease(alloc, bytes),
+        "moved6" => messages6::moved_to_lease(alloc, bytes),
+        "solicit6" => messages6::solicit(alloc),
+        what => return count_of_relay(alloc, what, bytes),
+    };
+    Ok(count?)
+}
+
+// How many bytes are read and written when a relay message is wrapped or answered.
+fn count_of_relay(alloc: Global, what: &str, bytes: &[u8]) -> Result<usize, Failure> {
     match what {
-        "reply6" => Ok(messages6::read(alloc, bytes)?),
-        "message6" => Ok(messages6::read_and_write(alloc, bytes)?),
-        "lease6" => Ok(messages6::read_to_lease(alloc, bytes)?),
-        "moved6" => Ok(messages6::moved_to_lease(alloc, bytes)?),
-        "solicit6" => Ok(messages6::solicit(alloc)?),
         "wrap6" => Ok(relay6::wrap(alloc, bytes)?),
         "along6" => Ok(relay6::reply(alloc, bytes)?),
         _ => Err(Failure::Words),

@@ -24,7 +24,7 @@ fn refresh_sec(alloc: Global, options: &[u8]) -> Result<Option<u32>, DhcpError> 
 
 #[test]
 fn a_refresh_time_is_at_least_600_seconds(rt: HostRuntime) {
-    let cases: [(&[u8], u32); 9] = [
+    const CASES: [(&[u8], u32); 9] = [
         (&[], 86400),
         (&[0, 32, 0, 4, 0, 0, 0x02, 0x57], 600),
         (&[0, 32, 0, 4, 0, 0, 0x02, 0x58], 600),
@@ -41,7 +41,7 @@ fn a_refresh_time_is_at_least_600_seconds(rt: HostRuntime) {
             1000,
         ),
     ];
-    for (options, wanted) in cases {
+    for &(options, wanted) in &CASES {
         let seconds = refresh_sec(rt.alloc(), options).expect(&rt, "memory");
         assert!(rt; seconds == Some(wanted), "{options:?}");
     }
@@ -56,12 +56,12 @@ fn next_poll(alloc: Global, seconds: &[u8]) -> Result<Option<u64>, DhcpError> {
 
 #[test]
 fn a_configuration_is_refreshed_after_its_time_unless_that_is_never(rt: HostRuntime) {
-    let cases: [([u8; 4], Option<u64>); 3] = [
+    const CASES: [([u8; 4], Option<u64>); 3] = [
         ([0, 0, 0x02, 0x57], Some(600100)),
         ([0xff, 0xff, 0xff, 0xfe], Some(4294967294100)),
         ([0xff, 0xff, 0xff, 0xff], None),
     ];
-    for (seconds, wanted) in cases {
+    for &(seconds, wanted) in &CASES {
         let next = next_poll(rt.alloc(), &seconds).expect(&rt, "memory");
         assert!(rt; next == wanted, "{seconds:?}");
     }
@@ -78,14 +78,14 @@ const FAILURE: [u8; 6] = [0, 13, 0, 2, 0, 1];
 
 #[test]
 fn what_is_no_reply_of_a_server_gives_nothing(rt: HostRuntime) {
-    let cases: [&[&[u8]]; 5] = [
+    const CASES: [&[&[u8]]; 5] = [
         &[&ADVERTISE, &SERVER],
         &[&FOREIGN, &SERVER],
         &[&REPLY, &CLIENT],
         &[&REPLY, &SERVER, &FAILURE],
         &[&[7, 0xab, 0xcd]],
     ];
-    for parts in cases {
+    for &parts in &CASES {
         assert!(rt;
             given(rt.alloc(), parts).expect(&rt, "memory").is_none(),
             "{parts:?}"

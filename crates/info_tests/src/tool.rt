@@ -86,7 +86,7 @@ fn gives(alloc: Global, options: &str, fields: &str) -> Result<bool, DhcpError> 
 
 #[test]
 fn lists_are_joined_by_commas(rt: HostRuntime) {
-    let cases: [(&str, &str); 7] = [
+    const CASES: [(&str, &str); 7] = [
         ("", "none none none 86400"),
         ("0018000100", "none -, none 86400"),
         ("001700000018000000380000", "- - - 86400"),
@@ -100,7 +100,7 @@ fn lists_are_joined_by_commas(rt: HostRuntime) {
         ),
         ("0038000900030005036e747000", "none none n/6e7470 86400"),
     ];
-    for (options, fields) in cases {
+    for &(options, fields) in &CASES {
         assert!(rt;
             gives(rt.alloc(), options, fields).expect(&rt, "memory"),
             "{options}"
@@ -116,8 +116,8 @@ fn ends(alloc: Global, words: &[&str], input: &str, expected: u8) -> Result<bool
 
 #[test]
 fn other_words_are_wrong(rt: HostRuntime) {
-    let cases: [&[&str]; 4] = [&[], &["demo"], &["run", "run"], &["RUN"]];
-    for words in cases {
+    const CASES: [&[&str]; 4] = [&[], &["demo"], &["run", "run"], &["RUN"]];
+    for &words in &CASES {
         assert!(rt;
             ends(rt.alloc(), words, "", 1).expect(&rt, "memory"),
             "{words:?}"

@@ -144,14 +144,14 @@ fn is_invalid(alloc: Global, count: u32, more: &str) -> Result<bool, DhcpError> 
 
 #[test]
 fn what_may_not_come_is_not_valid(rt: HostRuntime) {
-    let cases = [
+    const CASES: [(u32, &str); 5] = [
         (1, "at 1031 client 0 ok deliver 6\n"),
         (1, "at 40 client 0 ok deliver 9\n"),
         (1, "at 40 client 2 ok none\n"),
         (1, "at 39 client 0 ok none\n"),
         (0, ""),
     ];
-    for (count, more) in cases {
+    for &(count, more) in &CASES {
         let is = is_invalid(rt.alloc(), count, more).expect(&rt, "memory");
         assert!(rt; is, "{more}");
     }
@@ -159,8 +159,8 @@ fn what_may_not_come_is_not_valid(rt: HostRuntime) {
 
 #[test]
 fn other_words_are_wrong(rt: HostRuntime) {
-    let cases: [&[&str]; 4] = [&[], &["demo"], &["run", "run"], &["RUN"]];
-    for words in cases {
+    const CASES: [&[&str]; 4] = [&[], &["demo"], &["run", "run"], &["RUN"]];
+    for &words in &CASES {
         assert!(rt;
             ends(rt.alloc(), words, "", 1).expect(&rt, "memory"),
             "{words:?}"
@@ -177,7 +177,7 @@ fn is_no_script(alloc: Global, lines: &str) -> Result<bool, DhcpError> {
 
 #[test]
 fn other_lines_are_no_script(rt: HostRuntime) {
-    let cases = [
+    const CASES: [&str; 8] = [
         "",
         "end\nend\n",
         "at 0 client 0 none\nend\n",
@@ -187,7 +187,7 @@ fn other_lines_are_no_script(rt: HostRuntime) {
         "at 0 server none\nend\n",
         "client 020000000005 -\nend\n",
     ];
-    for lines in cases {
+    for &lines in &CASES {
         assert!(rt;
             is_no_script(rt.alloc(), lines).expect(&rt, "memory"),
             "{lines}"
@@ -199,7 +199,7 @@ fn other_lines_are_no_script(rt: HostRuntime) {
 #[test]
 fn a_client_says_its_message_forms_in_one_way(rt: HostRuntime) {
     let alloc = rt.alloc();
-    let cases = [
+    const CASES: [&str; 7] = [
         "client 020000000001 - mozim\n",
         "client 020000000001 - \n",
         "client 020000000001 -  rfc2131\n",
@@ -208,7 +208,7 @@ fn a_client_says_its_message_forms_in_one_way(rt: HostRuntime) {
         "client 020000000001 rfc2131\n",
         "client 020000000001 rfc2131 -\n",
     ];
-    for line in cases {
+    for &line in &CASES {
         let head = head_of(alloc, 1, line).expect(&rt, "memory");
         let input = format!(in alloc; "{head}end\n").expect(&rt, "memory");
         let is = ends(alloc, &["run"], input.as_str(), 2).expect(&rt, "memory");

@@ -66,7 +66,7 @@ fn an_empty_message_is_a_dash(rt: HostRuntime) {
 
 #[test]
 fn other_words_are_wrong(rt: HostRuntime) {
-    let cases: [&[&str]; 9] = [
+    const CASES: [&[&str]; 9] = [
         &[],
         &["Unwrap"],
         &["unwrap", "-"],
@@ -77,7 +77,7 @@ fn other_words_are_wrong(rt: HostRuntime) {
         &["wrap", "", PEER, "-"],
         &["wrap", LINK, PEER, ""],
     ];
-    for words in cases {
+    for &words in &CASES {
         assert!(rt;
             ends(rt.alloc(), words, b"-\n", 1).expect(&rt, "memory"),
             "{words:?}"
@@ -87,7 +87,7 @@ fn other_words_are_wrong(rt: HostRuntime) {
 
 #[test]
 fn a_line_is_no_message_or_a_refused_one(rt: HostRuntime) {
-    let cases: [(&[u8], u8); 7] = [
+    const CASES: [(&[u8], u8); 7] = [
         (b"", 2),
         (b"0d", 2),
         (b"0D\n", 2),
@@ -96,7 +96,7 @@ fn a_line_is_no_message_or_a_refused_one(rt: HostRuntime) {
         (b"0d\n", 7),
         (b"-\n", 7),
     ];
-    for (input, status) in cases {
+    for &(input, status) in &CASES {
         assert!(rt;
             ends(rt.alloc(), &["unwrap"], input, status).expect(&rt, "memory"),
             "{input:?}"

@@ -73,7 +73,7 @@ fn is_lease_refused(alloc: Global, server_len: usize) -> Result<bool, DhcpError>
 
 #[test]
 fn a_configuration_is_within_the_limits_of_a_script(rt: HostRuntime) {
-    let cases = [
+    const CASES: [(usize, usize, bool); 6] = [
         (0, 0, false),
         (1, 0, true),
         (2, 0, false),
@@ -81,7 +81,7 @@ fn a_configuration_is_within_the_limits_of_a_script(rt: HostRuntime) {
         (131, 1000, true),
         (130, 1001, true),
     ];
-    for (duid_len, codes, want) in cases {
+    for &(duid_len, codes, want) in &CASES {
         let is_refused = is_config_refused(rt.alloc(), duid_len, codes).expect(&rt, "memory");
         assert!(rt; is_refused == want, "{duid_len} {codes}");
     }

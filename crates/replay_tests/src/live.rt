@@ -138,7 +138,7 @@ fn a_packet_that_is_no_answer_has_its_reason(rt: HostRuntime) {
 
 #[test]
 fn what_was_said_stays(rt: HostRuntime) {
-    let cases = [
+    const CASES: [(&str, u8); 6] = [
         ("", 2),
         ("end of it", 2),
         ("start 0", 2),
@@ -146,7 +146,7 @@ fn what_was_said_stays(rt: HostRuntime) {
         ("at 1 ok none at 2 ok none", 2),
         ("at 1152921504606846976 ok none", 7),
     ];
-    for (line, status) in cases {
+    for &(line, status) in &CASES {
         let told = [HEAD, "at 0 ok none", line];
         let is_said = is_said(rt.alloc(), &told, status, "next 5 deaf 0").expect(&rt, "memory");
         assert!(rt; is_said, "{line}");
@@ -161,7 +161,7 @@ fn ends_with(alloc: Global, line: &str, events: &str, status: u8) -> Result<bool
 
 #[test]
 fn each_status_has_its_cause(rt: HostRuntime) {
-    let cases = [
+    const CASES: [(&str, &str, u8); 6] = [
         (USUAL, "", 0),
         (USUAL, "at 5 ok none\nat 4 ok none", 7),
         ("start 1", "at 0 ok none", 7),
@@ -169,7 +169,7 @@ fn each_status_has_its_cause(rt: HostRuntime) {
         ("iface 1 02000000000A 0 0", "", 2),
         ("host 6", "", 2),
     ];
-    for (line, events, status) in cases {
+    for &(line, events, status) in &CASES {
         let ends = ends_with(rt.alloc(), line, events, status).expect(&rt, "memory");
         assert!(rt; ends, "{line} {events}");
     }

@@ -33,7 +33,7 @@ fn are_wrong(alloc: Global, words: &[&str]) -> Result<bool, DhcpError> {
 
 #[test]
 fn other_words_are_wrong(rt: HostRuntime) {
-    let cases: [&[&str]; 13] = [
+    const CASES: [&[&str]; 13] = [
         &[],
         &["run", "x"],
         &["Run"],
@@ -48,7 +48,7 @@ fn other_words_are_wrong(rt: HostRuntime) {
         &["demo", "1", "1"],
         &["Demo", "1"],
     ];
-    for words in cases {
+    for &words in &CASES {
         assert!(rt;
             are_wrong(rt.alloc(), words).expect(&rt, "memory"),
             "{words:?}"
@@ -163,14 +163,14 @@ fn ends_where(alloc: Global, faults: Faults, status: u8) -> Result<bool, DhcpErr
 #[test]
 fn each_failing_read_and_write_has_its_status(rt: HostRuntime) {
     // The first read gives all bytes and the second none, and the first write takes all.
-    let cases = [
+    const CASES: [(Faults, u8); 5] = [
         (Faults { read: 1, write: 0 }, 3),
         (Faults { read: 2, write: 0 }, 3),
         (Faults { read: 3, write: 0 }, 0),
         (Faults { read: 0, write: 1 }, 4),
         (Faults { read: 0, write: 2 }, 0),
     ];
-    for (faults, status) in cases {
+    for &(faults, status) in &CASES {
         let ends = ends_where(rt.alloc(), faults, status).expect(&rt, "memory");
         assert!(rt; ends, "{faults:?}");
     }

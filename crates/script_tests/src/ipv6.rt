@@ -66,7 +66,7 @@ fn texts_of_ipv6_are_written_back(rt: HostRuntime) {
 
 #[test]
 fn interfaces_of_ipv6_are_read_or_refused(rt: HostRuntime) {
-    let cases = [
+    const CASES: [(&str, bool); 10] = [
         ("1 fe800000000000000000000000000001 02000000000a na 0", true),
         (
             "1 fe800000000000000000000000000001 02000000000A na 0",
@@ -81,7 +81,7 @@ fn interfaces_of_ipv6_are_read_or_refused(rt: HostRuntime) {
         ("1 fe800000000000000000000000000001 -  na 0", false),
         ("1 020000000001 0 0", false),
     ];
-    for (iface, want) in cases {
+    for &(iface, want) in &CASES {
         let is_read = is_read6(rt.alloc(), [iface, DUID, "default", "none"]).expect(&rt, "memory");
         assert!(rt; is_read == want, "{iface}");
     }
@@ -106,7 +106,7 @@ fn is_lease_valid(alloc: Global, fields: [&str; 3]) -> Result<Option<bool>, Allo
 
 #[test]
 fn leases_of_ipv6_are_read_or_refused(rt: HostRuntime) {
-    let cases = [
+    const CASES: [(&str, &str, &str, bool); 7] = [
         (LEASED, TIMES, LATER, true),
         (LEASED, TIMES, NO_LATER, true),
         (LEASED, "50 80 100", LATER, false),
@@ -130,7 +130,7 @@ fn leases_of_ipv6_are_read_or_refused(rt: HostRuntime) {
             false,
         ),
     ];
-    for (leased, times, later, want) in cases {
+    for &(leased, times, later, want) in &CASES {
         let is_read = is_lease_read(rt.alloc(), [leased, times, later]).expect(&rt, "memory");
         assert!(rt; is_read == want, "{leased} {times} {later}");
     }
@@ -185,7 +185,7 @@ fn a_script_lists_at_most_1000_codes(rt: HostRuntime) {
 
 #[test]
 fn leases_of_ipv6_are_within_their_limits(rt: HostRuntime) {
-    let cases = [
+    const CASES: [(&str, &str, bool); 7] = [
         (LEASED, "50 80 100 100", true),
         (LEASED, "81 80 100 100", false),
         (LEASED, "50 101 100 100", false),
@@ -202,7 +202,7 @@ fn leases_of_ipv6_are_within_their_limits(rt: HostRuntime) {
         ),
         ("na 40 20010db8000000000000000000000010 128 -", TIMES, false),
     ];
-    for (leased, times, want) in cases {
+    for &(leased, times, want) in &CASES {
         let is_valid = is_lease_valid(rt.alloc(), [leased, times, NO_LATER]).expect(&rt, "memory");
         assert!(rt; is_valid == Some(want), "{leased} {times}");
     }
@@ -244,14 +244,14 @@ fn is_lease_of_version_1(alloc: Global, version: u8, later: &str) -> Result<bool
 fn a_text_of_ipv6_is_of_one_version(rt: HostRuntime) {
     assert!(rt; is_version_1(rt.alloc(), 1, "none").expect(&rt, "memory"));
     assert!(rt; !is_version_1(rt.alloc(), 2, "none").expect(&rt, "memory"));
-    let cases = [
+    const CASES: [(u8, &str, bool); 5] = [
         (1, "", true),
         (1, " 7", false),
         (1, " 0 - 00000000000000000000000000000000", false),
         (2, "", false),
         (2, " 0 - 00000000000000000000000000000000", false),
     ];
-    for (version, later, want) in cases {
+    for &(version, later, want) in &CASES {
         let is_read = is_lease_of_version_1(rt.alloc(), version, later).expect(&rt, "memory");
         assert!(rt; is_read == want, "{version}{later}");
     }

@@ -14,7 +14,7 @@ fn is_lease_valid(alloc: Global, times: &str, events: &str) -> Result<Option<boo
 
 #[test]
 fn times_and_moments_are_in_order(rt: HostRuntime) {
-    let cases = [
+    const CASES: [(&str, &str, bool); 7] = [
         ("10 20 30", "at 3 ok none\nat 3 ok none\nend\n", true),
         ("20 20 20", "end\n", true),
         ("21 20 30", "end\n", false),
@@ -23,7 +23,7 @@ fn times_and_moments_are_in_order(rt: HostRuntime) {
         ("10 20 30", "at 1152921504606846975 ok none\nend\n", true),
         ("10 20 30", "at 1152921504606846976 ok none\nend\n", false),
     ];
-    for (times, events, want) in cases {
+    for &(times, events, want) in &CASES {
         let is_valid = is_lease_valid(rt.alloc(), times, events).expect(&rt, "memory");
         assert!(rt; is_valid == Some(want), "{times} {events:?}");
     }
@@ -84,7 +84,7 @@ fn is_valid_with(alloc: Global, lengths: [usize; 5]) -> Result<bool, AllocError>
 
 #[test]
 fn lengths_are_within_their_limits(rt: HostRuntime) {
-    let cases = [
+    const CASES: [([usize; 5], bool); 7] = [
         ([254, 255, 255, 1, 1500], true),
         ([255, 0, 0, 0, 0], false),
         ([0, 256, 0, 0, 0], false),
@@ -93,7 +93,7 @@ fn lengths_are_within_their_limits(rt: HostRuntime) {
         ([0, 0, 0, 20_001, 0], false),
         ([0, 0, 0, 1, 1501], false),
     ];
-    for (lengths, want) in cases {
+    for &(lengths, want) in &CASES {
         let is_valid = is_valid_with(rt.alloc(), lengths).expect(&rt, "memory");
         assert!(rt; is_valid == want, "{lengths:?}");
     }

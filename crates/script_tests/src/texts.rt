@@ -40,7 +40,7 @@ fn texts_of_version_3_are_written_back(rt: HostRuntime) {
 
 #[test]
 fn lines_of_events_are_read_or_refused(rt: HostRuntime) {
-    let cases = [
+    const CASES: [(&str, bool); 18] = [
         ("end\n", true),
         (
             "at 0 ok none\nat 5 refuse release\nat 5 ok cleanup\nend\n",
@@ -63,7 +63,7 @@ fn lines_of_events_are_read_or_refused(rt: HostRuntime) {
         ("end\n\n", false),
         ("", false),
     ];
-    for (events, want) in cases {
+    for &(events, want) in &CASES {
         let is_script = is_script(rt.alloc(), "none", events).expect(&rt, "memory");
         assert!(rt; is_script == want, "{events:?}");
     }
@@ -77,7 +77,7 @@ fn is_script_with(alloc: Global, fields: &str) -> Result<bool, AllocError> {
 
 #[test]
 fn fields_of_a_lease_are_read_or_refused(rt: HostRuntime) {
-    let cases = [
+    const CASES: [(&str, bool); 13] = [
         ("0.0.0.0 none none none none none none none none", true),
         ("0.0.0.0 0.0.0.0 65535 - - - - - -", true),
         (
@@ -107,7 +107,7 @@ fn fields_of_a_lease_are_read_or_refused(rt: HostRuntime) {
         ),
         ("0.0.0.0 none none none none none none none none ", false),
     ];
-    for (fields, want) in cases {
+    for &(fields, want) in &CASES {
         let is_script = is_script_with(rt.alloc(), fields).expect(&rt, "memory");
         assert!(rt; is_script == want, "{fields}");
     }
@@ -122,7 +122,7 @@ fn begins_a_script(alloc: Global, front: &str) -> Result<bool, AllocError> {
 
 #[test]
 fn first_lines_are_read_or_refused(rt: HostRuntime) {
-    let cases = [
+    const CASES: [(&str, bool); 25] = [
         (
             "dhcp4 2\niface 1 020000000001 0 0\nhost -\nclient -\n",
             true,
@@ -221,7 +221,7 @@ fn first_lines_are_read_or_refused(rt: HostRuntime) {
             false,
         ),
     ];
-    for (front, want) in cases {
+    for &(front, want) in &CASES {
         let begins = begins_a_script(rt.alloc(), front).expect(&rt, "memory");
         assert!(rt; begins == want, "{front:?}");
     }

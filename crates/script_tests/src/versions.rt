@@ -31,7 +31,7 @@ fn is_version_1(alloc: Global, version: u8, lease: &str) -> Result<(bool, bool),
 
 #[test]
 fn a_text_is_of_one_version(rt: HostRuntime) {
-    let cases = [
+    const CASES: [(u8, &str, bool); 7] = [
         (1, "none", true),
         (1, "192.0.2.10 192.0.2.1 192.0.2.1 30 20 10", true),
         (1, "192.0.2.10 192.0.2.1 192.0.2.1 10 20", false),
@@ -40,7 +40,7 @@ fn a_text_is_of_one_version(rt: HostRuntime) {
         (2, "none", false),
         (2, "192.0.2.10 192.0.2.1 192.0.2.1 10 20 30", false),
     ];
-    for (version, lease, want) in cases {
+    for &(version, lease, want) in &CASES {
         let is_version_1 = is_version_1(rt.alloc(), version, lease).expect(&rt, "memory");
         assert!(rt; is_version_1 == (want, want), "{version} {lease}");
     }

@@ -64,14 +64,14 @@ fn fields_are_read_in_network_order(rt: HostRuntime) {
 
 #[test]
 fn a_text_is_cut_one_byte_before_its_field_ends(rt: HostRuntime) {
-    let table: [(&str, usize, &[u8]); 5] = [
+    const TABLE: [(&str, usize, &[u8]); 5] = [
         ("", 1, b"\0"),
         ("abc", 1, b"\0"),
         ("abc", 3, b"ab\0"),
         ("abc", 4, b"abc\0"),
         ("abc", 6, b"abc\0\0\0"),
     ];
-    for (text, size, bytes) in table {
+    for &(text, size, bytes) in &TABLE {
         let mut written = BufferMut::new(rt.alloc());
         written
             .write_string_with_null(text, size.max(1))

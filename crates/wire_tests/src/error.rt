@@ -81,7 +81,7 @@ fn a_refused_read_is_none(rt: HostRuntime) {
 #[test]
 fn out_of_memory_alone_has_no_text(rt: HostRuntime) {
     assert!(rt; FixedText::NoMemory.as_str() == "");
-    let texts = [
+    const TEXTS: [FixedText; 12] = [
         FixedText::Short,
         FixedText::NotUtf8,
         FixedText::Unreadable,
@@ -95,7 +95,7 @@ fn out_of_memory_alone_has_no_text(rt: HostRuntime) {
         FixedText::TimedOut,
         FixedText::Refused,
     ];
-    for text in texts {
+    for &text in &TEXTS {
         assert!(rt; !text.as_str().is_empty());
     }
 }

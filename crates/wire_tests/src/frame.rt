@@ -142,7 +142,7 @@ fn options_of_the_header_are_no_payload(rt: HostRuntime) {
 
 #[test]
 fn one_wrong_field_refuses_a_frame(rt: HostRuntime) {
-    let edits: [(usize, u8, &'static str); 13] = [
+    const EDITS: [(usize, u8, &str); 13] = [
         (12, 0x81, "another type"),
         (13, 0x06, "a type of ARP"),
         (14, 0x65, "version 6"),
@@ -157,7 +157,7 @@ fn one_wrong_field_refuses_a_frame(rt: HostRuntime) {
         (39, 0x07, "a UDP length below 8"),
         (39, 0x0b, "a UDP length past the packet"),
     ];
-    for (place, byte, what) in edits {
+    for &(place, byte, what) in &EDITS {
         let mut bytes = SHORT;
         if place < 60 {
             bytes[place] = byte;

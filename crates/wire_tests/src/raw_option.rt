@@ -20,7 +20,7 @@ const WHOLE: [(OptionFormat, &[u8], u16, &[u8], usize); 5] = [
 
 #[test]
 fn a_whole_option_is_found_at_the_front(rt: HostRuntime) {
-    for (format, bytes, code, value, len) in WHOLE {
+    for &(format, bytes, code, value, len) in &WHOLE {
         match format.raw_option_at(bytes) {
             Some((option, rest)) => {
                 assert!(rt; (option.code, rest.len()) == (code, len));
@@ -33,14 +33,14 @@ fn a_whole_option_is_found_at_the_front(rt: HostRuntime) {
 
 #[test]
 fn a_truncated_option_is_none(rt: HostRuntime) {
-    let table: [(OptionFormat, &[u8]); 5] = [
+    const TABLE: [(OptionFormat, &[u8]); 5] = [
         (OptionFormat::DhcpV4, &[]),
         (OptionFormat::DhcpV4, &[53]),
         (OptionFormat::DhcpV4, &[53, 2, 1]),
         (OptionFormat::DhcpV6, &[0, 1, 0]),
         (OptionFormat::DhcpV6, &[0, 1, 0, 2, 7]),
     ];
-    for (format, bytes) in table {
+    for &(format, bytes) in &TABLE {
         assert!(rt; format.raw_option_at(bytes).is_none());
     }
 }

@@ -101,13 +101,13 @@ fn a_source_fails_at_the_listed_calls(rt: HostRuntime) {
 
 #[test]
 fn a_sink_takes_bytes_whole_or_a_prefix_of_them(rt: HostRuntime) {
-    let cases = [
+    const CASES: [(usize, u32, bool, usize); 4] = [
         (5, 0, true, 5),
         (4, 0, false, 4),
         (9, 1, false, 0),
         (9, 2, true, 5),
     ];
-    for (room, fail, want, taken) in cases {
+    for &(room, fail, want, taken) in &CASES {
         let mut sink = MemSink::new(
             rt.alloc(),
             room,

@@ -8,8 +8,8 @@ use std::net::{Ipv4Addr, Ipv6Addr};
 
 #[test]
 fn hex_is_read_in_lower_case_pairs(rt: HostRuntime) {
-    let cases: [(&[u8], &[u8]); 3] = [(b"-", b""), (b"00", b"\0"), (b"09afff", b"\x09\xaf\xff")];
-    for (field, want) in cases {
+    const CASES: [(&[u8], &[u8]); 3] = [(b"-", b""), (b"00", b"\0"), (b"09afff", b"\x09\xaf\xff")];
+    for &(field, want) in &CASES {
         let bytes = hex_field(rt.alloc(), field)
             .expect(&rt, "reads")
             .expect(&rt, "memory");
@@ -19,7 +19,8 @@ fn hex_is_read_in_lower_case_pairs(rt: HostRuntime) {
 
 #[test]
 fn other_texts_are_no_hex(rt: HostRuntime) {
-    for field in ["", "0", "000", "FF", "0g", "--", "-0", " 00", "0:"] {
+    const FIELDS: [&str; 9] = ["", "0", "000", "FF", "0g", "--", "-0", " 00", "0:"];
+    for field in &FIELDS {
         assert!(rt;
             hex_field(rt.alloc(), field.as_bytes())
                 .expect(&rt, "reads")
@@ -42,15 +43,16 @@ fn octets_are_put_as_two_digits_each(rt: HostRuntime) {
 
 #[test]
 fn a_mac_address_is_six_bytes_in_hex(rt: HostRuntime) {
-    assert!(rt; mac_field(b"02000000000a") == Some([2, 0, 0, 0, 0, 10]));
-    for field in [
+    const FIELDS: [&str; 6] = [
         "",
         "-",
         "0200000000",
         "02000000000a0b",
         "02000000000A",
         "0200000000g0",
-    ] {
+    ];
+    assert!(rt; mac_field(b"02000000000a") == Some([2, 0, 0, 0, 0, 10]));
+    for field in &FIELDS {
         assert!(rt; mac_field(field.as_bytes()).is_none(), "{field}");
     }
 }
@@ -86,9 +88,7 @@ fn codes_are_read_from_four_digits_each(rt: HostRuntime) {
 
 #[test]
 fn ipv6_addresses_are_32_lower_case_digits(rt: HostRuntime) {
-    let address = Ipv6Addr::new(0xfe80, 0, 0, 0, 0, 0, 0, 0xa);
-    assert!(rt; ipv6_field(b"fe80000000000000000000000000000a") == Some(address));
-    for field in [
+    const FIELDS: [&str; 7] = [
         "",
         "-",
         "fe80::a",
@@ -96,14 +96,17 @@ fn ipv6_addresses_are_32_lower_case_digits(rt: HostRuntime) {
         "fe80000000000000000000000000000a0",
         "fe80000000000000000000000000000A",
         "fe80000000000000000000000000000g",
-    ] {
+    ];
+    let address = Ipv6Addr::new(0xfe80, 0, 0, 0, 0, 0, 0, 0xa);
+    assert!(rt; ipv6_field(b"fe80000000000000000000000000000a") == Some(address));
+    for field in &FIELDS {
         assert!(rt; ipv6_field(field.as_bytes()).is_none(), "{field}");
     }
 }
 
 #[test]
 fn numbers_are_decimal_without_leading_zeros(rt: HostRuntime) {
-    let cases = [
+    const CASES: [(&str, u64, Option<u64>); 6] = [
         ("0", 0, Some(0)),
         ("255", 255, Some(255)),
         ("256", 255, None),
@@ -111,33 +114,28 @@ fn numbers_are_decimal_without_leading_zeros(rt: HostRuntime) {
         ("18446744073709551616", u64::MAX, None),
         ("100000000000000000000", u64::MAX, None),
     ];
-    for (field, max, want) in cases {
+    const OTHERS: [&str; 12] = [
+        "", "00", "07", "+7", "-7", "-0", " 7", "7 ", "7a", "0x7", "7.0", "\u{0667}",
+    ];
+    for &(field, max, want) in &CASES {
         assert!(rt;
             number_field(field.as_bytes(), max) == want,
             "{field} {max}"
         );
     }
-    for field in [
-        "", "00", "07", "+7", "-7", "-0", " 7", "7 ", "7a", "0x7", "7.0", "\u{0667}",
-    ] {
+    for field in &OTHERS {
         assert!(rt; number_field(field.as_bytes(), 99) == None, "{field}");
     }
 }
 
 #[test]
 fn addresses_are_four_numbers_with_dots_between_them(rt: HostRuntime) {
-    let cases = [
+    const CASES: [(&str, [u8; 4]); 3] = [
         ("0.0.0.0", [0, 0, 0, 0]),
         ("192.0.2.10", [192, 0, 2, 10]),
         ("255.255.255.255", [255, 255, 255, 255]),
     ];
-    for (field, octets) in cases {
-        assert!(rt;
-            ipv4_field(field.as_bytes()) == Some(Ipv4Addr::from(octets)),
-            "{field}"
-        );
-    }
-    for field in [
+    const OTHERS: [&str; 16] = [
         "",
         "1.2.3",
         "1.2.3.4.5",
@@ -154,7 +152,14 @@ fn addresses_are_four_numbers_with_dots_between_them(rt: HostRuntime) {
         "1,2,3,4",
         "a.2.3.4",
         "3232235786",
-    ] {
+    ];
+    for &(field, octets) in &CASES {
+        assert!(rt;
+            ipv4_field(field.as_bytes()) == Some(Ipv4Addr::from(octets)),
+            "{field}"
+        );
+    }
+    for field in &OTHERS {
         assert!(rt; ipv4_field(field.as_bytes()) == None, "{field}");
     }
 }

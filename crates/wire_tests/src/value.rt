@@ -5,14 +5,14 @@ use std::net::Ipv4Addr;
 
 #[test]
 fn mac_addresses_are_hex_bytes_between_colons(rt: HostRuntime) {
-    let table: [(&str, &[u8]); 5] = [
+    const TABLE: [(&str, &[u8]); 5] = [
         ("01:02:2a:2c:f7:04", &[0x01, 0x02, 0x2a, 0x2c, 0xf7, 0x04]),
         ("000ff", &[255]),
         ("+1:+fF", &[1, 255]),
         ("0", &[0]),
         ("DE:ad:Be", &[0xde, 0xad, 0xbe]),
     ];
-    for (text, bytes) in table {
+    for &(text, bytes) in &TABLE {
         assert!(rt;
             parse_mac(rt.alloc(), text).expect(&rt, "reads").as_slice() == bytes,
             "at {text}"
@@ -22,10 +22,10 @@ fn mac_addresses_are_hex_bytes_between_colons(rt: HostRuntime) {
 
 #[test]
 fn other_texts_are_no_mac_address(rt: HostRuntime) {
-    let table = [
+    const TABLE: [&str; 12] = [
         "", "1:g", "1::2", "1:", ":1", "100", "++1", "+", "-1", " 1", "1-2", "1: 2",
     ];
-    for text in table {
+    for &text in &TABLE {
         assert!(rt;
             none_if_refused(parse_mac(rt.alloc(), text))
                 .expect(&rt, "reads")

@@ -19,7 +19,7 @@ fn a_list_gives_its_words_in_order_and_then_zeros(rt: HostRuntime) {
 
 #[test]
 fn waits_of_a_discovery_double_up_to_a_minute(rt: HostRuntime) {
-    let waits = [
+    const WAITS: [(u32, u32, u64); 6] = [
         (0, 0, 3000),
         (1, 0, 7000),
         (2, 0, 15000),
@@ -27,7 +27,7 @@ fn waits_of_a_discovery_double_up_to_a_minute(rt: HostRuntime) {
         (4, 0, 62000),
         (4294967295, 1999, 63999),
     ];
-    for (count, word, wait) in waits {
+    for &(count, word, wait) in &WAITS {
         assert!(rt;
             discovery_wait(count, word) == wait,
             "at {count} and {word}"
