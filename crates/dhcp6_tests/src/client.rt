@@ -208,9 +208,18 @@ fn released_held(alloc: Global, client: &mut DhcpV6Client) -> Result<Option<Hand
 fn releases_the_held_lease(alloc: Global, client: &mut DhcpV6Client) -> Result<bool, DhcpError> {
     let is_taken = client.done(lease(alloc)?, 7).is_ok();
     let by_hand = released(alloc, client)?;
-    let is_taken_again = client.done(lease(alloc)?, 7).is_ok();
+    Ok(is_taken && hands_when_held(alloc, client, &by_hand)?)
+}
+
+// Whether that lease, held anew and then released, hands this message to the link.
+fn hands_when_held(
+    alloc: Global,
+    client: &mut DhcpV6Client,
+    message: &Option<Handed>,
+) -> Result<bool, DhcpError> {
+    let is_taken = client.done(lease(alloc)?, 7).is_ok();
     let held = released_held(alloc, client)?;
-    Ok(is_taken && is_taken_again && held.is_some() && held == by_hand && client.lease().is_none())
+    Ok(is_taken && held.is_some() && held == *message && client.lease().is_none())
 }
 
 // Whether the release of a lease that isn't held returns false and hands nothing to the link.

@@ -61,19 +61,21 @@ pub(crate) struct Host {
 }
 
 impl Host {
-    // A host of this configuration, whose client was not polled yet.
-    pub(crate) fn new(alloc: Global, config: DhcpV6Config) -> Result<Self, DhcpError> {
+    // A host of this configuration, whose client was not polled yet, in a box: what a test owns
+    // itself is dropped field by field in its proof.
+    pub(crate) fn new(alloc: Global, config: DhcpV6Config) -> Result<Box<Self>, DhcpError> {
         let mut words = WordList::new(Vec::from_slice(alloc, &WORDS)?);
         let client = DhcpV6InfoClient::init(alloc, config, &mut words)?;
-        Ok(Host {
+        let host = Host {
             client: Box::new(alloc, client)?,
             words,
             link: MemLink::new(alloc),
-        })
+        };
+        Ok(Box::new(alloc, host)?)
     }
 
     // One that has sent its first message at 0, and asks for name servers.
-    pub(crate) fn asking(alloc: Global) -> Result<Self, DhcpError> {
+    pub(crate) fn asking(alloc: Global) -> Result<Box<Self>, DhcpError> {
         let mut host = Host::new(alloc, config(alloc, &[23], 0)?)?;
         host.poll(0)?;
         host.link.take_handed();

@@ -7,6 +7,7 @@ use dhcp_history::{
 };
 use dhcp_wire::Bytes;
 use std::alloc::Global;
+use std::process::Abort;
 use uses::Repeater;
 
 // A client that was not polled yet, with no time limit.
@@ -43,20 +44,30 @@ fn kind(output: NumberedReport<bool, Handed>) -> u32 {
     }
 }
 
+// The client asks at 10, and a packet that waits at 100 lets it hold.
+fn ask_and_hold(
+    rt: &impl Abort,
+    rules: &Repeater,
+    client: &mut Client<Option<u64>, u32>,
+    link: &mut MemLink,
+) {
+    let alloc = rules.alloc;
+    let mut words = WordList::new(vec![in alloc; 500, 0].expect(rt, "memory"));
+    let first = run(rules, client, 10, &mut words, link);
+    assert!(rt; first.expect(rt, "answer").is_none());
+    assert!(rt; next_poll(rules, client) == Some(1510));
+    link.load(Some(packet(alloc)));
+    let second = run(rules, client, 100, &mut words, link);
+    assert!(rt; second.expect(rt, "answer") == Some(true));
+}
+
 #[test]
 fn a_client_asks_holds_and_is_released(rt: HostRuntime) {
-    let alloc = rt.alloc();
-    let rules = Repeater { alloc };
+    let rules = Repeater { alloc: rt.alloc() };
     let mut client = client();
-    let mut words = WordList::new(vec![in alloc; 500, 0].expect(&rt, "memory"));
-    let mut link = MemLink::new(alloc);
+    let mut link = MemLink::new(rt.alloc());
     assert!(rt; next_poll(&rules, &client) == Some(0));
-    let first = run(&rules, &mut client, 10, &mut words, &mut link);
-    assert!(rt; first.expect(&rt, "answer").is_none());
-    assert!(rt; next_poll(&rules, &client) == Some(1510));
-    link.load(Some(packet(alloc)));
-    let second = run(&rules, &mut client, 100, &mut words, &mut link);
-    assert!(rt; second.expect(&rt, "answer") == Some(true));
+    ask_and_hold(&rt, &rules, &mut client, &mut link);
     assert!(rt; next_poll(&rules, &client) == Some(5100));
     assert!(rt; release_held(&rules, &mut client, &mut link).expect(&rt, "answer"));
     clean_up(&rules, &mut client);
