@@ -14,7 +14,7 @@ use crate::client_state::{ClientState, Exchange};
 use crate::rules::{ClientRules, restarted};
 use dhcp_clock::{DhcpLink, Words};
 use dhcp_history::{BoundLease, Client, StateReport, clean_up, is_listening, next_poll, run};
-use dhcp_wire::{DhcpError, ErrorKind, FixedText};
+use dhcp_wire::{DhcpError, ErrorKind, FixedText, beside};
 use dhcp4_lease::{DhcpV4Config, DhcpV4Lease};
 use std::alloc::Global;
 use std::marker::Model;
@@ -81,7 +81,8 @@ impl DhcpV4Client {
         ensures refused { IfErr result (λ error. error.kind ≡ ErrorKind.InvalidArgument) }
         ensures undrawn { OnErr result (words.new ≡ words.old) }
     {
-        check_start(&config, &lease)?;
+        let begins = check_start(&config, &lease);
+        let ((config, lease), ()) = beside((config, lease), begins)?;
         let exchange = Exchange {
             xid: words.next_word(),
             retry_count: 0,

@@ -1,5 +1,5 @@
 -- A client can begin with the configuration of a valid script.
-use Rattle.std.proofs.Common.{◌≡◌, true, length, List, sym, subst, ◌∙◌, arith}
+use Rattle.std.proofs.Common.{◌≡◌, true, length, List, sym, subst, arith}
 use Rattle.std.specs.Prelude.{◌==◌, ◌&&◌, ◌||◌, nat_le, not, IfErr, Result, Ok, Err}
 use Rattle.std.proofs.lemmas.Bool.{and_from, le-leb}
 use Rattle.dhcp_wire.specs.Error.{ErrorParts, no_memory}
@@ -8,7 +8,7 @@ use Rattle.dhcp6_msg.specs.Lease.{is_duid, is_no_duid, is_unspecified}
 use Rattle.dhcp_script.specs.Script6.{config_of, is_valid}
 use Rattle.dhcp_script.specs.declared.event.Event.{Event}
 use Rattle.dhcp_script.specs.declared.script6.Script6.{Script6}
-use Rattle.dhcp_replay.specs.Life.{CanPlay, IsBoxError, IsRefusal}
+use Rattle.dhcp_replay.specs.Life.{CanPlay, IsRefusal}
 use Rattle.dhcp_replay.proofs.ReplayLemmas.{can_play}
 use Rattle.dhcp_replay.proofs.Valid6Lemmas as valid6
 use Rattle.dhcp_replay.proofs.Valid6Lemmas.{config_named, request_list_few}
@@ -29,13 +29,6 @@ config_begins script config valid same = subst (λ (c : Config). can_begin c ≡
 -- its events can be played
 pub events_play : (script : Script6) (events : List Event) → is_valid script ≡ true → events ≡ script.events → CanPlay events
 events_play script events valid same = subst CanPlay (sym same) (can_play script.start script.events (valid6.parts script valid).events)
-
--- a client in a box has begun, or out of memory
-pub box_error : {X Y : Type 0} (result : Result Y ErrorParts) (made : Result X ErrorParts) → IfErr result (IsBoxError made) → IfErr made (λ error. error ≡ no_memory) →
-    IfErr result (λ error. error ≡ no_memory)
-box_error (Ok y) made box errors = tt
-box_error (Err error) (Ok x) box errors = box
-box_error (Err error) (Err other) box errors = box ∙ errors
 
 -- the error of a valid script
 pub valid_refusal : {X : Type 0} (result : Result X ErrorParts) (script : Script6) → is_valid script ≡ true → IfErr result (λ error. error ≡ no_memory) → IfErr result (IsRefusal (is_valid script))

@@ -7,7 +7,7 @@ ghost use Rattle.dhcp_replay.specs.Life.{IsRefusal};
 ghost use Rattle.dhcp_live.specs.Begin.{Begins4, Begins6, held4, held6};
 
 use crate::{LiveClient, WordQueue};
-use dhcp_replay::{begun4, begun6};
+use dhcp_replay::{begin_script4, begin_script6};
 use dhcp_script::{Script4, Script6};
 use dhcp_wire::{DhcpError, ErrorKind, FixedText};
 use dhcp4_client::DhcpV4Client;
@@ -25,10 +25,7 @@ pub fn begin4(alloc: Global, script: &Script4) -> Result<LiveClient<DhcpV4Client
         return Err(DhcpError::new_fixed(ErrorKind::InvalidArgument, FixedText::Script));
     }
     let mut words = WordQueue::with_words(alloc, script.words.as_slice())?;
-    let lease = script.held_lease(alloc)?;
-    let config = script.config(alloc)?;
-    let events = script.events.as_slice();
-    let client = begun4(alloc, config, lease, &mut words, script.start, events)?;
+    let client = begin_script4(alloc, script, &mut words)?;
     Ok(LiveClient::new(client, words, script.start))
 }
 
@@ -43,9 +40,6 @@ pub fn begin6(alloc: Global, script: &Script6) -> Result<LiveClient<DhcpV6Client
         return Err(DhcpError::new_fixed(ErrorKind::InvalidArgument, FixedText::Script));
     }
     let mut words = WordQueue::with_words(alloc, script.words.as_slice())?;
-    let lease = script.held_lease(alloc)?;
-    let config = script.config(alloc)?;
-    let events = script.events.as_slice();
-    let client = begun6(alloc, config, lease, &mut words, script.start, events)?;
+    let client = begin_script6(alloc, script, &mut words)?;
     Ok(LiveClient::new(client, words, script.start))
 }

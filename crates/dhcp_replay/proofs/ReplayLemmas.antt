@@ -1,6 +1,6 @@
 -- The events of a script by their numbers.
 use Rattle.std.proofs.Common.{Result, Ok, Err, ◌≡◌, ℕ, suc, ◌+◌, ◌<◌, ◌≤◌, ◌^◌, Bool, true, false, List, [], ◌∷◌, ◌++◌, length, take, get_or, refl, subst, sym, ap, ◌∙◌, arith}
-use Rattle.std.specs.Prelude.{◌&&◌, nat_le, nat_lt, All, IfErr, OnOk}
+use Rattle.std.specs.Prelude.{◌&&◌, nat_le, nat_lt, All, IfErr, OnOk, is_ok}
 use Rattle.std.specs.List.{AllPass, list_all}
 use Rattle.std.proofs.Math.Seq.{take-suc}
 use Rattle.std.proofs.lemmas.List.{length-take-le}
@@ -92,6 +92,18 @@ refusal_of_box (Ok x) true error box begins refused errors = box
 refusal_of_box (Ok x) false error box begins refused errors = absurd (false≢true begins)
 refusal_of_box (Err e) true error box begins refused errors = box ∙ errors refl
 refusal_of_box (Err e) false error box begins refused errors = ap (λ (parts : ErrorParts). parts.kind) box ∙ refused refl
+
+-- a client that has begun is no error
+pub error_of_begun : {X : Type 0} (made : Result X ErrorParts) → is_ok made ≡ true → IfErr made (λ error. error ≡ no_memory)
+error_of_begun (Ok x) begun = tt
+error_of_begun (Err error) begun = absurd (false≢true begun)
+
+-- a client that can begin is put into a box, or out of memory
+pub box_error : {X Y : Type 0} (result : Result Y ErrorParts) (made : Result X ErrorParts) → IfErr result (IsBoxError made) → IfErr made (λ error. error ≡ no_memory) →
+    IfErr result (λ error. error ≡ no_memory)
+box_error (Ok y) made box errors = tt
+box_error (Err error) (Ok x) box errors = box
+box_error (Err error) (Err other) box errors = box ∙ errors
 
 -- the same of what the call returns that puts the client into a box, once what it is given is within its limits
 pub boxed_refusal : {X Y : Type 0} (result : Result Y ErrorParts) (made : Result X ErrorParts) (valid can : Bool) → valid ≡ true → IfErr result (IsBoxError made) → OnOk made (can ≡ true) →

@@ -8,6 +8,7 @@ use Rattle.std.proofs.lemmas.Bool.{and_from, and_parts, le-leb, leb-true}
 use Rattle.std.proofs.lemmas.Str.{IsUtf8-from_is_utf8}
 use Rattle.dhcp_wire.specs.Error.{ErrorParts}
 use Rattle.dhcp4_msg.specs.OptionCode.{code_of}
+use Rattle.dhcp4_client.specs.Client.{can_begin}
 use Rattle.dhcp4_lease.specs.Config as configs
 use Rattle.dhcp4_lease.specs.Config.{rising_codes}
 use Rattle.dhcp4_lease.specs.Lease as leases
@@ -34,15 +35,15 @@ order_kept None order = refl
 order_kept (Some lease) order = order
 
 -- the parts of the test of a script
-record ValidParts (script : Script4) : Type 0 where
-  index : not (script.iface_index == 0) ≡ true
-  host : is_host_name script.host ≡ true
-  client : nat_le (length script.client) most_client_bytes ≡ true
-  codes : are_few script.codes ≡ true
-  lease : is_in_order script.lease ≡ true
-  events : are_valid script.start script.events ≡ true
+pub record ValidParts (script : Script4) : Type 0 where
+  pub index : not (script.iface_index == 0) ≡ true
+  pub host : is_host_name script.host ≡ true
+  pub client : nat_le (length script.client) most_client_bytes ≡ true
+  pub codes : are_few script.codes ≡ true
+  pub lease : is_in_order script.lease ≡ true
+  pub events : are_valid script.start script.events ≡ true
 
-parts : (script : Script4) → is_valid script ≡ true → ValidParts script
+pub parts : (script : Script4) → is_valid script ≡ true → ValidParts script
 unfolding is_valid
 parts script valid =
     let lease = and_parts (not (script.iface_index == 0) && is_host_name script.host && nat_le (length script.client) most_client_bytes && are_few script.codes && is_in_order script.lease) (are_valid script.start script.events) valid in
@@ -79,6 +80,13 @@ valid_plays script valid =
     (and_from (not ((config_of script).iface_index == 0) && configs.is_within_limits (config_of script)) (option_map_or leases.are_times_in_order (option_map lease_with script.lease) true)
     (and_from (not ((config_of script).iface_index == 0)) (configs.is_within_limits (config_of script)) (index_kept script all.index) (config_within script all))
     (order_kept script.lease all.lease))
+
+-- and its client can begin
+pub valid_begins : (script : Script4) (config : configs.Config) (lease : Option leases.Lease) → is_valid script ≡ true → config ≡ config_of script → lease ≡ option_map lease_with script.lease → can_begin config lease ≡ true
+valid_begins script config lease valid config_is lease_is =
+    ap (λ (c : configs.Config). can_begin c lease) config_is
+    ∙ ap (λ (l : Option leases.Lease). can_begin (config_of script) l) lease_is
+    ∙ (and_parts (are_valid script.start script.events) (can_begin (config_of script) (option_map lease_with script.lease)) (valid_plays script valid)).1
 
 -- and its replay is refused as the script is
 pub played_refusal : {X : Type 0} (result : Result X ErrorParts) (script : Script4) (config : configs.Config) (lease : Option leases.Lease) (events : List Event) →

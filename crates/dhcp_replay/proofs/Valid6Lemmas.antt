@@ -7,6 +7,7 @@ use Rattle.dhcp_wire.specs.Error.{ErrorParts}
 use Rattle.dhcp6_opt.specs.declared.duid.DhcpV6Duid.{DhcpV6Duid}
 use Rattle.dhcp6_opt.specs.Duid.{written_duid}
 use Rattle.dhcp6_opt.specs.OptionCode.{code_of}
+use Rattle.dhcp6_client.specs.Client.{can_begin}
 use Rattle.dhcp6_msg.specs.Config as configs
 use Rattle.dhcp6_msg.specs.Config.{rising_codes}
 use Rattle.dhcp6_msg.specs.Lease as leases
@@ -144,6 +145,14 @@ valid_plays script valid =
     (and_from (named && configs.is_within_limits config) held
     (and_from named (configs.is_within_limits config) (config_named script all) (config_within script all))
     (lease_within script.lease all.lease))
+
+-- and its client can begin
+pub valid_begins : (script : Script6) (config : configs.Config) (lease : Option leases.Lease) → is_valid script ≡ true → config ≡ config_of script → lease ≡ option_map lease_with script.lease → can_begin config lease ≡ true
+valid_begins script config lease valid config_is lease_is =
+    let held = option_map lease_with script.lease in
+    ap (λ (c : configs.Config). can_begin c lease) config_is
+    ∙ ap (λ (l : Option leases.Lease). can_begin (config_of script) l) lease_is
+    ∙ (and_parts (are_valid script.start script.events && fit_a_script (config_of script) held) (can_begin (config_of script) held) (valid_plays script valid)).1
 
 -- and its replay is refused as the script is
 pub played_refusal : {X : Type 0} (result : Result X ErrorParts) (script : Script6) (config : configs.Config) (lease : Option leases.Lease) (events : List Event) →

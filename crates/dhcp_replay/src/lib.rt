@@ -3,6 +3,7 @@
 //! dhcp_stream, statuses those of dhcp_tool; what most callers need of them is exported here too.
 #![tactic(auto)]
 
+mod begun;
 mod family;
 pub mod laws;
 mod life;
@@ -13,6 +14,7 @@ mod replayed6;
 mod request;
 mod tool;
 
+pub use begun::{begin_script4, begin_script6};
 pub use dhcp_output::{Output, OutputWhat, Reported, print_outputs};
 pub use dhcp_script::{
     Event, EventWhat, Lease4, Lease6, Script, Script4, Script6, read_script, read_script_v1,
@@ -28,6 +30,6 @@ pub use family::{FamilyClient, boxed, play};
 pub use life::{FamilyState, numbered_event, outputs_of};
 pub use printed::print_script;
 pub use replayed::{Replayed, replay};
-pub use replayed4::{Replayed4, begun4, replay4};
-pub use replayed6::{Replayed6, begun6, replay6};
+pub use replayed4::{Replayed4, replay4};
+pub use replayed6::{Replayed6, replay6};
 pub use tool::replay_tool;

@@ -1,15 +1,16 @@
 //! What the lives of all clients share: the events that come to a client, and the
 //! outputs of what it reports.
 
-ghost use Rattle.std.specs.Prelude.{◌≡◌, ◌≤◌, IfOk, length, map};
+ghost use Rattle.std.specs.Prelude.{◌≡◌, ◌≤◌, IfErr, IfOk, is_ok, length, map};
 ghost use Rattle.dhcp_output.specs.Output.{plain_output, plain_report};
+ghost use Rattle.dhcp_script.specs.Event.{are_valid as are_within_limits};
 ghost use Rattle.dhcp_replay.specs.Life as lives;
 
 use dhcp_clock::{Handed, Packet, PacketKind};
 use dhcp_history::{Failure, Input, Report};
 use dhcp_output::{Output, OutputWhat, Reported};
-use dhcp_script::{Event, EventWhat};
-use dhcp_wire::{Bytes, ErrorKind, Sequence};
+use dhcp_script::{Event, EventWhat, are_valid};
+use dhcp_wire::{Bytes, DhcpError, ErrorKind, FixedText, Sequence};
 use dhcp4_client::DhcpV4State;
 use dhcp6_client::DhcpV6State;
 use dhcp6_info::DhcpV6InfoState;
@@ -56,6 +57,18 @@ impl FamilyState for dhcp_history::StateReport<DhcpV6InfoState> {
 
     fn into_reported(self) -> Reported {
         Reported::Info(self.into_state())
+    }
+}
+
+// Whether a start and events are within the limits of a script; the error says that they are not.
+pub(crate) fn check_events(start: u64, events: &[Event]) -> Result<(), DhcpError>
+    ensures within { is_ok result ≡ are_within_limits start events.now }
+    ensures refused { IfErr result (λ error. error.kind ≡ ErrorKind.InvalidArgument) }
+{
+    if are_valid(start, events) {
+        Ok(())
+    } else {
+        Err(DhcpError::new_fixed(ErrorKind::InvalidArgument, FixedText::Script))
     }
 }
 

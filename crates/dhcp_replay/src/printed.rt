@@ -18,7 +18,7 @@ ghost use Rattle.dhcp_replay.specs.Replayed as lives;
 
 use crate::family::FamilyClient;
 use crate::life::{FamilyState, into_numbered, output_of};
-use crate::{begun4, begun6, laws};
+use crate::{begin_script4, begin_script6, laws};
 use dhcp_clock::{Handed, Packet, WordList, Words};
 use dhcp_output::push_output;
 use dhcp_script::{Event, Script, Script4, Script6};
@@ -50,10 +50,7 @@ fn print_script4(alloc: Global, script: &mut Script4, text: &mut String) -> Resu
     ensures error { IfErr result (λ error. error ≡ no_memory) }
 {
     let mut words = WordList::new(script.words.as_slice().to_vec(alloc)?);
-    let lease = script.held_lease(alloc)?;
-    let config = script.config(alloc)?;
-    let events = script.events.as_slice();
-    let mut client = begun4(alloc, config, lease, &mut words, script.start, events)?;
+    let mut client = begin_script4(alloc, script, &mut words)?;
     laws::promises_are_kept(&client);
     dhcp4_client::laws::table_is_lawful();
     let events = mem::replace(&mut script.events, Sequence::new(alloc)).into_vec();
@@ -69,10 +66,7 @@ fn print_script6(alloc: Global, script: &mut Script6, text: &mut String) -> Resu
     ensures error { IfErr result (λ error. error ≡ no_memory) }
 {
     let mut words = WordList::new(script.words.as_slice().to_vec(alloc)?);
-    let lease = script.held_lease(alloc)?;
-    let config = script.config(alloc)?;
-    let events = script.events.as_slice();
-    let mut client = begun6(alloc, config, lease, &mut words, script.start, events)?;
+    let mut client = begin_script6(alloc, script, &mut words)?;
     laws::promises6_are_kept(&client);
     dhcp6_client::laws::table_is_lawful();
     let events = mem::replace(&mut script.events, Sequence::new(alloc)).into_vec();

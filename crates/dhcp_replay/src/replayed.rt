@@ -16,7 +16,7 @@ use crate::{Replayed4, Replayed6, replay4, replay6};
 use dhcp_clock::WordList;
 use dhcp_output::Output;
 use dhcp_script::{Script, Script4, Script6};
-use dhcp_wire::{DhcpError, ErrorKind, FixedText};
+use dhcp_wire::{DhcpError, ErrorKind, FixedText, beside};
 use std::alloc::Global;
 
 /// What happened to the client of a script, and the client at the end.
@@ -77,8 +77,8 @@ fn replay_script4(alloc: Global, script: &Script4) -> Result<Replayed4, DhcpErro
         return Err(DhcpError::new_fixed(ErrorKind::InvalidArgument, FixedText::Script));
     }
     let mut words = WordList::new(script.words.as_slice().to_vec(alloc)?);
-    let lease = script.held_lease(alloc)?;
     let config = script.config(alloc)?;
+    let (config, lease) = beside(config, script.held_lease(alloc))?;
     let events = script.events.as_slice();
     replay4(alloc, config, lease, &mut words, script.start, events)
 }
@@ -97,8 +97,8 @@ fn replay_script6(alloc: Global, script: &Script6) -> Result<Replayed6, DhcpErro
         return Err(DhcpError::new_fixed(ErrorKind::InvalidArgument, FixedText::Script));
     }
     let mut words = WordList::new(script.words.as_slice().to_vec(alloc)?);
-    let lease = script.held_lease(alloc)?;
     let config = script.config(alloc)?;
+    let (config, lease) = beside(config, script.held_lease(alloc))?;
     let events = script.events.as_slice();
     replay6(alloc, config, lease, &mut words, script.start, events)
 }

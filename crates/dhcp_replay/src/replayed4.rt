@@ -9,10 +9,11 @@ ghost use Rattle.dhcp_replay.specs.Replayed4 as lives;
 
 use crate::family::{boxed, play};
 use crate::laws;
+use crate::life::check_events;
 use dhcp_clock::Words;
 use dhcp_output::Output;
-use dhcp_script::{Event, are_valid};
-use dhcp_wire::{DhcpError, ErrorKind, FixedText, Sequence};
+use dhcp_script::Event;
+use dhcp_wire::{DhcpError, Sequence, beside};
 use dhcp4_client::DhcpV4Client;
 use dhcp4_lease::{DhcpV4Config, DhcpV4Lease};
 use std::alloc::Global;
@@ -57,10 +58,8 @@ pub fn replay4<W: Words>(
     Ok(Replayed4 { outputs, client })
 }
 
-/// A client that begins, in a box, if start and events are within the limits of a script.
-/// `InvalidArgument` if and only if they are not, or the client cannot begin so; else out of memory
-/// is the only error.
-pub fn begun4<W: Words>(
+// A client that begins, in a box, if start and events are within the limits of a script.
+fn begun4<W: Words>(
     alloc: Global,
     config: DhcpV4Config,
     lease: Option<DhcpV4Lease>,
@@ -75,8 +74,6 @@ pub fn begun4<W: Words>(
     ensures drawn { IfOk result (λ client. GivesNext (W.left words.old)
         client.value.client.standing.exchange.xid (W.left words.new)) }
 {
-    if !are_valid(start, events) {
-        return Err(DhcpError::new_fixed(ErrorKind::InvalidArgument, FixedText::Script));
-    }
+    let ((config, lease), ()) = beside((config, lease), check_events(start, events))?;
     boxed(alloc, DhcpV4Client::init(alloc, config, lease, words))
 }

@@ -12,10 +12,11 @@ ghost use Rattle.dhcp_replay.specs.Replayed6 as lives;
 
 use crate::family::{boxed, play};
 use crate::laws;
+use crate::life::check_events;
 use dhcp_clock::Words;
 use dhcp_output::Output;
-use dhcp_script::{Event, MAX_CODES_V6, MAX_DUID_LEN, are_valid};
-use dhcp_wire::{DhcpError, ErrorKind, FixedText, Sequence};
+use dhcp_script::{Event, MAX_CODES_V6, MAX_DUID_LEN};
+use dhcp_wire::{DhcpError, ErrorKind, FixedText, Sequence, beside};
 use dhcp6_client::DhcpV6Client;
 use dhcp6_msg::{DhcpV6Config, DhcpV6Lease};
 use dhcp6_opt::DhcpV6Duid;
@@ -65,10 +66,8 @@ pub fn replay6<W: Words>(
     Ok(Replayed6 { outputs, client })
 }
 
-/// A client that begins, in a box, if all that it is given is within the limits of a script.
-/// `InvalidArgument` if and only if it is not, or the client cannot begin so; else out of memory is
-/// the only error.
-pub fn begun6<W: Words>(
+// A client that begins, in a box, if all that it is given is within the limits of a script.
+fn begun6<W: Words>(
     alloc: Global,
     config: DhcpV6Config,
     lease: Option<DhcpV6Lease>,
@@ -83,7 +82,8 @@ pub fn begun6<W: Words>(
     ensures drawn { IfOk result (λ client. GivesDrawn (first_draws config)
         (W.left words.old) (drawn_for client.value) (W.left words.new)) }
 {
-    check_limits(&config, &lease, start, events)?;
+    let within = check_limits(&config, &lease, start, events);
+    let ((config, lease), ()) = beside((config, lease), within)?;
     boxed(
         alloc,
         DhcpV6Client::init(alloc, config, lease, start, words),
@@ -101,9 +101,7 @@ fn check_limits(
         ≡ are_within_limits start events.now && lives.fit_a_script config.now lease.now }
     ensures refused { IfErr result (λ error. error.kind ≡ ErrorKind.InvalidArgument) }
 {
-    if !are_valid(start, events) {
-        return Err(DhcpError::new_fixed(ErrorKind::InvalidArgument, FixedText::Script));
-    }
+    check_events(start, events)?;
     if !fit_a_script(config, lease) {
         return Err(DhcpError::new_fixed(ErrorKind::InvalidArgument, FixedText::Config));
     }

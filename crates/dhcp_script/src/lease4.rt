@@ -13,7 +13,7 @@ use self::reader::read_lease;
 use crate::held::HeldLease;
 use crate::version::Version;
 use dhcp_stream::{ReadError, TextReader};
-use dhcp_wire::{DhcpError, Sequence, Text, copied, copied_list};
+use dhcp_wire::{DhcpError, Sequence, Text, beside, copied, copied_list};
 use dhcp4_lease::DhcpV4Lease;
 use dhcp4_msg::DhcpV4ClasslessRoute;
 use std::alloc::{AllocError, Global};
@@ -71,7 +71,8 @@ impl Lease4 {
     {
         let mut lease = DhcpV4Lease::empty(alloc);
         self.put_numbers(&mut lease);
-        self.put_lists(alloc, &mut lease)?;
+        let put = self.put_lists(alloc, &mut lease);
+        let (lease, ()) = beside(lease, put)?;
         Ok(lease)
     }
 

@@ -14,7 +14,7 @@ use crate::duid::{bytes_of, duid_of, is_script_duid};
 use crate::held::HeldLease;
 use crate::version::Version;
 use dhcp_stream::{ReadError, TextReader};
-use dhcp_wire::{Bytes, DhcpError};
+use dhcp_wire::{Bytes, DhcpError, beside};
 use dhcp6_msg::{DhcpV6IaType, DhcpV6Lease};
 use std::alloc::{AllocError, Global};
 use std::mem;
@@ -81,7 +81,8 @@ impl Lease6 {
     {
         let mut lease = DhcpV6Lease::empty(alloc);
         self.put_numbers(&mut lease);
-        self.put_duids(alloc, &mut lease)?;
+        let put = self.put_duids(alloc, &mut lease);
+        let (lease, ()) = beside(lease, put)?;
         Ok(lease)
     }
 

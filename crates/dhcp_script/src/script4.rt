@@ -14,7 +14,7 @@ ghost use Rattle.dhcp_script.specs.Script4.{config_of, is_valid, request_list};
 
 use crate::codes::are_few;
 use crate::{Event, Lease4, are_valid};
-use dhcp_wire::{Bytes, DhcpError, Sequence};
+use dhcp_wire::{Bytes, DhcpError, Sequence, beside};
 use dhcp4_lease::{DhcpV4Config, DhcpV4Lease, DhcpV4MessageForms};
 use std::alloc::Global;
 
@@ -88,7 +88,8 @@ impl Script4 {
         ensures { Makes (λ config. config) result (config_of self.now) }
     {
         let mut config = DhcpV4Config::new(alloc, "")?;
-        self.put_fields(alloc, &mut config)?;
+        let put = self.put_fields(alloc, &mut config);
+        let (config, ()) = beside(config, put)?;
         Ok(config)
     }
 

@@ -15,7 +15,7 @@ ghost use Rattle.dhcp_script.specs.Script6.{config_of, is_valid};
 use crate::codes::are_few;
 use crate::duid::{duid_of, is_duid_or_none};
 use crate::{Event, Lease6, are_valid};
-use dhcp_wire::{Bytes, DhcpError, Sequence};
+use dhcp_wire::{Bytes, DhcpError, Sequence, beside};
 use dhcp6_msg::{DhcpV6Config, DhcpV6Lease, DhcpV6Mode};
 use std::alloc::Global;
 use std::mem;
@@ -78,7 +78,8 @@ impl Script6 {
         ensures { Makes (λ config. config) result (config_of self.now) }
     {
         let mut config = DhcpV6Config::new(alloc, "", self.mode)?;
-        self.put_fields(alloc, &mut config)?;
+        let put = self.put_fields(alloc, &mut config);
+        let (config, ()) = beside(config, put)?;
         Ok(config)
     }
 

@@ -1,5 +1,5 @@
 -- The error is that of a client that cannot begin, which this one can, or of its box.
-use Rattle.dhcp6_info_play.proofs.ValidLemmas.{box_error}
+use Rattle.dhcp_replay.proofs.ReplayLemmas.{box_error}
 use Rattle.dhcp6_info_play.proofs.replayed.begun.Goals as goal
 
 pub returns-clause-error : goal.returns-clause-error
