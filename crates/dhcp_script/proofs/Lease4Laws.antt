@@ -14,21 +14,16 @@ use Rattle.dhcp4_msg.specs.Message.{no_address}
 use Rattle.dhcp4_msg.specs.declared.route.DhcpV4ClasslessRoute.{DhcpV4ClasslessRoute}
 use Rattle.dhcp_script.specs.Field.{list_text, unless_none}
 use Rattle.dhcp_script.specs.declared.lease4.Lease4.{Lease4}
-use Rattle.dhcp_script.specs.declared.lease4.reader.LeaseAddresses.{LeaseAddresses}
-use Rattle.dhcp_script.specs.declared.lease4.reader.LeaseTimes.{LeaseTimes}
-use Rattle.dhcp_script.specs.declared.lease4.reader.LeaseLink.{LeaseLink}
-use Rattle.dhcp_script.specs.declared.lease4.reader.LeaseServers.{LeaseServers}
-use Rattle.dhcp_script.specs.declared.lease4.reader.LeaseNames.{LeaseNames}
 use Rattle.dhcp_script.specs.declared.lease4.reader.Version2Fields.{Version2Fields}
 use Rattle.dhcp_script.specs.declared.version.Version.{Version}
 use Rattle.dhcp_script.specs.declared.version.Version.TheVariants.{One, Later}
-use Rattle.dhcp_script.specs.Lease4Reader.{addresses_at, addresses_of, lease4_at, lease4_of, link_at, link_of, names_at, names_of, no_version2_fields, servers_at, servers_of, times_at, times_of, version2_fields_at, version2_fields_of}
-use Rattle.dhcp_script.specs.FieldReader.{held_at, list_in, route_in, route_of, word_or}
+use Rattle.dhcp_script.specs.Lease4Reader.{lease4_at, lease4_of, link_at, names_at, no_version2_fields, servers_at, version2_fields_at, version2_fields_of}
+use Rattle.dhcp_script.specs.FieldReader.{held_at, list_in, route_in, route_of, three_at, u32_in, word_or}
 use Rattle.dhcp_script.specs.Lease4.{HasLeaseText, IsLease4, IsRoute, addresses_text, first_alone, lease_text, route_text, versioned_lease_text}
 use Rattle.dhcp_script.specs.Version.{end_of_times}
 use Rattle.dhcp_script.proofs.Clear.{HasNo-address, HasNo-decimal, HasNo-hex, HasNo-list, HasNo-number, HasNo-route, other_word}
 use Rattle.dhcp_script.proofs.HeldLaws.{BeginsOtherwise, IsCodec-held}
-use Rattle.dhcp_script.proofs.ValueLaws.{IsValue-list, IsValue-made_of, IsValue-then, end_of_times-below, optional, u32_field}
+use Rattle.dhcp_script.proofs.ValueLaws.{IsCodec-triple, IsValue-list, IsValue-made_of, IsValue-then, end_of_times-below, optional, u32_field}
 
 -- ---- a route
 
@@ -91,83 +86,72 @@ routes_field =
 
 -- ---- the lease
 
-addresses_parts : LeaseAddresses → Ipv4Addr × (Ipv4Addr × Ipv4Addr)
-addresses_parts x = (x.yiaddr, (x.siaddr, x.srv_id))
+addresses_print : Ipv4Addr × Ipv4Addr × Ipv4Addr → List ℕ
+addresses_print x = (address_text x.0 ++ 32 ∷ []) ++ ((address_text x.1 ++ 32 ∷ []) ++ (address_text x.2 ++ 32 ∷ []))
 
-addresses_print : LeaseAddresses → List ℕ
-addresses_print x = (address_text x.yiaddr ++ 32 ∷ []) ++ ((address_text x.siaddr ++ 32 ∷ []) ++ (address_text x.srv_id ++ 32 ∷ []))
+AddressesFit : Ipv4Addr × Ipv4Addr × Ipv4Addr → Type 0
+AddressesFit x = IsIpv4Addr x.0 × (IsIpv4Addr x.1 × IsIpv4Addr x.2)
 
-AddressesFit : LeaseAddresses → Type 0
-AddressesFit x = IsIpv4Addr x.yiaddr × (IsIpv4Addr x.siaddr × IsIpv4Addr x.srv_id)
+codec_addresses : IsCodec addresses_print AddressesFit (three_at address_in address_in address_in 32)
+unfolding three_at addresses_print AddressesFit
+codec_addresses = IsCodec-triple address_field address_field address_field
 
-codec_addresses : IsCodec addresses_print AddressesFit addresses_at
-unfolding addresses_at addresses_parts addresses_print AddressesFit
-codec_addresses = IsCodec-made_of (IsCodec-both address_field (IsCodec-both address_field address_field)) addresses_of addresses_parts (λ x. refl) (λ y. refl)
+times_print : Version → ℕ × ℕ × ℕ → List ℕ
+times_print version x = (decimal x.0 ++ 32 ∷ []) ++ ((decimal x.1 ++ 32 ∷ []) ++ (decimal x.2 ++ end_of_times version ∷ []))
 
-times_parts : LeaseTimes → ℕ × (ℕ × ℕ)
-times_parts x = (x.t1_sec, (x.t2_sec, x.lease_time_sec))
+TimesFit : ℕ × ℕ × ℕ → Type 0
+TimesFit x = (x.0 ≤ 4294967295) × ((x.1 ≤ 4294967295) × (x.2 ≤ 4294967295))
 
-times_print : Version → LeaseTimes → List ℕ
-times_print version x = (decimal x.t1_sec ++ 32 ∷ []) ++ ((decimal x.t2_sec ++ 32 ∷ []) ++ (decimal x.lease_time_sec ++ end_of_times version ∷ []))
-
-TimesFit : LeaseTimes → Type 0
-TimesFit x = (x.t1_sec ≤ 4294967295) × ((x.t2_sec ≤ 4294967295) × (x.lease_time_sec ≤ 4294967295))
-
-codec_times : (version : Version) → IsCodec (times_print version) TimesFit (times_at version)
-unfolding times_at times_parts times_print TimesFit
+codec_times : (version : Version) → IsCodec (times_print version) TimesFit (three_at u32_in u32_in u32_in (end_of_times version))
+unfolding three_at times_print TimesFit
 codec_times version =
     let spaced = u32_field 32 (omega arith) in
-    IsCodec-made_of (IsCodec-both spaced (IsCodec-both spaced (u32_field (end_of_times version) (end_of_times-below version)))) times_of times_parts (λ x. refl) (λ y. refl)
+    IsCodec-triple spaced spaced (u32_field (end_of_times version) (end_of_times-below version))
 
-link_parts : LeaseLink → Ipv4Addr × (Option Ipv4Addr × Option ℕ)
-link_parts x = (x.subnet_mask, (x.broadcast_addr, x.mtu))
+link_print : Ipv4Addr × Option Ipv4Addr × Option ℕ → List ℕ
+link_print x = (address_text x.0 ++ 32 ∷ []) ++ ((unless_none address_text x.1 ++ 32 ∷ []) ++ (unless_none decimal x.2 ++ 32 ∷ []))
 
-link_print : LeaseLink → List ℕ
-link_print x = (address_text x.subnet_mask ++ 32 ∷ []) ++ ((unless_none address_text x.broadcast_addr ++ 32 ∷ []) ++ (unless_none decimal x.mtu ++ 32 ∷ []))
-
-LinkFits : LeaseLink → Type 0
-LinkFits x = IsIpv4Addr x.subnet_mask × (IfSome x.broadcast_addr IsIpv4Addr × IfSome x.mtu (λ n. n ≤ 65535))
+LinkFits : Ipv4Addr × Option Ipv4Addr × Option ℕ → Type 0
+LinkFits x = IsIpv4Addr x.0 × (IfSome x.1 IsIpv4Addr × IfSome x.2 (λ n. n ≤ 65535))
 
 codec_link : IsCodec link_print LinkFits link_at
-unfolding link_at link_parts link_print LinkFits
-codec_link = IsCodec-made_of (IsCodec-both address_field (IsCodec-both broadcast_field mtu_field)) link_of link_parts (λ x. refl) (λ y. refl)
+unfolding three_at link_print LinkFits
+codec_link = IsCodec-triple address_field broadcast_field mtu_field
 
-servers_parts : LeaseServers → Option (List Ipv4Addr) × (Option (List Ipv4Addr) × Option (List Ipv4Addr))
-servers_parts x = (x.dns_srvs, (x.gateways, x.ntp_srvs))
+servers_print : Option (List Ipv4Addr) × Option (List Ipv4Addr) × Option (List Ipv4Addr) → List ℕ
+servers_print x = (unless_none addresses_text x.0 ++ 32 ∷ []) ++ ((unless_none addresses_text x.1 ++ 32 ∷ []) ++ (unless_none addresses_text x.2 ++ 32 ∷ []))
 
-servers_print : LeaseServers → List ℕ
-servers_print x = (unless_none addresses_text x.dns_srvs ++ 32 ∷ []) ++ ((unless_none addresses_text x.gateways ++ 32 ∷ []) ++ (unless_none addresses_text x.ntp_srvs ++ 32 ∷ []))
-
-ServersFit : LeaseServers → Type 0
-ServersFit x = IfSome x.dns_srvs (All IsIpv4Addr) × (IfSome x.gateways (All IsIpv4Addr) × IfSome x.ntp_srvs (All IsIpv4Addr))
+ServersFit : Option (List Ipv4Addr) × Option (List Ipv4Addr) × Option (List Ipv4Addr) → Type 0
+ServersFit x = IfSome x.0 (All IsIpv4Addr) × (IfSome x.1 (All IsIpv4Addr) × IfSome x.2 (All IsIpv4Addr))
 
 codec_servers : IsCodec servers_print ServersFit servers_at
-unfolding servers_at servers_parts servers_print ServersFit
-codec_servers = IsCodec-made_of (IsCodec-both servers_field (IsCodec-both servers_field servers_field)) servers_of servers_parts (λ x. refl) (λ y. refl)
+unfolding three_at servers_print ServersFit
+codec_servers = IsCodec-triple servers_field servers_field servers_field
 
-names_parts : LeaseNames → Option (List ℕ) × (Option (List ℕ) × Option (List DhcpV4ClasslessRoute))
-names_parts x = (x.host_name, (x.domain_name, x.classless_routes))
+names_print : Option (List ℕ) × Option (List ℕ) × Option (List DhcpV4ClasslessRoute) → List ℕ
+names_print x = (unless_none hex_text x.0 ++ 32 ∷ []) ++ ((unless_none hex_text x.1 ++ 32 ∷ []) ++ (unless_none (list_text route_text) x.2 ++ 10 ∷ []))
 
-names_print : LeaseNames → List ℕ
-names_print x = (unless_none hex_text x.host_name ++ 32 ∷ []) ++ ((unless_none hex_text x.domain_name ++ 32 ∷ []) ++ (unless_none (list_text route_text) x.classless_routes ++ 10 ∷ []))
-
-NamesFit : LeaseNames → Type 0
-NamesFit x = IfSome x.host_name IsText × (IfSome x.domain_name IsText × IfSome x.classless_routes (All IsRoute))
+NamesFit : Option (List ℕ) × Option (List ℕ) × Option (List DhcpV4ClasslessRoute) → Type 0
+NamesFit x = IfSome x.0 IsText × (IfSome x.1 IsText × IfSome x.2 (All IsRoute))
 
 codec_names : IsCodec names_print NamesFit names_at
-unfolding names_at names_parts names_print NamesFit
-codec_names = IsCodec-made_of (IsCodec-both name_field (IsCodec-both name_field routes_field)) names_of names_parts (λ x. refl) (λ y. refl)
+unfolding three_at names_print NamesFit
+codec_names = IsCodec-triple name_field name_field routes_field
 
-version2_parts : Version2Fields → LeaseLink × (LeaseServers × LeaseNames)
-version2_parts x = (x.link, (x.servers, x.names))
+version2_parts : Version2Fields → (Ipv4Addr × Option Ipv4Addr × Option ℕ)
+    × ((Option (List Ipv4Addr) × Option (List Ipv4Addr) × Option (List Ipv4Addr)) × (Option (List ℕ) × Option (List ℕ) × Option (List DhcpV4ClasslessRoute)))
+version2_parts x = (
+  (x.subnet_mask, x.broadcast_addr, x.mtu),
+  ((x.dns_srvs, x.gateways, x.ntp_srvs), (x.host_name, x.domain_name, x.classless_routes)),
+)
 
 version2_print : Version → Version2Fields → List ℕ
 version2_print One x = []
-version2_print Later x = link_print x.link ++ (servers_print x.servers ++ names_print x.names)
+version2_print Later x = link_print (version2_parts x).0 ++ (servers_print (version2_parts x).1.0 ++ names_print (version2_parts x).1.1)
 
 Version2Fits : Version → Version2Fields → Type 0
 Version2Fits One x = x ≡ no_version2_fields
-Version2Fits Later x = LinkFits x.link × (ServersFit x.servers × NamesFit x.names)
+Version2Fits Later x = LinkFits (version2_parts x).0 × (ServersFit (version2_parts x).1.0 × NamesFit (version2_parts x).1.1)
 
 codec_version2 : (version : Version) → IsCodec (version2_print version) (Version2Fits version) (version2_fields_at version)
 unfolding version2_fields_at version2_parts version2_print Version2Fits
@@ -180,15 +164,21 @@ codec_version2 Later = IsCodec-made_of (IsCodec-both codec_link (IsCodec-both co
 -- what a lease has of them
 version2_in : Lease4 → Version2Fields
 version2_in lease = record {
-  link = record { subnet_mask = lease.subnet_mask; broadcast_addr = lease.broadcast_addr; mtu = lease.mtu };
-  servers = record { dns_srvs = lease.dns_srvs; gateways = lease.gateways; ntp_srvs = lease.ntp_srvs };
-  names = record { host_name = lease.host_name; domain_name = lease.domain_name; classless_routes = lease.classless_routes };
+  subnet_mask = lease.subnet_mask;
+  broadcast_addr = lease.broadcast_addr;
+  mtu = lease.mtu;
+  dns_srvs = lease.dns_srvs;
+  gateways = lease.gateways;
+  ntp_srvs = lease.ntp_srvs;
+  host_name = lease.host_name;
+  domain_name = lease.domain_name;
+  classless_routes = lease.classless_routes;
 }
 
-lease_parts : Lease4 → LeaseAddresses × (LeaseTimes × Version2Fields)
+lease_parts : Lease4 → (Ipv4Addr × Ipv4Addr × Ipv4Addr) × ((ℕ × ℕ × ℕ) × Version2Fields)
 lease_parts lease = (
-  record { yiaddr = lease.yiaddr; siaddr = lease.siaddr; srv_id = lease.srv_id },
-  (record { t1_sec = lease.t1_sec; t2_sec = lease.t2_sec; lease_time_sec = lease.lease_time_sec }, version2_in lease),
+  (lease.yiaddr, lease.siaddr, lease.srv_id),
+  ((lease.t1_sec, lease.t2_sec, lease.lease_time_sec), version2_in lease),
 )
 
 -- an MTU of 16 bits, either way
@@ -206,7 +196,7 @@ lease_line version lease =
     addresses_print (lease_parts lease).0 ++ (times_print version (lease_parts lease).1.0 ++ version2_print version (version2_in lease))
 
 lease_line-is : (version : Version) (lease : Lease4) → lease_line version lease ≡ versioned_lease_text version lease ++ 10 ∷ []
-unfolding lease_line lease_text lease_parts version2_in addresses_print times_print version2_print link_print servers_print names_print
+unfolding lease_line lease_text lease_parts version2_in version2_parts addresses_print times_print version2_print link_print servers_print names_print
 lease_line-is One lease = simp append_assoc
 lease_line-is Later lease = simp append_assoc
 
@@ -255,7 +245,7 @@ PartsFit : Version → Lease4 → Type 0
 PartsFit version lease = AddressesFit (lease_parts lease).0 × (TimesFit (lease_parts lease).1.0 × Version2Fits version (version2_in lease))
 
 fits_to : (version : Version) (lease : Lease4) → PartsFit version lease → HasLeaseText version lease
-unfolding PartsFit FirstFits Version2Fits lease_parts version2_in AddressesFit TimesFit LinkFits ServersFit NamesFit empty_lease
+unfolding PartsFit FirstFits Version2Fits lease_parts version2_in version2_parts AddressesFit TimesFit LinkFits ServersFit NamesFit empty_lease
 fits_to One lease fits =
     let same : lease ≡ first_alone lease = ap (λ (fields : Version2Fields). lease4_of ((lease_parts lease).0, ((lease_parts lease).1.0, fields))) fits.1.1 in
     (subst (λ (l : Lease4). IsLease4 l) (sym same) (first_alone-fits lease (fits.0, fits.1.0)), same)
@@ -278,7 +268,7 @@ fits_to Later lease fits = record {
 }
 
 fits_from : (version : Version) (lease : Lease4) → HasLeaseText version lease → PartsFit version lease
-unfolding PartsFit FirstFits Version2Fits version2_in LinkFits ServersFit NamesFit empty_lease
+unfolding PartsFit FirstFits Version2Fits version2_in version2_parts LinkFits ServersFit NamesFit empty_lease
 fits_from One lease fits = let first = first_from lease fits.0 in (first.0, (first.1, ap version2_in fits.1))
 fits_from Later lease fits =
     let first = first_from lease fits in (

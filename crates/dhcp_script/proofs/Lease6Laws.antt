@@ -19,18 +19,16 @@ use Rattle.dhcp6_msg.specs.declared.mode.DhcpV6IaType.{DhcpV6IaType}
 use Rattle.dhcp6_msg.specs.declared.mode.DhcpV6IaType.TheVariants.{NonTemporaryAddresses, TemporaryAddresses, PrefixDelegation}
 use Rattle.dhcp_script.specs.Field.{unless_none}
 use Rattle.dhcp_script.specs.declared.lease6.Lease6.{Lease6}
-use Rattle.dhcp_script.specs.declared.lease6.reader.LeaseAssociation.{LeaseAssociation}
-use Rattle.dhcp_script.specs.declared.lease6.reader.LeaseTimes.{LeaseTimes}
 use Rattle.dhcp_script.specs.declared.lease6.reader.Version2Fields.{Version2Fields}
 use Rattle.dhcp_script.specs.declared.version.Version.{Version}
 use Rattle.dhcp_script.specs.declared.version.Version.TheVariants.{One, Later}
-use Rattle.dhcp_script.specs.FieldReader.{held_at}
+use Rattle.dhcp_script.specs.FieldReader.{held_at, three_at}
 use Rattle.dhcp_script.specs.Lease6.{HasLeaseText, IsLease6, first_alone, ia_type_text, lease_text, versioned_lease_text}
-use Rattle.dhcp_script.specs.Lease6Reader.{association_at, association_of, ia_type_in, lease6_at, lease6_of, no_version2_fields, times_at, times_of, version2_fields_at, version2_fields_of}
+use Rattle.dhcp_script.specs.Lease6Reader.{association_at, ia_type_in, lease6_at, lease6_of, no_version2_fields, server_at, times_at, version2_fields_at, version2_fields_of}
 use Rattle.dhcp_script.specs.Version.{end_of_times}
 use Rattle.dhcp_script.proofs.Clear.{HasNo-decimal, HasNo-encode_lower, HasNo-hex_text}
 use Rattle.dhcp_script.proofs.HeldLaws.{BeginsOtherwise, IsCodec-held}
-use Rattle.dhcp_script.proofs.ValueLaws.{end_of_times-below, u32_field}
+use Rattle.dhcp_script.proofs.ValueLaws.{IsCodec-triple, end_of_times-below, u32_field}
 
 -- ---- the type of an association
 
@@ -87,37 +85,38 @@ hex_field = IsCodec-in_field IsValue-hex 32 (λ bytes fits. HasNo-hex_text 32 by
 
 -- ---- the lease
 
-association_parts : LeaseAssociation → DhcpV6IaType × (ℕ × (Ipv6Addr × (ℕ × List ℕ)))
-association_parts x = (x.ia_type, (x.iaid, (x.address, (x.prefix_len, x.srv_duid))))
+association_print : DhcpV6IaType × ℕ × Ipv6Addr → List ℕ
+association_print x = (ia_type_text x.0 ++ 32 ∷ []) ++ ((decimal x.1 ++ 32 ∷ []) ++ (address6_text x.2 ++ 32 ∷ []))
 
-association_print : LeaseAssociation → List ℕ
-association_print x =
-    (ia_type_text x.ia_type ++ 32 ∷ []) ++ ((decimal x.iaid ++ 32 ∷ []) ++ ((address6_text x.address ++ 32 ∷ []) ++ ((decimal x.prefix_len ++ 32 ∷ []) ++ (hex_text x.srv_duid ++ 32 ∷ []))))
-
-AssociationFits : LeaseAssociation → Type 0
-AssociationFits x = Unit {0} × ((x.iaid ≤ 4294967295) × (IsIpv6Addr x.address × ((x.prefix_len ≤ 255) × IsBytes x.srv_duid)))
+AssociationFits : DhcpV6IaType × ℕ × Ipv6Addr → Type 0
+AssociationFits x = Unit {0} × ((x.1 ≤ 4294967295) × IsIpv6Addr x.2)
 
 codec_association : IsCodec association_print AssociationFits association_at
-unfolding association_at association_parts association_print AssociationFits
-codec_association =
-    IsCodec-made_of (IsCodec-both ia_type_field (IsCodec-both (u32_field 32 (omega arith)) (IsCodec-both (address6_field 32 (omega arith)) (IsCodec-both byte_field hex_field))))
-    association_of association_parts (λ x. refl) (λ y. refl)
+unfolding three_at association_print AssociationFits
+codec_association = IsCodec-triple ia_type_field (u32_field 32 (omega arith)) (address6_field 32 (omega arith))
 
-times_parts : LeaseTimes → ℕ × (ℕ × (ℕ × ℕ))
-times_parts x = (x.t1_sec, (x.t2_sec, (x.preferred_time_sec, x.valid_time_sec)))
+server_print : ℕ × List ℕ → List ℕ
+server_print x = (decimal x.0 ++ 32 ∷ []) ++ (hex_text x.1 ++ 32 ∷ [])
 
-times_print : Version → LeaseTimes → List ℕ
+ServerFits : ℕ × List ℕ → Type 0
+ServerFits x = (x.0 ≤ 255) × IsBytes x.1
+
+codec_server : IsCodec server_print ServerFits server_at
+unfolding server_print ServerFits
+codec_server = IsCodec-both byte_field hex_field
+
+times_print : Version → (ℕ × ℕ × ℕ) × ℕ → List ℕ
 times_print version x =
-    (decimal x.t1_sec ++ 32 ∷ []) ++ ((decimal x.t2_sec ++ 32 ∷ []) ++ ((decimal x.preferred_time_sec ++ 32 ∷ []) ++ (decimal x.valid_time_sec ++ end_of_times version ∷ [])))
+    ((decimal x.0.0 ++ 32 ∷ []) ++ ((decimal x.0.1 ++ 32 ∷ []) ++ (decimal x.0.2 ++ 32 ∷ []))) ++ (decimal x.1 ++ end_of_times version ∷ [])
 
-TimesFit : LeaseTimes → Type 0
-TimesFit x = (x.t1_sec ≤ 4294967295) × ((x.t2_sec ≤ 4294967295) × ((x.preferred_time_sec ≤ 4294967295) × (x.valid_time_sec ≤ 4294967295)))
+TimesFit : (ℕ × ℕ × ℕ) × ℕ → Type 0
+TimesFit x = ((x.0.0 ≤ 4294967295) × ((x.0.1 ≤ 4294967295) × (x.0.2 ≤ 4294967295))) × (x.1 ≤ 4294967295)
 
 codec_times : (version : Version) → IsCodec (times_print version) TimesFit (times_at version)
-unfolding times_at times_parts times_print TimesFit
+unfolding three_at times_print TimesFit
 codec_times version =
     let spaced = u32_field 32 (omega arith) in
-    IsCodec-made_of (IsCodec-both spaced (IsCodec-both spaced (IsCodec-both spaced (u32_field (end_of_times version) (end_of_times-below version))))) times_of times_parts (λ x. refl) (λ y. refl)
+    IsCodec-both (IsCodec-triple spaced spaced spaced) (u32_field (end_of_times version) (end_of_times-below version))
 
 version2_parts : Version2Fields → ℕ × (List ℕ × Ipv6Addr)
 version2_parts x = (x.xid, (x.cli_duid, x.srv_ip))
@@ -142,19 +141,23 @@ codec_version2 Later = IsCodec-made_of (IsCodec-both (u32_field 32 (omega arith)
 version2_in : Lease6 → Version2Fields
 version2_in lease = record { xid = lease.xid; cli_duid = lease.cli_duid; srv_ip = lease.srv_ip }
 
-lease_parts : Lease6 → LeaseAssociation × (LeaseTimes × Version2Fields)
+lease_parts : Lease6 → (DhcpV6IaType × ℕ × Ipv6Addr) × ((ℕ × List ℕ) × (((ℕ × ℕ × ℕ) × ℕ) × Version2Fields))
 lease_parts lease = (
-  record { ia_type = lease.ia_type; iaid = lease.iaid; address = lease.address; prefix_len = lease.prefix_len; srv_duid = lease.srv_duid },
-  (record { t1_sec = lease.t1_sec; t2_sec = lease.t2_sec; preferred_time_sec = lease.preferred_time_sec; valid_time_sec = lease.valid_time_sec }, version2_in lease),
+  (lease.ia_type, lease.iaid, lease.address),
+  (
+    (lease.prefix_len, lease.srv_duid),
+    (((lease.t1_sec, lease.t2_sec, lease.preferred_time_sec), lease.valid_time_sec), version2_in lease),
+  ),
 )
 
 -- the line of a lease, by its parts
 lease_line : (version : Version) (lease : Lease6) → List ℕ
 lease_line version lease =
-    association_print (lease_parts lease).0 ++ (times_print version (lease_parts lease).1.0 ++ version2_print version (version2_in lease))
+    association_print (lease_parts lease).0
+    ++ (server_print (lease_parts lease).1.0 ++ (times_print version (lease_parts lease).1.1.0 ++ version2_print version (version2_in lease)))
 
 lease_line-is : (version : Version) (lease : Lease6) → lease_line version lease ≡ versioned_lease_text version lease ++ 10 ∷ []
-unfolding lease_line lease_text lease_parts version2_in association_print times_print version2_print
+unfolding lease_line lease_text lease_parts version2_in association_print server_print times_print version2_print
 lease_line-is One lease = simp append_assoc
 lease_line-is Later lease = simp append_assoc
 
@@ -177,57 +180,66 @@ unspecified-fits = (refl, zero_segment)
 none-fits : IsBytes []
 none-fits i = omega arith
 
+FirstFits : Lease6 → Type 0
+FirstFits lease = AssociationFits (lease_parts lease).0 × (ServerFits (lease_parts lease).1.0 × TimesFit (lease_parts lease).1.1.0)
+
 PartsFit : Version → Lease6 → Type 0
-PartsFit version lease = AssociationFits (lease_parts lease).0 × (TimesFit (lease_parts lease).1.0 × Version2Fits version (version2_in lease))
+PartsFit version lease =
+    AssociationFits (lease_parts lease).0
+    × (ServerFits (lease_parts lease).1.0 × (TimesFit (lease_parts lease).1.1.0 × Version2Fits version (version2_in lease)))
 
 -- a lease whose last fields fit too
-made_fit : (lease : Lease6) → AssociationFits (lease_parts lease).0 → TimesFit (lease_parts lease).1.0 → lease.xid < 2 ^ 32 → IsBytes lease.cli_duid → IsIpv6Addr lease.srv_ip
-    → IsLease6 lease
-unfolding lease_parts AssociationFits TimesFit
-made_fit lease association times xid cli_duid srv_ip = record {
-  iaid = (let small = association.1.0 in omega arith);
-  address = association.1.1.0;
-  prefix_len = (let small = association.1.1.1.0 in omega arith);
-  srv_duid = association.1.1.1.1;
-  t1_sec = (let small = times.0 in omega arith);
-  t2_sec = (let small = times.1.0 in omega arith);
-  preferred_time_sec = (let small = times.1.1.0 in omega arith);
-  valid_time_sec = (let small = times.1.1.1 in omega arith);
+made_fit : (lease : Lease6) → FirstFits lease → lease.xid < 2 ^ 32 → IsBytes lease.cli_duid → IsIpv6Addr lease.srv_ip → IsLease6 lease
+unfolding FirstFits lease_parts AssociationFits ServerFits TimesFit
+made_fit lease first xid cli_duid srv_ip = record {
+  iaid = (let small = first.0.1.0 in omega arith);
+  address = first.0.1.1;
+  prefix_len = (let small = first.1.0.0 in omega arith);
+  srv_duid = first.1.0.1;
+  t1_sec = (let small = first.1.1.0.0 in omega arith);
+  t2_sec = (let small = first.1.1.0.1.0 in omega arith);
+  preferred_time_sec = (let small = first.1.1.0.1.1 in omega arith);
+  valid_time_sec = (let small = first.1.1.1 in omega arith);
   xid = xid;
   cli_duid = cli_duid;
   srv_ip = srv_ip;
 }
 
 fits_to : (version : Version) (lease : Lease6) → PartsFit version lease → HasLeaseText version lease
-unfolding PartsFit Version2Fits lease_parts version2_in empty_lease written_duid
+unfolding PartsFit FirstFits Version2Fits lease_parts version2_in empty_lease written_duid
 fits_to One lease fits =
-    let same : lease ≡ first_alone lease = ap (λ (fields : Version2Fields). lease6_of ((lease_parts lease).0, ((lease_parts lease).1.0, fields))) fits.1.1 in
-    (subst (λ (l : Lease6). IsLease6 l) (sym same) (made_fit (first_alone lease) fits.0 fits.1.0 (omega arith) none-fits unspecified-fits), same)
-fits_to Later lease fits = made_fit lease fits.0 fits.1.0 (let small = fits.1.1.0 in omega arith) fits.1.1.1.0 fits.1.1.1.1
-
-FirstFits : Lease6 → Type 0
-FirstFits lease = AssociationFits (lease_parts lease).0 × TimesFit (lease_parts lease).1.0
+    let same : lease ≡ first_alone lease = ap (λ (fields : Version2Fields). lease6_of ((lease_parts lease).0, ((lease_parts lease).1.0, ((lease_parts lease).1.1.0, fields)))) fits.1.1.1 in
+    (subst (λ (l : Lease6). IsLease6 l) (sym same) (made_fit (first_alone lease) (fits.0, (fits.1.0, fits.1.1.0)) (omega arith) none-fits unspecified-fits), same)
+fits_to Later lease fits =
+    made_fit lease (fits.0, (fits.1.0, fits.1.1.0)) (let small = fits.1.1.1.0 in omega arith) fits.1.1.1.1.0 fits.1.1.1.1.1
 
 first_from : (lease : Lease6) → IsLease6 lease → FirstFits lease
-unfolding FirstFits lease_parts AssociationFits TimesFit
+unfolding FirstFits lease_parts AssociationFits ServerFits TimesFit
 first_from lease fits = (
-  (tt, ((let small = fits.iaid in omega arith), (fits.address, ((let small = fits.prefix_len in omega arith), fits.srv_duid)))),
+  (tt, ((let small = fits.iaid in omega arith), fits.address)),
   (
-    (let small = fits.t1_sec in omega arith),
-    ((let small = fits.t2_sec in omega arith), ((let small = fits.preferred_time_sec in omega arith), (let small = fits.valid_time_sec in omega arith))),
+    ((let small = fits.prefix_len in omega arith), fits.srv_duid),
+    (
+      ((let small = fits.t1_sec in omega arith), ((let small = fits.t2_sec in omega arith), (let small = fits.preferred_time_sec in omega arith))),
+      (let small = fits.valid_time_sec in omega arith),
+    ),
   ),
 )
 
 fits_from : (version : Version) (lease : Lease6) → HasLeaseText version lease → PartsFit version lease
 unfolding PartsFit FirstFits Version2Fits version2_in empty_lease written_duid
-fits_from One lease fits = let first = first_from lease fits.0 in (first.0, (first.1, ap version2_in fits.1))
-fits_from Later lease fits = let first = first_from lease fits in (first.0, (first.1, ((let small = fits.xid in omega arith), (fits.cli_duid, fits.srv_ip))))
+fits_from One lease fits =
+    let first = first_from lease fits.0 in (first.0, (first.1.0, (first.1.1, ap version2_in fits.1)))
+fits_from Later lease fits =
+    let first = first_from lease fits in
+    (first.0, (first.1.0, (first.1.1, ((let small = fits.xid in omega arith), (fits.cli_duid, fits.srv_ip)))))
 
 -- the line of a lease
 pub IsCodec-lease : (version : Version) → IsCodec (λ lease. versioned_lease_text version lease ++ 10 ∷ []) (HasLeaseText version) (lease6_at version)
 unfolding lease6_at lease_parts version2_in lease_line PartsFit
 IsCodec-lease version =
-    IsCodec-as (IsCodec-made_of (IsCodec-both codec_association (IsCodec-both (codec_times version) (codec_version2 version))) lease6_of lease_parts (λ x. refl) (λ y. refl))
+    IsCodec-as
+    (IsCodec-made_of (IsCodec-both codec_association (IsCodec-both codec_server (IsCodec-both (codec_times version) (codec_version2 version)))) lease6_of lease_parts (λ x. refl) (λ y. refl))
     (lease_line-is version) (fits_to version) (fits_from version)
 
 -- the text of a lease begins with the type of its association

@@ -1,5 +1,5 @@
 -- A line that a program is told is read in one way alone.
-use Rattle.std.proofs.Common.{◌≡◌, ℕ, List, ◌∷◌, ◌++◌, Some, None, refl, ap, ◌∙◌}
+use Rattle.std.proofs.Common.{◌≡◌, ℕ, List, ◌++◌, Some, None, refl, ap, ◌∙◌}
 use Rattle.std.specs.Prelude.{codes}
 use Rattle.dhcp_wire.specs.Field.{Read}
 use Rattle.dhcp_stream.specs.TextReader.{in_field, made_of, tag_at, words_in}

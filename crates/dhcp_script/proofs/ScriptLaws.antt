@@ -1,6 +1,5 @@
 -- A script of either family is read in one way alone.
-use Rattle.std.proofs.Common.{◌≡◌, ◌⊎◌, inl, inr, ℕ, ◌≤◌, eqb, Bool, true, false, cond, List, [], ◌∷◌, ◌++◌, length, get_or, Option, Some, None, refl, sym, ap, ◌∙◌, append-nil, arith}
-use Rattle.std.proofs.lemmas.Bool.{eqb-true}
+use Rattle.std.proofs.Common.{◌≡◌, ◌⊎◌, inl, inr, ℕ, ◌≤◌, List, ◌++◌, get_or, Option, Some, None, refl, sym, ap, arith}
 use Rattle.dhcp_stream.specs.TextReader.{after_tag, tag_at}
 use Rattle.dhcp_stream.proofs.CodecLaws.{IsCodec, IsValue, tag_at-none}
 use Rattle.dhcp_stream.proofs.PartialCodecs.{IsValue-whole, none-found, one-found}

@@ -8,13 +8,13 @@ use Rattle.std.proofs.lemmas.Slice.Eq.{bytes_eq-Decides}
 use Rattle.std.proofs.lemmas.List.Elements.{All-cons, All-nil, All-head, All-tail}
 use Rattle.std.proofs.lemmas.List.Splits.{slice_split_at, slice_split_none, join_with_byte-slice_split, length-slice_split}
 use Rattle.dhcp_wire.specs.Field.{Read, ◌>>=◌}
-use Rattle.dhcp_stream.specs.TextReader.{in_field}
-use Rattle.dhcp_stream.proofs.CodecLaws.{HasNo, IsCodec, IsCodec-in_field, IsValue, bind_some, map_some}
+use Rattle.dhcp_stream.specs.TextReader.{both, in_field, made_of}
+use Rattle.dhcp_stream.proofs.CodecLaws.{HasNo, IsCodec, IsCodec-both, IsCodec-in_field, IsCodec-made_of, IsValue, bind_some, map_some}
 use Rattle.dhcp_stream.proofs.ValueLemmas.{IsValue-number}
 use Rattle.dhcp_script.specs.declared.version.Version.{Version}
 use Rattle.dhcp_script.specs.declared.version.Version.TheVariants.{One, Later}
 use Rattle.dhcp_script.specs.Field.{list_text, unless_none}
-use Rattle.dhcp_script.specs.FieldReader.{each_in, items_in, list_in, then_value, u32_at, word_or}
+use Rattle.dhcp_script.specs.FieldReader.{each_in, items_in, list_in, then_value, triple_of, u32_at, word_or}
 use Rattle.dhcp_script.specs.Version.{end_of_times}
 use Rattle.dhcp_script.proofs.Clear.{HasNo-decimal, HasNo-or_word, other_word}
 use Rattle.dhcp_script.proofs.FieldLemmas.{IsValue-word_or, fail_test, other_text}
@@ -36,6 +36,15 @@ IsValue-then {A} {B} {print} {Fits} {read} {print'} {Fits'} {value} first second
   complete = λ p fits.
       rw (first.complete p.0 (print' p.1) fits.0, second.complete p.1 fits.1) refl;
 }
+
+-- ---- three parts
+
+pub IsCodec-triple : {A B C : Type 0} {print : A → List ℕ} {Fits : A → Type 0} {first : List ℕ → Read A}
+    {print' : B → List ℕ} {Fits' : B → Type 0} {second : List ℕ → Read B} {print'' : C → List ℕ} {Fits'' : C → Type 0} {third : List ℕ → Read C}
+    → IsCodec print Fits first → IsCodec print' Fits' second → IsCodec print'' Fits'' third
+    → IsCodec (λ (p : A × B × C). print p.0 ++ (print' p.1 ++ print'' p.2)) (λ p. Fits p.0 × (Fits' p.1 × Fits'' p.2)) (made_of triple_of (both first (both second third)))
+IsCodec-triple {A} {B} {C} one two three =
+    IsCodec-made_of (IsCodec-both one (IsCodec-both two three)) triple_of (λ (p : A × B × C). (p.0, (p.1, p.2))) (λ x. refl) (λ y. refl)
 
 -- a value that is made of what a field gives
 pub IsValue-made_of : {A B : Type 0} {print : A → List ℕ} {Fits : A → Type 0} {value : List ℕ → Option A} → IsValue print Fits value

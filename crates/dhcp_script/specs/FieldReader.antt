@@ -42,9 +42,23 @@ unfoldable pub held_at : {A : Type 0} → (List ℕ → Read A) → List ℕ →
 held_at value text =
     if_tag (tag_at (codes "none\n") text) (λ rest. Some (None, rest)) (made_of Some value text)
 
--- a number of 32 bits, up to this byte
+-- a number of 32 bits
+abbrev pub u32_in : List ℕ → Option ℕ
+u32_in field = number_in 4294967295 field
+
+-- the same, up to this byte
 abbrev pub u32_at : ℕ → List ℕ → Read ℕ
-u32_at end text = in_field (number_in 4294967295) end text
+u32_at end text = in_field u32_in end text
+
+-- three parts as a triple
+abbrev pub triple_of : {A B C : Type 0} → A × (B × C) → A × B × C
+triple_of parts = (parts.0, parts.1.0, parts.1.1)
+
+-- three fields: the last up to this byte, and those before it up to a space
+unfoldable pub three_at : {A B C : Type 0} → (List ℕ → Option A) → (List ℕ → Option B)
+    → (List ℕ → Option C) → ℕ → List ℕ → Read (A × B × C)
+three_at first second third end text =
+    made_of triple_of (both (in_field first 32) (both (in_field second 32) (in_field third end))) text
 
 -- the route of its parts
 abbrev pub route_of : (Ipv4Addr × ℕ) × Ipv4Addr → DhcpV4ClasslessRoute

@@ -8,12 +8,10 @@ use Rattle.dhcp6_opt.specs.Ia.{unspecified}
 use Rattle.dhcp6_msg.specs.declared.mode.DhcpV6IaType.{DhcpV6IaType}
 use Rattle.dhcp6_msg.specs.declared.mode.DhcpV6IaType.TheVariants.{NonTemporaryAddresses, TemporaryAddresses, PrefixDelegation}
 use Rattle.dhcp_script.specs.declared.lease6.Lease6.{Lease6}
-use Rattle.dhcp_script.specs.declared.lease6.reader.LeaseAssociation.{LeaseAssociation}
-use Rattle.dhcp_script.specs.declared.lease6.reader.LeaseTimes.{LeaseTimes}
 use Rattle.dhcp_script.specs.declared.lease6.reader.Version2Fields.{Version2Fields}
 use Rattle.dhcp_script.specs.declared.version.Version.{Version}
 use Rattle.dhcp_script.specs.declared.version.Version.TheVariants.{One, Later}
-use Rattle.dhcp_script.specs.FieldReader.{u32_at}
+use Rattle.dhcp_script.specs.FieldReader.{three_at, u32_at, u32_in}
 use Rattle.dhcp_script.specs.Version.{end_of_times}
 
 -- the type of an identity association
@@ -23,35 +21,6 @@ ia_type_in field =
     else if bytes_eq field (codes "ta") then Some TemporaryAddresses
     else if bytes_eq field (codes "pd") then Some PrefixDelegation
     else None
-
-abbrev pub association_of : DhcpV6IaType × (ℕ × (Ipv6Addr × (ℕ × List ℕ))) → LeaseAssociation
-association_of parts = record {
-  ia_type = parts.0;
-  iaid = parts.1.0;
-  address = parts.1.1.0;
-  prefix_len = parts.1.1.1.0;
-  srv_duid = parts.1.1.1.1;
-}
-
--- the identity association, and the identifier of its server
-unfoldable pub association_at : List ℕ → Read LeaseAssociation
-association_at text =
-    made_of association_of (both (in_field ia_type_in 32) (both (u32_at 32)
-    (both (in_field address6_in 32)
-    (both (in_field (number_in 255) 32) (in_field hex_in 32))))) text
-
-abbrev pub times_of : ℕ × (ℕ × (ℕ × ℕ)) → LeaseTimes
-times_of parts = record {
-  t1_sec = parts.0;
-  t2_sec = parts.1.0;
-  preferred_time_sec = parts.1.1.0;
-  valid_time_sec = parts.1.1.1;
-}
-
-unfoldable pub times_at : Version → List ℕ → Read LeaseTimes
-times_at version text =
-    made_of times_of (both (u32_at 32) (both (u32_at 32)
-    (both (u32_at 32) (u32_at (end_of_times version))))) text
 
 abbrev pub version2_fields_of : ℕ × (List ℕ × Ipv6Addr) → Version2Fields
 version2_fields_of parts = record { xid = parts.0; cli_duid = parts.1.0; srv_ip = parts.1.1 }
@@ -67,24 +36,38 @@ version2_fields_at Later text =
     made_of version2_fields_of
     (both (u32_at 32) (both (in_field hex_in 32) (in_field address6_in 10))) text
 
-abbrev pub lease6_of : LeaseAssociation × (LeaseTimes × Version2Fields) → Lease6
+-- the type and the IAID of the identity association, and the address
+abbrev pub association_at : List ℕ → Read (DhcpV6IaType × ℕ × Ipv6Addr)
+association_at text = three_at ia_type_in u32_in address6_in 32 text
+
+-- the length of the prefix, and the identifier of the server
+abbrev pub server_at : List ℕ → Read (ℕ × List ℕ)
+server_at text = both (in_field (number_in 255) 32) (in_field hex_in 32) text
+
+-- T1, T2 and the preferred lifetime, and the valid lifetime
+abbrev pub times_at : Version → List ℕ → Read ((ℕ × ℕ × ℕ) × ℕ)
+times_at version text =
+    both (three_at u32_in u32_in u32_in 32) (u32_at (end_of_times version)) text
+
+abbrev pub lease6_of : (DhcpV6IaType × ℕ × Ipv6Addr)
+    × ((ℕ × List ℕ) × (((ℕ × ℕ × ℕ) × ℕ) × Version2Fields)) → Lease6
 lease6_of parts = record {
-  ia_type = parts.0.ia_type;
-  iaid = parts.0.iaid;
-  address = parts.0.address;
-  prefix_len = parts.0.prefix_len;
-  srv_duid = parts.0.srv_duid;
-  t1_sec = parts.1.0.t1_sec;
-  t2_sec = parts.1.0.t2_sec;
-  preferred_time_sec = parts.1.0.preferred_time_sec;
-  valid_time_sec = parts.1.0.valid_time_sec;
-  xid = parts.1.1.xid;
-  cli_duid = parts.1.1.cli_duid;
-  srv_ip = parts.1.1.srv_ip;
+  ia_type = parts.0.0;
+  iaid = parts.0.1;
+  address = parts.0.2;
+  prefix_len = parts.1.0.0;
+  srv_duid = parts.1.0.1;
+  t1_sec = parts.1.1.0.0.0;
+  t2_sec = parts.1.1.0.0.1;
+  preferred_time_sec = parts.1.1.0.0.2;
+  valid_time_sec = parts.1.1.0.1;
+  xid = parts.1.1.1.xid;
+  cli_duid = parts.1.1.1.cli_duid;
+  srv_ip = parts.1.1.1.srv_ip;
 }
 
 -- the fields of a lease, to the end of the line
 unfoldable pub lease6_at : Version → List ℕ → Read Lease6
 lease6_at version text =
     made_of lease6_of
-    (both association_at (both (times_at version) (version2_fields_at version))) text
+    (both association_at (both server_at (both (times_at version) (version2_fields_at version)))) text

@@ -11,7 +11,7 @@ ghost use Rattle.dhcp_stream.specs.TextReader.{
   Finds,
   Takes,
 };
-ghost use Rattle.dhcp_script.specs.FieldReader.{flag_in, items_in};
+ghost use Rattle.dhcp_script.specs.FieldReader.{flag_in, items_in, three_at};
 ghost use Rattle.dhcp_script.specs.Lease6Reader.{ia_type_in};
 
 use crate::decimal::{push_address, push_decimal};
@@ -382,6 +382,24 @@ pub fn read_field<T: Field>(alloc: Global, text: &mut TextReader, end: u8) -> Re
 {
     let field = text.field(end)?;
     T::from_field(alloc, field)
+}
+
+/// Reads three fields: the last before the next byte `end`, and each before it before the next
+/// space. `Malformed` only if they are not there, or one is the text of no value; out of memory is
+/// the only other error.
+#[tactic(auto, unfolding(crate::specs::FieldReader::three_at))]
+pub fn read_three<A: Field, B: Field, C: Field>(
+    alloc: Global,
+    text: &mut TextReader,
+    end: u8,
+) -> Result<(A, B, C), ReadError>
+    ensures { Takes result text.new
+        (three_at A.value_in B.value_in C.value_in end text.old) }
+{
+    let first = read_field(alloc, text, b' ')?;
+    let second = read_field(alloc, text, b' ')?;
+    let third = read_field(alloc, text, end)?;
+    Ok((first, second, third))
 }
 
 /// Whether a flag is set: true for the word `set`, false for the word `unset`, `Malformed` for any
