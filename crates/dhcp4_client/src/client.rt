@@ -173,6 +173,7 @@ impl DhcpV4Client {
         ensures unchanged { OnErr result (self.new ≡ self.old) }
     {
         if !lease.are_times_in_order() {
+            drop(lease);
             return Err(DhcpError::new_fixed(ErrorKind::InvalidArgument, FixedText::Times));
         }
         let exchange = restarted(self.client.standing.exchange);

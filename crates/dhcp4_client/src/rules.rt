@@ -19,6 +19,7 @@ use crate::granted_lease::GrantedLease;
 use crate::message::{attempt_message, release_message};
 use dhcp_clock::{Handed, Packet, Words, discovery_wait, draw, half_wait};
 use dhcp_history::{AttemptStart, BoundLease, NewAttempt, Rules, StateReport, enter};
+use dhcp_wire::DhcpError;
 use dhcp4_lease::{DhcpV4Config, DhcpV4Lease, DhcpV4MessageForms};
 use std::alloc::{AllocError, Global};
 use std::mem;
@@ -120,7 +121,7 @@ impl Rules for ClientRules {
     ) -> Result<NewAttempt<Exchange, Handed>, AllocError> {
         let wait = wait(state, exchange, start.now, words);
         let built = attempt_message(self.alloc, exchange.xid, &self.config, state);
-        let message = built.map_err(|_| AllocError)?;
+        let message = built.map_err(out_of_memory)?;
         Ok(NewAttempt {
             wait,
             message,
@@ -138,7 +139,7 @@ impl Rules for ClientRules {
         let Some(awaited) = Awaited::in_state(self.config.message_forms(), state) else {
             return Ok(None);
         };
-        read_answer(self.alloc, awaited, exchange.xid, &packet, words).map_err(|_| AllocError)
+        read_answer(self.alloc, awaited, exchange.xid, &packet, words).map_err(out_of_memory)
     }
 
     fn after_answer(
@@ -183,7 +184,7 @@ impl Rules for ClientRules {
             return Ok(None);
         };
         let built = release_message(self.alloc, exchange.xid, &self.config, Some(lease), lease);
-        Ok(Some(built.map_err(|_| AllocError)?))
+        Ok(Some(built.map_err(out_of_memory)?))
     }
 }
 
@@ -242,6 +243,11 @@ impl ClientRules {
         *exchange = restarted(*exchange);
         Ok(StateReport::new(DhcpV4State::Done(lease.into_box())))
     }
+}
+
+// The error of a call of which out of memory is the only one.
+fn out_of_memory(_error: DhcpError) -> AllocError {
+    AllocError
 }
 
 // The state after the end of one.

@@ -208,6 +208,7 @@ impl DhcpV6Client {
         ensures unchanged { OnErr result (self.new ≡ self.old) }
     {
         if !lease.is_within_limits() {
+            drop(lease);
             return Err(DhcpError::new_fixed(ErrorKind::InvalidArgument, FixedText::Lease));
         }
         let exchange = restarted(self.client.standing.exchange);
@@ -302,11 +303,14 @@ fn first_state(mode: DhcpV6Mode, lease: Option<DhcpV6Lease>, now: u64) -> Client
     requires moment { now < 2 ^ 60 }
     ensures { result ≡ clients.first_state mode lease now }
 {
-    match (lease, mode) {
-        (None, _) => ClientState::Solicit,
-        (Some(_), DhcpV6Mode::TemporaryAddresses) => ClientState::Solicit,
-        (Some(lease), DhcpV6Mode::NonTemporaryAddresses) => ClientState::Renew(bound(lease, now)),
-        (Some(lease), DhcpV6Mode::PrefixDelegation(_)) => ClientState::Renew(bound(lease, now)),
+    match lease {
+        Some(lease) if mode != DhcpV6Mode::TemporaryAddresses => {
+            ClientState::Renew(bound(lease, now))
+        }
+        unused => {
+            drop(unused);
+            ClientState::Solicit
+        }
     }
 }
 

@@ -16,6 +16,7 @@ use crate::granted_lease::{BoxedLease, GrantedLease, expiry, rebinding, renewal}
 use crate::message::{attempt_message, release_message};
 use dhcp_clock::{Handed, Packet, Words, draw};
 use dhcp_history::{AttemptStart, BoundLease, NewAttempt, Rules, StateReport, enter};
+use dhcp_wire::DhcpError;
 use dhcp6_msg::{DhcpV6Config, DhcpV6Lease, DhcpV6Mode};
 use std::alloc::{AllocError, Global};
 use std::mem;
@@ -119,7 +120,7 @@ impl Rules for ClientRules {
         let iaid = association_id(state, words);
         let elapsed_ms = elapsed_time(start, exchange);
         let built = attempt_message(self.alloc, xid, &self.config, elapsed_ms, iaid, state);
-        let message = built.map_err(|_| AllocError)?;
+        let message = built.map_err(out_of_memory)?;
         Ok(NewAttempt {
             wait,
             message,
@@ -142,7 +143,7 @@ impl Rules for ClientRules {
         let Some(kind) = awaited_type(state) else {
             return Ok(None);
         };
-        read_answer(self.alloc, kind, exchange.xid, &packet).map_err(|_| AllocError)
+        read_answer(self.alloc, kind, exchange.xid, &packet).map_err(out_of_memory)
     }
 
     // The first Advertise that grants a lease counts at once. By RFC 8415 section 18.2.1 a client
@@ -195,7 +196,7 @@ impl Rules for ClientRules {
             return Ok(None);
         };
         let built = release_message(self.alloc, exchange.xid, &self.config, lease);
-        Ok(Some(built.map_err(|_| AllocError)?))
+        Ok(Some(built.map_err(out_of_memory)?))
     }
 }
 
@@ -222,6 +223,11 @@ impl ClientRules {
         *exchange = restarted(*exchange);
         Ok(StateReport::new(DhcpV6State::Done(lease.into_box())))
     }
+}
+
+// The error of a call of which out of memory is the only one.
+fn out_of_memory(_error: DhcpError) -> AllocError {
+    AllocError
 }
 
 // The state after the end of one.

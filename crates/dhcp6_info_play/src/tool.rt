@@ -103,7 +103,11 @@ fn text_answer(alloc: Global, bytes: &[u8]) -> Result<Bytes, Status>
     ensures { AnswersText info_scripts result bytes.now }
 {
     match read_info_script(alloc, bytes) {
-        Ok(Some(script)) => script_answer(alloc, &script),
+        Ok(Some(script)) => {
+            let answer = script_answer(alloc, &script);
+            drop(script);
+            answer
+        }
         Ok(None) => Err(Status::NoScript),
         Err(error) => Err(out_of_memory(error)),
     }

@@ -107,14 +107,16 @@ impl DhcpV6Config {
     pub fn new(alloc: Global, iface_name: &str, mode: DhcpV6Mode) -> Result<Self, DhcpError>
         ensures { Makes (λ config. config) result (config_of iface_name.now mode) }
     {
+        let iface_name = Text::from_str(alloc, iface_name)?;
+        let request_opts = codes_of(alloc, &DEFAULT_REQUESTS)?;
         Ok(DhcpV6Config {
-            iface_name: Text::from_str(alloc, iface_name)?,
+            iface_name,
             iface_index: 0,
             duid: DhcpV6Duid::Raw(Bytes::new(alloc)),
             mode,
             src_ip: Ipv6Addr::UNSPECIFIED,
             timeout_sec: 0,
-            request_opts: codes_of(alloc, &DEFAULT_REQUESTS)?,
+            request_opts,
             src_mac: None,
         })
     }
@@ -132,14 +134,17 @@ impl DhcpV6Config {
     pub fn try_clone(&self, alloc: Global) -> Result<Self, DhcpError>
         ensures { Makes (λ config. config) result self.now }
     {
+        let iface_name = self.iface_name.try_clone(alloc)?;
+        let request_opts = self.request_opts.try_clone(alloc)?;
+        let duid = self.duid.try_clone(alloc)?;
         Ok(DhcpV6Config {
-            iface_name: self.iface_name.try_clone(alloc)?,
+            iface_name,
             iface_index: self.iface_index,
-            duid: self.duid.try_clone(alloc)?,
+            duid,
             mode: self.mode,
             src_ip: self.src_ip,
             timeout_sec: self.timeout_sec,
-            request_opts: self.request_opts.try_clone(alloc)?,
+            request_opts,
             src_mac: self.src_mac,
         })
     }

@@ -1,6 +1,9 @@
 -- The head of a script, line by line.
 use Rattle.std.proofs.Common.{◌≡◌, ◌≤◌, ◌<◌, ℕ, List, [], ◌∷◌, ◌++◌, length, true, false, ◌+◌, ◌-◌, None, Some, refl, sym, ap, subst, ◌∙◌, append_assoc, length-append, arith}
-use Rattle.std.proofs.Common.{Option}
+use Rattle.std.proofs.Common.{Bool, IsTrue, Option, ◌↔◌, inr}
+use Rattle.std.proofs.lemmas.Bool.{iff_false}
+use Rattle.std.specs.Prelude.{ok_or}
+use Rattle.std.specs.Bool.{then_some}
 use Rattle.dhcp_replay.specs.Replayed.{events_of}
 use Rattle.dhcp_script.specs.Script.{IsScript, script_text}
 use Rattle.dhcp_script.specs.declared.event.Event.{Event}
@@ -9,11 +12,11 @@ use Rattle.dhcp_stream.specs.Reading.{IsReading}
 use Rattle.std.specs.Prelude.{IsErrAnd, Result, is_err, is_ok, if◌then◌else◌}
 use Rattle.dhcp_clock.specs.Leads.{Leads}
 use Rattle.dhcp_tool.specs.declared.status.Status.{Status}
-use Rattle.dhcp_tool.specs.declared.status.Status.TheVariants.{NoMemory, TooLong}
+use Rattle.dhcp_tool.specs.declared.status.Status.TheVariants.{NoMemory, NoScript, TooLong}
 use Rattle.dhcp_dialogue.specs.Dialogue.{IsLine, Turn, Hears, Misses, most_line_bytes, status_of}
 use Rattle.dhcp_stream.specs.TextReader.{field_at}
 use Rattle.dhcp_dialogue.specs.declared.dialogue.Unheard.{Unheard}
-use Rattle.dhcp_live.specs.Tool.{HearsHead, IsHead, IsLive, end_line, goes_on, has_head, is_last_of_head, is_too_long, misses, runs_out}
+use Rattle.dhcp_live.specs.Tool.{HearsHead, IsHead, IsLive, ReadsHead, end_line, goes_on, has_head, is_last_of_head, is_too_long, misses, runs_out}
 use Rattle.std.proofs.Common.{Ok, Err}
 use Rattle.dhcp_live.proofs.TurnLemmas.{Leads-append}
 
@@ -32,6 +35,16 @@ has_events found script head is one some other same =
     events_in_option : Option Script → List Event
     events_in_option None = []
     events_in_option (Some s) = events_of s
+
+-- a script that was read, which is kept if it has no events
+pub kept_if_head : (found : Option Script) (script : Script) (head : List ℕ) (none : Bool) (kept : Option Script) (result : Result Script Status) → found ≡ Some script
+    → IsReading script_text IsScript found (head ++ end_line) → ((other : Script) → IsScript other → script_text other ≡ head ++ end_line → found ≡ Some other)
+    → (IsTrue none ↔ (events_of script ≡ [])) → kept ≡ then_some none script → result ≡ ok_or kept NoScript → ReadsHead head result
+kept_if_head found script head true kept result is reading one iff kept-is result-is =
+    subst (λ (r : Result Script Status). ReadsHead head r) (sym (result-is ∙ ap (λ (o : Option Script). ok_or o NoScript) kept-is)) (is_head found script head is reading (iff.0 refl))
+kept_if_head found script head false kept result is reading one iff kept-is result-is =
+    subst (λ (r : Result Script Status). ReadsHead head r) (sym (result-is ∙ ap (λ (o : Option Script). ok_or o NoScript) kept-is))
+    (inr (refl, has_events found script head is one (iff_false iff refl)))
 
 -- bytes that were put at the end of others, if there was memory
 pub put_behind : {X E : Type 0} (done : Result X E) (new old more line : List ℕ) → new ≡ (if is_ok done then old ++ more else old) → more ≡ line → false ≡ is_err done → new ≡ old ++ line

@@ -5,6 +5,7 @@ ghost use Rattle.dhcp_output.specs.Output.{plain_output};
 ghost use Rattle.dhcp_live.specs.Answer.{
   answer_text,
   dropped_line,
+  reason_line,
   dropped_text,
   listening_text,
   moment_text,
@@ -68,20 +69,26 @@ fn push_verdict(text: &mut String, number: u32, verdict: PlainVerdict) -> Result
 {
     match verdict {
         PacketVerdict::Answer => Ok(()),
-        PacketVerdict::NotListening => write!(text, "dropped {number} not-listening\n"),
-        PacketVerdict::OtherCarrier => write!(text, "dropped {number} other-carrier\n"),
-        PacketVerdict::NoFrame => write!(text, "dropped {number} no-frame\n"),
-        PacketVerdict::NoMessage => write!(text, "dropped {number} no-message\n"),
-        PacketVerdict::OtherTransactionId => {
-            write!(text, "dropped {number} other-transaction-id\n")
-        }
+        PacketVerdict::NotListening => push_reason(text, number, "not-listening"),
+        PacketVerdict::OtherCarrier => push_reason(text, number, "other-carrier"),
+        PacketVerdict::NoFrame => push_reason(text, number, "no-frame"),
+        PacketVerdict::NoMessage => push_reason(text, number, "no-message"),
+        PacketVerdict::OtherTransactionId => push_reason(text, number, "other-transaction-id"),
         PacketVerdict::OtherType(Some(kind)) => {
             write!(text, "dropped {number} other-type {kind}\n")
         }
-        PacketVerdict::OtherType(None) => write!(text, "dropped {number} other-type none\n"),
-        PacketVerdict::OtherServer => write!(text, "dropped {number} other-server\n"),
+        PacketVerdict::OtherType(None) => push_reason(text, number, "other-type none"),
+        PacketVerdict::OtherServer => push_reason(text, number, "other-server"),
         PacketVerdict::NoLease(kind) => write!(text, "dropped {number} no-lease {kind}\n"),
     }
+}
+
+// Puts the line of a packet that was no answer, for this reason, at the end of a text.
+fn push_reason(text: &mut String, number: u32, reason: &str) -> Result<(), AllocError>
+    ensures { OnOk result (string_bytes text.new
+        ≡ string_bytes text.old ++ reason_line number reason.now) }
+{
+    write!(text, "dropped {number} {reason}\n")
 }
 
 // Puts the moment of the next event at the end of a text.

@@ -46,11 +46,8 @@ pub fn read_head(alloc: Global, head: &[u8]) -> Result<Script, Status>
 {
     match read_text(alloc, head) {
         Ok(Some(script)) => {
-            if has_no_events(&script) {
-                Ok(script)
-            } else {
-                Err(Status::NoScript)
-            }
+            let is_head = has_no_events(&script);
+            is_head.then_some(script).ok_or(Status::NoScript)
         }
         Ok(None) => Err(Status::NoScript),
         Err(error) => Err(out_of_memory(error)),

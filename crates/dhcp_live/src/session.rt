@@ -58,7 +58,11 @@ fn answer_line<C: VerdictClient, D: Dialogue>(
         result (held C.parts client.old) (held C.parts client.new) dialogue.old dialogue.new }
 {
     match read_live_line(alloc, line) {
-        Ok(Some(said)) => answer_said(alloc, client, dialogue, &said),
+        Ok(Some(said)) => {
+            let next = answer_said(alloc, client, dialogue, &said);
+            drop(said);
+            next
+        }
         Ok(None) => Next::End(Status::NoScript),
         Err(error) => Next::End(out_of_memory(error)),
     }

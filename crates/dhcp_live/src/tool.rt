@@ -40,7 +40,11 @@ fn run_after<D: Dialogue>(alloc: Global, head: &[u8], dialogue: &mut D) -> Statu
     ensures { RunsAfterHead D.moves head.now result dialogue.old dialogue.new }
 {
     match read_head(alloc, head) {
-        Ok(script) => run_script(alloc, &script, dialogue),
+        Ok(script) => {
+            let status = run_script(alloc, &script, dialogue);
+            drop(script);
+            status
+        }
         Err(status) => status,
     }
 }

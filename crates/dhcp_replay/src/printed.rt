@@ -36,8 +36,16 @@ pub fn print_script(alloc: Global, script: Script, text: &mut String) -> Result<
     ensures error { IfErr result (λ error. error ≡ no_memory) }
 {
     match script {
-        Script::V4(mut script) => print_script4(alloc, &mut script, text),
-        Script::V6(mut script) => print_script6(alloc, &mut script, text),
+        Script::V4(mut script) => {
+            let printed = print_script4(alloc, &mut script, text);
+            drop(script);
+            printed
+        }
+        Script::V6(mut script) => {
+            let printed = print_script6(alloc, &mut script, text);
+            drop(script);
+            printed
+        }
     }
 }
 
@@ -146,5 +154,8 @@ fn print_report<S: FamilyState>(
     ensures { OnOk result (string_bytes text.new
         ≡ string_bytes text.old ++ output_line (output_of S.changed report)) }
 {
-    push_output(alloc, text, &output_of(report))
+    let output = output_of(report);
+    let printed = push_output(alloc, text, &output);
+    drop(output);
+    printed
 }

@@ -150,7 +150,9 @@ fn summary_of(alloc: Global, rounds: u32) -> Result<Bytes, DhcpError>
     ensures { Makes (λ text. text) result (demo_summary rounds) }
 {
     let script = demo_script(alloc, rounds)?;
-    summary_for(alloc, &script)
+    let summary = summary_for(alloc, &script);
+    drop(script);
+    summary
 }
 
 // The summary of a script.
@@ -190,6 +192,7 @@ fn script_answer(alloc: Global, script: Script, room: Bytes) -> Result<Bytes, St
     ensures { AnswersScript scripts result script }
 {
     if !script.is_valid() {
+        drop(script);
         return Err(Status::Invalid);
     }
     match text_for(alloc, script, room) {

@@ -77,7 +77,9 @@ pub fn upgrade(alloc: Global, text: &[u8]) -> Result<Option<Bytes>, DhcpError>
         Makes (λ new. new) result (Some (script_text script)) }
 {
     let script = read_script_v1(alloc, text)?;
-    text_of(alloc, &script)
+    let text = text_of(alloc, &script);
+    drop(script);
+    text
 }
 
 // The text of a script, if there is one.
