@@ -1,4 +1,3 @@
-mod Beginnings
 mod Given
 mod Lawful
 mod NextPoll

@@ -4,6 +4,10 @@ mod replay;
 
 ghost use Rattle.std.specs.Prelude.{◌≡◌, ◌<◌, ◌^◌, true, false, IfErr, IfOk, IfSome, OnOk};
 ghost use Rattle.dhcp_wire.specs.Error.{no_memory};
+ghost use Rattle.dhcp_clock.specs.Words.{DrawsBy};
+ghost use Rattle.dhcp_history.specs.Rules.{GivesDrawn};
+ghost use Rattle.dhcp6_msg.specs.Config.{client_duid};
+ghost use Rattle.dhcp6_msg.specs.Lease.{is_duid};
 ghost use Rattle.dhcp6_info.specs.Client as clients;
 ghost use Rattle.dhcp6_info.specs.State.{plain_state};
 
@@ -12,7 +16,7 @@ use crate::client_state::{ClientState, Exchange};
 use crate::rules::ClientRules;
 use dhcp_clock::{DhcpLink, Words};
 use dhcp_history::{Client, StateReport, clean_up, is_listening, next_poll, run};
-use dhcp_wire::{DhcpError, ErrorKind, FixedText};
+use dhcp_wire::{DhcpError, ErrorKind, FixedText, beside};
 use dhcp6_msg::{DhcpV6Config, is_duid};
 use std::alloc::Global;
 use std::marker::Model;
@@ -42,16 +46,13 @@ impl Model for DhcpV6InfoClient {
 }
 
 impl DhcpV6InfoClient {
-    ghost use Rattle.dhcp_clock.specs.Words.{DrawsBy};
     ghost use Rattle.dhcp_history.specs.Calls.{IsCleanUp, IsListening, IsRun};
     ghost use Rattle.dhcp_history.specs.Errors.{run_answer};
     ghost use Rattle.dhcp_history.specs.Machine.{is_listening};
-    ghost use Rattle.dhcp_history.specs.Rules.{GivesDrawn};
     ghost use Rattle.dhcp_history.specs.Run.{OnNoMemory, UnlessNoMemory};
     ghost use Rattle.dhcp_history.specs.Seen.{seen};
     ghost use Rattle.dhcp_history.specs.Traced.{Traces};
     ghost use Rattle.dhcp_history.specs.Turns.{PollsUnheard, RunsOut, TakesTurns};
-    ghost use Rattle.dhcp6_msg.specs.Config.{client_duid};
     ghost use Rattle.dhcp6_info.specs.Client.{Begins, IsNextPoll, can_begin};
     ghost use Rattle.dhcp6_info.specs.Rules.{protocol, needs_memory};
 
@@ -77,11 +78,9 @@ impl DhcpV6InfoClient {
             (λ error. error ≡ no_memory) }
         ensures undrawn { can_begin config ≡ false → words.new ≡ words.old }
     {
-        if !can_begin(&config) {
-            return Err(DhcpError::new_fixed(ErrorKind::InvalidArgument, FixedText::Config));
-        }
         let mut config = config;
-        config.init_duid(alloc, words)?;
+        let filled = fill_duid(alloc, &mut config, words);
+        let (config, ()) = beside(config, filled)?;
         Ok(DhcpV6InfoClient {
             client: Client::new(ClientState::Inform, first_exchange(), config.timeout_sec, 0),
             rules: ClientRules { alloc, config },
@@ -146,6 +145,31 @@ impl DhcpV6InfoClient {
     {
         is_listening(&self.rules, &self.client, now)
     }
+}
+
+// Fills the identifier, if it is empty, once a client can begin with this configuration.
+fn fill_duid<W: Words>(
+    alloc: Global,
+    config: &mut DhcpV6Config,
+    words: &mut W,
+) -> Result<(), DhcpError>
+    ensures begins { OnOk result (clients.can_begin config.old ≡ true) }
+    ensures set { OnOk result (config.new ≡ record config.old { duid = config.new.duid }) }
+    ensures sendable { OnOk result (is_duid config.new.duid ≡ true) }
+    ensures drawn { OnOk result (GivesDrawn (client_duid config.old)
+        (W.left words.old) config.new.duid (W.left words.new)) }
+    ensures given { OnOk result (DrawsBy W.gives (client_duid config.old)
+        words.old config.new.duid words.new) }
+    ensures refused { clients.can_begin config.old ≡ false → IfErr result
+        (λ error. error.kind ≡ ErrorKind.InvalidArgument) }
+    ensures errors { clients.can_begin config.old ≡ true → IfErr result
+        (λ error. error ≡ no_memory) }
+    ensures undrawn { clients.can_begin config.old ≡ false → words.new ≡ words.old }
+{
+    if !can_begin(config) {
+        return Err(DhcpError::new_fixed(ErrorKind::InvalidArgument, FixedText::Config));
+    }
+    config.init_duid(alloc, words)
 }
 
 // Whether a configuration says where a client sends from, with an identifier that can be sent, or

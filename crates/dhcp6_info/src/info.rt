@@ -5,7 +5,7 @@ ghost use Rattle.dhcp_wire.specs.Outcome.{Makes};
 ghost use Rattle.dhcp6_msg.specs.Lease.{no_duid};
 ghost use Rattle.dhcp6_info.specs.Info.{info_of};
 
-use dhcp_wire::{Bytes, DhcpError, Sequence, Text, TryClone};
+use dhcp_wire::{Bytes, DhcpError, Sequence, Text, TryClone, beside, copied, copied_list};
 use dhcp6_opt::{DhcpV6Duid, DhcpV6OptionNtpServer};
 use std::alloc::Global;
 use std::net::Ipv6Addr;
@@ -64,11 +64,15 @@ pub(crate) fn copied_info(
         (option_copied dns_srvs.entry) (option_copied domains.entry) (option_copied ntp.entry)
         refresh_sec) }
 {
+    let made = copied_duid(alloc, srv_duid)?;
+    let made = beside(made, copied_list(alloc, dns_srvs))?;
+    let made = beside(made, copied(alloc, domains))?;
+    let (((srv_duid, dns_srvs), domains), ntp) = beside(made, copied(alloc, ntp))?;
     Ok(DhcpV6Info {
-        dns_srvs: copied_addresses(alloc, dns_srvs)?,
-        domains: copied_list(alloc, domains)?,
-        ntp: copied_list(alloc, ntp)?,
-        srv_duid: copied_duid(alloc, srv_duid)?,
+        srv_duid,
+        dns_srvs,
+        domains,
+        ntp,
         refresh_sec,
     })
 }
@@ -80,31 +84,5 @@ fn copied_duid(alloc: Global, duid: Option<&DhcpV6Duid>) -> Result<DhcpV6Duid, D
     match duid {
         Some(duid) => duid.try_clone(alloc),
         None => Ok(DhcpV6Duid::Raw(Bytes::new(alloc))),
-    }
-}
-
-// A copy of a list of addresses, if there is one; out of memory is the only error.
-fn copied_addresses(
-    alloc: Global,
-    addresses: Option<&Sequence<Ipv6Addr>>,
-) -> Result<Option<Sequence<Ipv6Addr>>, DhcpError>
-    ensures { Makes (λ made. made) result (option_copied addresses.entry) }
-{
-    match addresses {
-        Some(addresses) => Ok(Some(addresses.try_clone(alloc)?)),
-        None => Ok(None),
-    }
-}
-
-// A copy of a list, if there is one; out of memory is the only error.
-fn copied_list<T: TryClone>(
-    alloc: Global,
-    list: Option<&Sequence<T>>,
-) -> Result<Option<Sequence<T>>, DhcpError>
-    ensures { Makes (λ made. made) result (option_copied list.entry) }
-{
-    match list {
-        Some(list) => Ok(Some(list.try_clone(alloc)?)),
-        None => Ok(None),
     }
 }

@@ -3,11 +3,12 @@
 ghost use Rattle.std.specs.Prelude.{◌≡◌, ◌≤◌, IfOk, length};
 ghost use Rattle.dhcp_wire.specs.Outcome.{Makes};
 ghost use Rattle.dhcp6_opt.specs.Duid.{written_duid};
+ghost use Rattle.dhcp6_msg.specs.Message.{written_message};
 ghost use Rattle.dhcp6_info.specs.Message as messages;
 
 use crate::refresh_time::REFRESH_TIME;
 use dhcp_clock::Handed;
-use dhcp_wire::{DhcpError, Sequence};
+use dhcp_wire::{Bytes, DhcpError, Sequence};
 use dhcp6_msg::{DhcpV6Config, DhcpV6Message, DhcpV6MessageType};
 use dhcp6_opt::{DhcpV6Option, DhcpV6OptionCode};
 use std::alloc::Global;
@@ -25,35 +26,31 @@ pub fn attempt_message(
     ensures { Makes (λ handed. handed) result
         (messages.attempt_message xid config.now elapsed_ms) }
 {
-    let payload = information_request(alloc, xid, config, elapsed_ms)?.emit(alloc)?;
+    let payload = information_request(alloc, xid, config, elapsed_ms)?;
     Ok(Handed::Udp6(config.src_ip, config.iface_index, payload))
 }
 
-// The message: the client's identifier, the codes that it asks for, and the elapsed time.
+// The bytes of the message: the client's identifier, the codes that it asks for, and the elapsed
+// time.
 #[tactic(auto, using(dhcp6_msg::proofs::OptionLemmas::requests_fit))]
 fn information_request(
     alloc: Global,
     xid: u32,
     config: &DhcpV6Config,
     elapsed_ms: u64,
-) -> Result<DhcpV6Message, DhcpError>
+) -> Result<Bytes, DhcpError>
     requires identifier { length (written_duid config.now.duid) ≤ 65535 }
     requires codes { length config.now.request_opts ≤ 32766 }
-    ensures { Makes (λ message. message) result
-        (messages.information_request xid config.now elapsed_ms) }
+    ensures { Makes (λ payload. payload) result
+        (written_message (messages.information_request xid config.now elapsed_ms)) }
 {
-    let mut message = DhcpV6Message::new(
-        alloc,
-        DhcpV6MessageType::InformationRequest,
-        xid,
-        &config.duid,
-        elapsed_ms,
-    )?;
     let codes = requested_codes(alloc, &config.request_opts)?;
+    let msg_type = DhcpV6MessageType::InformationRequest;
+    let mut message = DhcpV6Message::new(alloc, msg_type, xid, &config.duid, elapsed_ms)?;
     message
         .options
         .insert(DhcpV6Option::OptionRequestOption(codes))?;
-    Ok(message)
+    message.emit(alloc)
 }
 
 // These codes, and that of the refresh time.

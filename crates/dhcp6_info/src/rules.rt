@@ -15,6 +15,7 @@ use crate::given_info::{GivenInfo, refresh_moment};
 use crate::message::attempt_message;
 use dhcp_clock::{Handed, Packet, Words, draw};
 use dhcp_history::{AttemptStart, BoundLease, NewAttempt, Rules, StateReport, enter};
+use dhcp_wire::DhcpError;
 use dhcp6_msg::DhcpV6Config;
 use std::alloc::{AllocError, Global};
 
@@ -92,7 +93,7 @@ impl Rules for ClientRules {
         let xid = transaction_id(start.is_first, exchange, words);
         let wait = wait(exchange, words);
         let built = attempt_message(self.alloc, xid, &self.config, elapsed_time(start));
-        let message = built.map_err(|_| AllocError)?;
+        let message = built.map_err(out_of_memory)?;
         Ok(NewAttempt {
             wait,
             message,
@@ -112,7 +113,7 @@ impl Rules for ClientRules {
     ) -> Result<Option<GivenInfo>, AllocError> {
         match state {
             ClientState::Inform => {
-                read_answer(self.alloc, exchange.xid, &packet).map_err(|_| AllocError)
+                read_answer(self.alloc, exchange.xid, &packet).map_err(out_of_memory)
             }
             ClientState::Done(_) => Ok(None),
         }
@@ -159,8 +160,13 @@ impl Rules for ClientRules {
 fn done_with(alloc: Global, given: &GivenInfo) -> Result<DhcpV6InfoState, AllocError>
     ensures { IfOk result (λ state. plain_state state ≡ plain.Done given.now) }
 {
-    let info = given.to_info(alloc).map_err(|_| AllocError)?;
+    let info = given.to_info(alloc).map_err(out_of_memory)?;
     Ok(DhcpV6InfoState::Done(Box::new(alloc, info)?))
+}
+
+// The error of what is made here: out of memory is the only one.
+fn out_of_memory(_error: DhcpError) -> AllocError {
+    AllocError
 }
 
 // For how many milliseconds the client has tried, from the first poll of its stay on. RFC 8415

@@ -1,7 +1,7 @@
 //! The IPv4 client, as it is measured.
 
-use crate::counted;
-use crate::exchange::{Answer, Answers, Client, beside};
+use crate::exchange::{Answer, Answers, Client};
+use crate::wire::counted;
 use dhcp_clock::{MemLink, PacketKind, WordList};
 use dhcp_wire::DhcpError;
 use dhcp4_client::DhcpV4Client;
@@ -12,15 +12,33 @@ use std::alloc::Global;
 const HEADERS: usize = 42;
 
 impl Client for DhcpV4Client {
-    // Its transaction id is 0x12345678.
-    fn begin(alloc: Global) -> Result<(Self, WordList), DhcpError> {
-        let mut words = WordList::new(vec![in alloc; 0x12345678]?);
-        let client = DhcpV4Client::init(alloc, config(alloc)?, None, &mut words);
-        beside(client, words)
+    // Its transaction id is this word.
+    const FIRST_WORD: u32 = 0x12345678;
+
+    fn begin(alloc: Global, words: &mut WordList) -> Result<Self, DhcpError> {
+        DhcpV4Client::init(alloc, config(alloc)?, None, words)
     }
 
     fn hold_long_lease(&mut self, alloc: Global) -> Result<(), DhcpError> {
         self.done(long_lease(alloc), 0)
+    }
+
+    // A frame, from its Ethernet header on.
+    fn packet(bytes: &[u8]) -> Answer {
+        let kind = PacketKind::Frame;
+        Answer { kind, bytes }
+    }
+
+    // The renewal is answered by the payload of the Ack, which the client hears on its socket.
+    fn answers<'a>(offer: &'a [u8], lease: &'a [u8]) -> Answers<'a> {
+        Answers {
+            offer: Self::packet(offer),
+            lease: Self::packet(lease),
+            renewal: Answer {
+                kind: PacketKind::Payload,
+                bytes: lease.get(HEADERS..).unwrap_or(&[]),
+            },
+        }
     }
 
     fn poll(
@@ -55,23 +73,4 @@ fn long_lease(alloc: Global) -> DhcpV4Lease {
     lease.t2_sec = u32::MAX;
     lease.lease_time_sec = u32::MAX;
     lease
-}
-
-/// A frame, from its Ethernet header on.
-pub(crate) fn frame(bytes: &[u8]) -> Answer {
-    let kind = PacketKind::Frame;
-    Answer { kind, bytes }
-}
-
-/// What a server answers in a life: these frames of an Offer and of an Ack, and the payload of the
-/// Ack to the renewal, which the client hears on its socket.
-pub(crate) fn answers<'a>(offer: &'a [u8], ack: &'a [u8]) -> Answers<'a> {
-    Answers {
-        offer: frame(offer),
-        lease: frame(ack),
-        renewal: Answer {
-            kind: PacketKind::Payload,
-            bytes: ack.get(HEADERS..).unwrap_or(&[]),
-        },
-    }
 }

@@ -1,9 +1,9 @@
 //! The IPv6 client, as it is measured.
 
-use crate::counted;
-use crate::exchange::{Answer, Answers, Client, beside};
+use crate::exchange::{Answer, Answers, Client};
+use crate::wire::counted;
 use dhcp_clock::{MemLink, PacketKind, WordList};
-use dhcp_wire::DhcpError;
+use dhcp_wire::{DhcpError, beside};
 use dhcp6_client::DhcpV6Client;
 use dhcp6_msg::{DhcpV6Config, DhcpV6IaType, DhcpV6Lease, DhcpV6Mode};
 use dhcp6_opt::DhcpV6Duid;
@@ -17,15 +17,31 @@ const CLIENT: [u8; 10] = [0, 3, 0, 1, 2, 0, 0, 0, 0, 1];
 const SERVER: [u8; 10] = [0, 3, 0, 1, 2, 0, 0, 0, 0, 2];
 
 impl Client for DhcpV6Client {
-    // Its first transaction id is 0xabcdef, and each later one 0.
-    fn begin(alloc: Global) -> Result<(Self, WordList), DhcpError> {
-        let mut words = WordList::new(vec![in alloc; 0x00abcdef]?);
-        let client = DhcpV6Client::init(alloc, config(alloc)?, None, 0, &mut words);
-        beside(client, words)
+    // Its first transaction id is this word, and each later one 0.
+    const FIRST_WORD: u32 = 0x00abcdef;
+
+    fn begin(alloc: Global, words: &mut WordList) -> Result<Self, DhcpError> {
+        DhcpV6Client::init(alloc, config(alloc)?, None, 0, words)
     }
 
     fn hold_long_lease(&mut self, alloc: Global) -> Result<(), DhcpError> {
         self.done(long_lease(alloc)?, 0)
+    }
+
+    // The payload of a UDP datagram.
+    fn packet(bytes: &[u8]) -> Answer {
+        let kind = PacketKind::Payload;
+        Answer { kind, bytes }
+    }
+
+    // An Advertise of the transaction id abcdef, and a Reply of the transaction id 000000, which
+    // renews the lease too.
+    fn answers<'a>(offer: &'a [u8], lease: &'a [u8]) -> Answers<'a> {
+        Answers {
+            offer: Self::packet(offer),
+            lease: Self::packet(lease),
+            renewal: Self::packet(lease),
+        }
     }
 
     fn poll(
@@ -49,10 +65,12 @@ impl Client for DhcpV6Client {
 // Its configuration, for an address.
 fn config(alloc: Global) -> Result<DhcpV6Config, DhcpError> {
     let duid = DhcpV6Duid::parse(alloc, &CLIENT)?;
-    let mut config = DhcpV6Config::new(alloc, "eth0", DhcpV6Mode::NonTemporaryAddresses)?;
-    drop(mem::replace(&mut config.duid, duid));
-    config.iface_index = 1;
-    config.src_ip = Ipv6Addr::new(0xfe80, 0, 0, 0, 0, 0, 0, 1);
+    let made = DhcpV6Config::new(alloc, "eth0", DhcpV6Mode::NonTemporaryAddresses);
+    let (duid, mut config) = beside(duid, made)?;
+    config
+        .set_duid(duid)
+        .set_iface_index(1)
+        .set_link_local_ip(Ipv6Addr::new(0xfe80, 0, 0, 0, 0, 0, 0, 1));
     Ok(config)
 }
 
@@ -68,20 +86,4 @@ fn long_lease(alloc: Global) -> Result<DhcpV6Lease, DhcpError> {
     lease.ia_type = Some(DhcpV6IaType::NonTemporaryAddresses);
     lease.address = Ipv6Addr::new(0x2001, 0xdb8, 0, 0, 0, 0, 0, 0x10);
     Ok(lease)
-}
-
-/// The payload of a UDP datagram.
-pub(crate) fn payload(bytes: &[u8]) -> Answer {
-    let kind = PacketKind::Payload;
-    Answer { kind, bytes }
-}
-
-/// What a server answers in a life: these payloads of an Advertise, of the transaction id abcdef,
-/// and of a Reply, of the transaction id 000000, which renews the lease too.
-pub(crate) fn answers<'a>(advertise: &'a [u8], reply: &'a [u8]) -> Answers<'a> {
-    Answers {
-        offer: payload(advertise),
-        lease: payload(reply),
-        renewal: payload(reply),
-    }
 }

@@ -6,11 +6,21 @@ use std::alloc::Global;
 
 /// A client, as it is measured. Moments are in milliseconds.
 pub trait Client: Drop {
-    /// A client that holds no lease and was not polled yet, and the words that it draws later.
-    fn begin(alloc: Global) -> Result<(Self, WordList), DhcpError>;
+    /// The first word that it draws; each later one is 0.
+    const FIRST_WORD: u32;
+
+    /// A client that holds no lease and was not polled yet, which draws from these words.
+    fn begin(alloc: Global, words: &mut WordList) -> Result<Self, DhcpError>;
 
     /// Gives it the longest lease, of 4,294,967,295 seconds, at the moment 0.
     fn hold_long_lease(&mut self, alloc: Global) -> Result<(), DhcpError>;
+
+    /// The packet of these bytes, as the client receives it before it has an address.
+    fn packet(bytes: &[u8]) -> Answer;
+
+    /// What a server answers in a life, with these bytes of an offer and of the answer with the
+    /// lease.
+    fn answers<'a>(offer: &'a [u8], lease: &'a [u8]) -> Answers<'a>;
 
     /// One poll at a moment.
     fn poll(&mut self, now: u32, words: &mut WordList, link: &mut MemLink) -> Result<(), DhcpError>;
@@ -22,14 +32,6 @@ pub trait Client: Drop {
     fn release(&mut self, now: u32, link: &mut MemLink) -> Result<bool, DhcpError>;
 }
 
-/// A client that has begun, and the words that it draws later.
-pub(crate) fn beside<C: Drop>(
-    client: Result<C, DhcpError>,
-    words: WordList,
-) -> Result<(C, WordList), DhcpError> {
-    Ok((client?, words))
-}
-
 /// A packet that a server sends.
 #[derive(Clone, Copy)]
 pub struct Answer<'a> {
@@ -37,6 +39,15 @@ pub struct Answer<'a> {
     pub kind: PacketKind,
     /// The bytes of the frame or of the payload.
     pub bytes: &'a [u8],
+}
+
+/// What is measured of the polls of a client.
+#[derive(Clone, Copy)]
+pub(crate) enum PollTask<'a> {
+    /// It has a lease, and is polled before T1, a millisecond apart.
+    Idle,
+    /// Its first message is open, and each poll has the packet of these bytes.
+    Foreign(&'a [u8]),
 }
 
 /// What a server answers in a client's life.
@@ -61,9 +72,9 @@ struct Exchange<C> {
 impl<C: Client> Exchange<C> {
     // The exchange of a client that was not polled yet.
     fn begin(alloc: Global) -> Result<Self, DhcpError> {
-        let (client, words) = C::begin(alloc)?;
+        let mut words = WordList::new(vec![in alloc; C::FIRST_WORD]?);
         Ok(Exchange {
-            client,
+            client: C::begin(alloc, &mut words)?,
             words,
             link: MemLink::new(alloc),
         })
@@ -72,9 +83,9 @@ impl<C: Client> Exchange<C> {
     // A poll, with a packet or without.
     fn poll(&mut self, now: u32, packet: Option<Packet>) -> Result<(), DhcpError> {
         self.link.load(packet);
-        self.client.poll(now, &mut self.words, &mut self.link)?;
-        let _sent = self.link.take_handed();
-        Ok(())
+        let polled = self.client.poll(now, &mut self.words, &mut self.link);
+        drop(self.link.take_handed());
+        polled
     }
 
     // A poll with this answer.
@@ -84,8 +95,9 @@ impl<C: Client> Exchange<C> {
         self.poll(now, Some(Packet { kind, bytes }))
     }
 
-    // Polls without a packet, so many, a millisecond apart.
-    fn poll_often(&mut self, times: u32) -> Result<u64, DhcpError> {
+    // Polls without a packet, so many, a millisecond apart, with a lease.
+    fn idle(&mut self, alloc: Global, times: u32) -> Result<u64, DhcpError> {
+        self.client.hold_long_lease(alloc)?;
         for now in 0..times {
             self.poll(now, None)?;
         }
@@ -115,21 +127,17 @@ impl<C: Client> Exchange<C> {
     }
 }
 
-/// Polls a client that has a lease, so many times, a millisecond apart, before T1.
-pub(crate) fn idle<C: Client>(alloc: Global, times: u32) -> Result<u64, DhcpError> {
-    let mut exchange: Exchange<C> = Exchange::begin(alloc)?;
-    exchange.client.hold_long_lease(alloc)?;
-    exchange.poll_often(times)
-}
-
-/// Polls a client whose first message is open, so many times, each time with this packet.
-pub(crate) fn foreign<C: Client>(
+/// Polls a client so many times.
+pub(crate) fn polls<C: Client>(
     alloc: Global,
+    task: PollTask,
     times: u32,
-    packet: Answer,
 ) -> Result<u64, DhcpError> {
     let mut exchange: Exchange<C> = Exchange::begin(alloc)?;
-    exchange.hear_often(alloc, times, packet)
+    match task {
+        PollTask::Idle => exchange.idle(alloc, times),
+        PollTask::Foreign(bytes) => exchange.hear_often(alloc, times, C::packet(bytes)),
+    }
 }
 
 /// Whole lives, so many: an offer, a request, a lease, a renewal at T1 and the release.

@@ -22,29 +22,32 @@
 mod client4;
 mod client6;
 mod exchange;
+mod frames;
 mod kept;
+mod messages4;
 mod messages6;
 mod options6;
 mod relay6;
 mod server4;
+mod wire;
 
-use crate::exchange::{foreign, idle, lives};
+use crate::exchange::{Client, PollTask, lives, polls};
 use crate::kept::{KeptTask, repeat};
-use dhcp_clock::WordList;
-use dhcp_frame::{MOST_PAYLOAD, read_frame, write_frame};
-use dhcp_wire::{BufferMut, DhcpError, ErrorKind, FixedText};
+use crate::wire::{moved_to_lease, read, read_and_write, read_to_lease};
+use dhcp_frame::Frame;
+use dhcp_wire::DhcpError;
 use dhcp4_client::DhcpV4Client;
-use dhcp4_lease::{DhcpV4Config, DhcpV4Lease, new_discovery};
 use dhcp4_msg::DhcpV4Message;
 use dhcp6_client::DhcpV6Client;
 use dhcp6_msg::DhcpV6Message;
+use dhcp6_opt::DhcpV6Options;
 use dhcp6_relay::RelayError;
 use std::alloc::{AllocError, Global};
 use std::process::ExitCode;
 use std::{env, io};
 
 /// Why there is nothing to measure.
-#[derive(Debug, Drop)]
+#[derive(Drop)]
 enum Failure {
     /// The words are not a name of the list above and a number below 2^32.
     Words,
@@ -105,57 +108,53 @@ fn measure(rt: &HostRuntime) -> Result<(), Failure> {
 
 // What is counted of one thing that is done so many times, with the lines of hex of a text.
 fn count_of_task(alloc: Global, what: &str, times: u32, text: &str) -> Result<u64, Failure> {
-    let lines: Vec<&str> = text.lines().collect(alloc)?;
-    let [first, rest @ ..] = lines.as_slice() else {
+    let mut lines = text.lines();
+    let Some(first) = lines.next() else {
         return Err(Failure::Hex);
     };
     let first = bytes_of(alloc, first)?;
-    count_with(alloc, what, times, first.as_slice(), rest)
+    count_with(alloc, what, times, first.as_slice(), lines.next())
 }
 
-// The same with the bytes of the first line, and the lines after it.
+// The same with the bytes of the first line, and with the second line.
 fn count_with(
     alloc: Global,
     what: &str,
     times: u32,
     first: &[u8],
-    rest: &[&str],
+    second: Option<&str>,
 ) -> Result<u64, Failure> {
     let count = match what {
-        "idle" => idle::<DhcpV4Client>(alloc, times),
-        "idle6" => idle::<DhcpV6Client>(alloc, times),
-        "foreign" => foreign::<DhcpV4Client>(alloc, times, client4::frame(first)),
-        "foreign6" => foreign::<DhcpV6Client>(alloc, times, client6::payload(first)),
+        "idle" => polls::<DhcpV4Client>(alloc, PollTask::Idle, times),
+        "idle6" => polls::<DhcpV6Client>(alloc, PollTask::Idle, times),
+        "foreign" => polls::<DhcpV4Client>(alloc, PollTask::Foreign(first), times),
+        "foreign6" => polls::<DhcpV6Client>(alloc, PollTask::Foreign(first), times),
         "written" => repeat::<DhcpV4Message>(alloc, KeptTask::Write, times, first),
         "kept" => repeat::<DhcpV4Message>(alloc, KeptTask::Lease, times, first),
         "written6" => repeat::<DhcpV6Message>(alloc, KeptTask::Write, times, first),
         "kept6" => repeat::<DhcpV6Message>(alloc, KeptTask::Lease, times, first),
         "serve256" => server4::handle(alloc, 256, times, first),
         "serve65536" => server4::handle(alloc, 65_536, times, first),
-        "life" | "life6" => return count_of_lives(alloc, what, times, first, rest),
+        "life" => return count_of_lives::<DhcpV4Client>(alloc, times, first, second),
+        "life6" => return count_of_lives::<DhcpV6Client>(alloc, times, first, second),
         what => return total_of(alloc, what, times, first),
     };
     Ok(count?)
 }
 
-// How many lives there were, with this packet of an offer, and that of the answer with the lease in
-// the next line.
-fn count_of_lives(
+// How many lives there were, with this packet of an offer, and the line of the answer with the
+// lease.
+fn count_of_lives<C: Client>(
     alloc: Global,
-    what: &str,
     times: u32,
     offer: &[u8],
-    rest: &[&str],
+    lease: Option<&str>,
 ) -> Result<u64, Failure> {
-    let [lease] = rest else {
+    let Some(lease) = lease else {
         return Err(Failure::Hex);
     };
     let lease = bytes_of(alloc, lease)?;
-    let lease = lease.as_slice();
-    Ok(match what {
-        "life" => lives::<DhcpV4Client>(alloc, times, client4::answers(offer, lease))?,
-        _ => lives::<DhcpV6Client>(alloc, times, client6::answers(offer, lease))?,
-    })
+    Ok(lives::<C>(alloc, times, C::answers(offer, lease.as_slice()))?)
 }
 
 // The bytes of a line of hex.
@@ -175,18 +174,18 @@ fn total_of(alloc: Global, what: &str, times: u32, bytes: &[u8]) -> Result<u64, 
 // How many bytes are read and written when one thing is done once.
 fn count_of(alloc: Global, what: &str, bytes: &[u8]) -> Result<usize, Failure> {
     let count = match what {
-        "read" => read(alloc, bytes),
-        "message" => read_and_write(alloc, bytes),
-        "lease" => read_to_lease(alloc, bytes),
-        "moved" => moved_to_lease(alloc, bytes),
-        "discover" => discover(alloc),
-        "frame" => frame(alloc, bytes),
-        "read6" => options6::read(alloc, bytes),
-        "options6" => options6::read_and_write(alloc, bytes),
-        "reply6" => messages6::read(alloc, bytes),
-        "message6" => messages6::read_and_write(alloc, bytes),
-        "lease6" => messages6::read_to_lease(alloc, bytes),
-        "moved6" => messages6::moved_to_lease(alloc, bytes),
+        "read" => read::<DhcpV4Message>(alloc, bytes),
+        "message" => read_and_write::<DhcpV4Message>(alloc, bytes),
+        "lease" => read_to_lease::<DhcpV4Message>(alloc, bytes),
+        "moved" => moved_to_lease::<DhcpV4Message>(alloc, bytes),
+        "discover" => messages4::discover(alloc),
+        "frame" => read_and_write::<Frame>(alloc, bytes),
+        "read6" => read::<DhcpV6Options>(alloc, bytes),
+        "options6" => read_and_write::<DhcpV6Options>(alloc, bytes),
+        "reply6" => read::<DhcpV6Message>(alloc, bytes),
+        "message6" => read_and_write::<DhcpV6Message>(alloc, bytes),
+        "lease6" => read_to_lease::<DhcpV6Message>(alloc, bytes),
+        "moved6" => moved_to_lease::<DhcpV6Message>(alloc, bytes),
         "solicit6" => messages6::solicit(alloc),
         what => return count_of_relay(alloc, what, bytes),
     };
@@ -195,69 +194,10 @@ fn count_of(alloc: Global, what: &str, bytes: &[u8]) -> Result<usize, Failure> {
 
 // How many bytes are read and written when a relay message is wrapped or answered.
 fn count_of_relay(alloc: Global, what: &str, bytes: &[u8]) -> Result<usize, Failure> {
-    match what {
-        "wrap6" => Ok(relay6::wrap(alloc, bytes)?),
-        "along6" => Ok(relay6::reply(alloc, bytes)?),
-        _ => Err(Failure::Words),
-    }
-}
-
-/// This count, if what was done went well; what it returned is dropped.
-pub(crate) fn counted<T: Drop, N: Drop>(
-    done: Result<T, DhcpError>,
-    count: N,
-) -> Result<N, DhcpError> {
-    drop(done?);
-    Ok(count)
-}
-
-// Reads a message.
-fn read(alloc: Global, bytes: &[u8]) -> Result<usize, DhcpError> {
-    counted(DhcpV4Message::parse(alloc, bytes), bytes.len())
-}
-
-// Reads a message and writes it.
-fn read_and_write(alloc: Global, bytes: &[u8]) -> Result<usize, DhcpError> {
-    let mut buffer = BufferMut::new(alloc);
-    let message = DhcpV4Message::parse(alloc, bytes)?;
-    let written = message.emit(&mut buffer);
-    counted(written, bytes.len().saturating_add(buffer.len()))
-}
-
-// Reads a message and the lease that it grants.
-fn read_to_lease(alloc: Global, bytes: &[u8]) -> Result<usize, DhcpError> {
-    let message = DhcpV4Message::parse(alloc, bytes)?;
-    let lease = DhcpV4Lease::new_from_msg(alloc, &message, &mut WordList::new(Vec::new(alloc)));
-    counted(lease, bytes.len())
-}
-
-// Reads a message and moves its options into the lease that it grants.
-fn moved_to_lease(alloc: Global, bytes: &[u8]) -> Result<usize, DhcpError> {
-    let message = DhcpV4Message::parse(alloc, bytes)?;
-    let lease = DhcpV4Lease::from_message(alloc, message, &mut WordList::new(Vec::new(alloc)));
-    counted(lease, bytes.len())
-}
-
-// Builds a Discover and writes it.
-fn discover(alloc: Global) -> Result<usize, DhcpError> {
-    let config = DhcpV4Config::empty(alloc)?;
-    if !config.is_within_limits() {
-        return Err(DhcpError::new_fixed(ErrorKind::Bug, FixedText::Config));
-    }
-    let mut buffer = BufferMut::new(alloc);
-    new_discovery(alloc, 0x12345678, &config)?.emit(&mut buffer)?;
-    Ok(buffer.len())
-}
-
-// Reads a frame and writes it.
-fn frame(alloc: Global, bytes: &[u8]) -> Result<usize, DhcpError> {
-    let frame = read_frame(alloc, bytes)?;
-    if frame.payload.len() > MOST_PAYLOAD {
-        return Err(DhcpError::new_fixed(ErrorKind::Bug, FixedText::Unreadable));
-    }
-    Ok(
-        bytes
-            .len()
-            .saturating_add(write_frame(alloc, &frame)?.len()),
-    )
+    let count = match what {
+        "wrap6" => relay6::wrap(alloc, bytes),
+        "along6" => relay6::reply(alloc, bytes),
+        _ => return Err(Failure::Words),
+    };
+    Ok(count?)
 }

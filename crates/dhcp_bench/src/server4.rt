@@ -2,7 +2,7 @@
 
 use dhcp_clock::{Packet, PacketKind};
 use dhcp_wire::{BufferMut, Bytes, DhcpError};
-use dhcp4_msg::{DhcpV4Message, DhcpV4MessageType, DhcpV4Option, DhcpV4Options};
+use dhcp4_msg::{DhcpV4Message, DhcpV4MessageType, DhcpV4Option};
 use dhcp4_server::{DhcpV4Server, ServerAnswer, ServerConfig};
 use std::alloc::Global;
 use std::net::Ipv4Addr;
@@ -20,21 +20,24 @@ pub(crate) fn handle(
 ) -> Result<u64, DhcpError> {
     let mut server = Box::new(alloc, DhcpV4Server::new(alloc, config(count))?)?;
     fill(alloc, &mut server, count)?;
-    let mut bytes = Vec::new(alloc);
-    bytes.extend_from_slice(message)?;
-    repeat(&mut server, times, Bytes::from(bytes))
+    let packet = payload(Bytes::from_slice(alloc, message)?);
+    repeat(&mut server, times, &packet)
 }
 
 // The same with this server.
-fn repeat(server: &mut DhcpV4Server, times: u32, bytes: Bytes) -> Result<u64, DhcpError> {
-    let kind = PacketKind::Payload;
-    let packet = Packet { kind, bytes };
+fn repeat(server: &mut DhcpV4Server, times: u32, packet: &Packet) -> Result<u64, DhcpError> {
     let mut total = 0u64;
     for _ in 0..times {
-        let reply = length(&server.handle(0, &packet)?);
+        let reply = length(&server.handle(0, packet)?);
         total = total.saturating_add(packet.bytes.len().saturating_add(reply) as u64);
     }
     Ok(total)
+}
+
+// A packet from a socket.
+fn payload(bytes: Bytes) -> Packet {
+    let kind = PacketKind::Payload;
+    Packet { kind, bytes }
 }
 
 // How many bytes an answer has.
@@ -49,9 +52,8 @@ fn length(answer: &ServerAnswer) -> usize {
 fn fill(alloc: Global, server: &mut DhcpV4Server, count: u32) -> Result<(), DhcpError> {
     for number in 1..count {
         let address = END.saturating_sub(count.saturating_sub(number).saturating_add(1));
-        let kind = PacketKind::Payload;
-        let bytes = request(alloc, number, address_of(address))?;
-        drop(server.handle(0, &Packet { kind, bytes })?);
+        let packet = payload(request(alloc, number, address_of(address))?);
+        drop(server.handle(0, &packet)?);
     }
     Ok(())
 }
@@ -60,18 +62,23 @@ fn fill(alloc: Global, server: &mut DhcpV4Server, count: u32) -> Result<(), Dhcp
 fn request(alloc: Global, xid: u32, address: Ipv4Addr) -> Result<Bytes, DhcpError> {
     let mut message = DhcpV4Message::empty(alloc);
     message.xid = xid;
-    ask(&mut message.options, address)?;
+    written_request(alloc, &mut message, address)
+}
+
+// Makes a message a Request for this address, and writes it.
+#[tactic(auto, unfolding(dhcp4_msg::specs::Value::fits, dhcp4_msg::specs::Value::written_value))]
+fn written_request(
+    alloc: Global,
+    message: &mut DhcpV4Message,
+    address: Ipv4Addr,
+) -> Result<Bytes, DhcpError> {
+    let _address = address.octets();
+    let options = &mut message.options;
+    options.insert(DhcpV4Option::MessageType(DhcpV4MessageType::Request))?;
+    options.insert(DhcpV4Option::RequestedIpAddress(address))?;
     let mut buffer = BufferMut::new(alloc);
     message.emit(&mut buffer)?;
     Ok(buffer.into_bytes())
-}
-
-// Makes a message a Request for this address.
-#[tactic(auto, unfolding(dhcp4_msg::specs::Value::fits, dhcp4_msg::specs::Value::written_value))]
-fn ask(options: &mut DhcpV4Options, address: Ipv4Addr) -> Result<(), DhcpError> {
-    let _address = address.octets();
-    options.insert(DhcpV4Option::MessageType(DhcpV4MessageType::Request))?;
-    options.insert(DhcpV4Option::RequestedIpAddress(address))
 }
 
 // The configuration of a server with a pool of so many addresses.
