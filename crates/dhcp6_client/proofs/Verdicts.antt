@@ -1,6 +1,6 @@
 -- A packet is an answer if and only if its reading answers; no random word matters.
 use Rattle.std.proofs.Common.{◌≡◌, ℕ, List, [], Bool, true, false, refl, ap, sym, ◌∙◌, inl, inr}
-use Rattle.std.specs.Prelude.{◌==◌, Option, Some, None, Result, Ok, Err, IfOk, is_some, if◌then◌else◌}
+use Rattle.std.specs.Prelude.{◌==◌, Option, Some, None, Result, Ok, Err, IfOk, is_some}
 use Rattle.dhcp_wire.specs.Error.{ErrorParts}
 use Rattle.dhcp_wire.specs.Field.{◌>>=◌}
 use Rattle.dhcp_wire.specs.declared.error.ErrorKind.{ErrorKind}
