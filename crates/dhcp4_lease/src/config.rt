@@ -20,6 +20,7 @@ ghost use Rattle.dhcp4_lease.specs.Config.{
 };
 
 use crate::DhcpV4MessageForms;
+use crate::outcomes::both;
 use dhcp_wire::{
     Bytes, DhcpError, ErrorKind, FixedText, Sequence, Text, codes_of, parse_mac, setter_answer,
 };
@@ -100,15 +101,17 @@ impl DhcpV4Config {
     pub fn new(alloc: Global, iface_name: &str) -> Result<Self, DhcpError>
         ensures { Makes (λ config. config) result (config_of iface_name.now) }
     {
+        let iface_name = Text::from_str(alloc, iface_name);
+        let (iface_name, request_opts) = both(iface_name, codes_of(alloc, &DEFAULT_REQUESTS))?;
         Ok(DhcpV4Config {
-            iface_name: Text::from_str(alloc, iface_name)?,
+            iface_name,
             iface_index: 0,
             is_proxy: false,
             timeout_sec: 0,
             src_mac: [0; 6],
             client_id: Bytes::new(alloc),
             host_name: Text::new(alloc),
-            request_opts: codes_of(alloc, &DEFAULT_REQUESTS)?,
+            request_opts,
             message_forms: DhcpV4MessageForms::Mozim,
         })
     }
@@ -163,15 +166,24 @@ impl DhcpV4Config {
     pub fn try_clone(&self, alloc: Global) -> Result<Self, DhcpError>
         ensures { Makes (λ config. config) result self.now }
     {
+        let texts = both(
+            self.iface_name.try_clone(alloc),
+            self.host_name.try_clone(alloc),
+        );
+        let lists = both(
+            self.client_id.try_clone(alloc),
+            self.request_opts.try_clone(alloc),
+        );
+        let ((iface_name, host_name), (client_id, request_opts)) = both(texts, lists)?;
         Ok(DhcpV4Config {
-            iface_name: self.iface_name.try_clone(alloc)?,
+            iface_name,
             iface_index: self.iface_index,
             is_proxy: self.is_proxy,
             timeout_sec: self.timeout_sec,
             src_mac: self.src_mac,
-            client_id: self.client_id.try_clone(alloc)?,
-            host_name: self.host_name.try_clone(alloc)?,
-            request_opts: self.request_opts.try_clone(alloc)?,
+            client_id,
+            host_name,
+            request_opts,
             message_forms: self.message_forms,
         })
     }

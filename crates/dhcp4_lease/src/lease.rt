@@ -15,6 +15,7 @@ ghost use Rattle.dhcp4_lease.specs.Lease as Lease;
 ghost use Rattle.dhcp4_lease.specs.Lease.{HasFieldsOf, ReadsLease, ReadsLeaseBy, are_times_in_order, empty_lease, lease_of, times_in};
 
 use self::times::{LeaseTimes, read_times};
+use crate::outcomes::both;
 use dhcp_clock::Words;
 use dhcp_wire::{
     BROADCAST_MAC_ADDRESS, DhcpError, ErrorKind, FixedText, Sequence, Text, copied, copied_list,
@@ -227,7 +228,7 @@ impl DhcpV4Lease {
         ensures { Makes (λ lease. lease) result self.now }
     {
         let options = self.options.try_clone(alloc)?;
-        let (lists, names, routes) = self.copied_values(alloc)?;
+        let ((lists, names), routes) = self.copied_values(alloc)?;
         let (dns_srvs, gateways, ntp_srvs) = lists;
         let (host_name, domain_name) = names;
         Ok(DhcpV4Lease {
@@ -252,10 +253,12 @@ impl DhcpV4Lease {
     }
 
     // Copies of its lists of addresses, its names and its routes.
-    fn copied_values(&self, alloc: Global) -> Result<(Lists, Names, Option<Routes>), DhcpError>
+    fn copied_values(&self, alloc: Global) -> Result<((Lists, Names), Option<Routes>), DhcpError>
         ensures { Makes (λ made. made) result (
-          (self.now.dns_srvs, self.now.gateways, self.now.ntp_srvs),
-          (self.now.host_name, self.now.domain_name),
+          (
+            (self.now.dns_srvs, self.now.gateways, self.now.ntp_srvs),
+            (self.now.host_name, self.now.domain_name),
+          ),
           self.now.classless_routes,
         ) }
     {
@@ -264,10 +267,10 @@ impl DhcpV4Lease {
             self.dns_srvs.as_ref(),
             self.gateways.as_ref(),
             self.ntp_srvs.as_ref(),
-        )?;
-        let names = copied_names(alloc, self.host_name.as_ref(), self.domain_name.as_ref())?;
-        let routes = copied_list(alloc, self.classless_routes.as_ref())?;
-        Ok((lists, names, routes))
+        );
+        let names = copied_names(alloc, self.host_name.as_ref(), self.domain_name.as_ref());
+        let routes = copied_list(alloc, self.classless_routes.as_ref());
+        both(both(lists, names), routes)
     }
 }
 
@@ -294,7 +297,7 @@ fn lease_with(
 ) -> Result<DhcpV4Lease, DhcpError>
     ensures { Makes (λ lease. lease) result (Lease.lease_with siaddr yiaddr options times) }
 {
-    let (lists, names, routes) = values_in(alloc, &options)?;
+    let ((lists, names), routes) = values_in(alloc, &options)?;
     let (dns_srvs, gateways, ntp_srvs) = lists;
     let (host_name, domain_name) = names;
     Ok(DhcpV4Lease {
@@ -327,14 +330,16 @@ fn lease_with(
 fn values_in(
     alloc: Global,
     options: &DhcpV4Options,
-) -> Result<(Lists, Names, Option<Routes>), DhcpError>
+) -> Result<((Lists, Names), Option<Routes>), DhcpError>
     ensures { Makes (λ made. made) result (
       (
-        said_by addresses_said options.now 6,
-        said_by addresses_said options.now 3,
-        said_by addresses_said options.now 42,
+        (
+          said_by addresses_said options.now 6,
+          said_by addresses_said options.now 3,
+          said_by addresses_said options.now 42,
+        ),
+        (said_by text_said options.now 12, said_by text_said options.now 15),
       ),
-      (said_by text_said options.now 12, said_by text_said options.now 15),
       classless_routes options.now,
     ) }
 {
@@ -343,14 +348,13 @@ fn values_in(
         options.addresses(DhcpV4OptionCode::DomainNameServer),
         options.addresses(DhcpV4OptionCode::Router),
         options.addresses(DhcpV4OptionCode::NtpServers),
-    )?;
+    );
     let names = copied_names(
         alloc,
         options.text(DhcpV4OptionCode::HostName),
         options.text(DhcpV4OptionCode::DomainName),
-    )?;
-    let routes = options.classless_routes(alloc)?;
-    Ok((lists, names, routes))
+    );
+    both(both(lists, names), options.classless_routes(alloc))
 }
 
 // The refusal of a message that grants no lease.

@@ -14,6 +14,7 @@ ghost use Rattle.dhcp4_msg.specs.Message.{
   written_texts,
 };
 
+use crate::value::emit_addresses;
 use crate::{DhcpV4MessageType, DhcpV4OptionCode, DhcpV4Options, DhcpV4View};
 use dhcp_wire::{Buffer, BufferMut, DhcpError, ErrorKind, Text};
 use std::alloc::Global;
@@ -142,10 +143,8 @@ impl DhcpV4Message {
     fn emit_addresses(&self, buf: &mut BufferMut) -> Result<(), DhcpError>
         ensures { Emits result buf.old buf.new (written_addresses self.now) }
     {
-        buf.write_ipv4(self.ciaddr)?;
-        buf.write_ipv4(self.yiaddr)?;
-        buf.write_ipv4(self.siaddr)?;
-        buf.write_ipv4(self.giaddr)?;
+        let addresses = [self.ciaddr, self.yiaddr, self.siaddr, self.giaddr];
+        emit_addresses(&addresses, buf)?;
         buf.write_bytes(&self.chaddr)
     }
 

@@ -292,13 +292,13 @@ fn emit_all(options: &[DhcpV4Option], buf: &mut BufferMut) -> Result<(), DhcpErr
     Ok(())
 }
 
-// Puts the option in place of the one that stands there.
+// Puts the item in place of the one that stands there.
 #[inline(always)]
-fn put(kept: &mut Vec<DhcpV4Option>, place: usize, option: DhcpV4Option)
-    requires { place < length kept.old.items }
-    ensures { kept.new.items ≡ slice_set kept.old.items place option }
+fn put<T: Drop>(items: &mut Vec<T>, place: usize, item: T)
+    requires { place < length items.old.items }
+    ensures { items.new.items ≡ slice_set items.old.items place item }
 {
-    kept[place] = option;
+    items[place] = item;
 }
 
 // The reading of a raw option, if it has one.

@@ -210,7 +210,13 @@ impl DhcpV4Options {
         ensures err { IfErr result (λ e. (e ≡ no_memory) × (self.new ≡ self.old)) }
     {
         match &mut self.table {
-            Some(table) => Arc::make_mut(table)?.insert(option),
+            Some(table) => match Arc::make_mut(table) {
+                Ok(table) => table.insert(option),
+                Err(error) => {
+                    drop(option);
+                    Err(DhcpError::from(error))
+                }
+            },
             None => {
                 let mut table = OptionTable::new(self.alloc);
                 table.insert(option)?;

@@ -76,14 +76,16 @@ impl<'a> DhcpV4View<'a> {
             (ok_or (read_message payload.now) ErrorKind.InvalidDhcpMessage) }
     {
         let mut buf = Buffer::new(payload);
-        let (op, htype, hlen, hops, xid, secs, flags) = read_numbers(&mut buf)?;
-        let (ciaddr, yiaddr, siaddr, giaddr) = read_addresses(&mut buf)?;
+        let numbers = read_numbers(&mut buf)?;
+        let addresses = read_addresses(&mut buf)?;
         let chaddr = hardware_address(&mut buf)?;
         let sname = buf.get_str_with_null(64)?;
         let file = buf.get_str_with_null(128)?;
         if buf.get_u32_be()? != MAGIC_COOKIE {
             return Err(DhcpError::invalid_message(FixedText::Unreadable));
         }
+        let (op, htype, hlen, hops, xid, secs, flags) = numbers;
+        let (ciaddr, yiaddr, siaddr, giaddr) = addresses;
         Ok(DhcpV4View {
             op,
             htype,
@@ -158,17 +160,15 @@ impl<'a> DhcpV4View<'a> {
 
 // The numbers before the addresses: op, htype, hlen, hops, xid, secs and flags.
 #[inline(always)]
+#[tactic(auto, unfolding(dhcp_wire::specs::Field::bytes_at))]
 fn read_numbers(buf: &mut Buffer) -> Result<(u8, u8, u8, u8, u32, u16, u16), DhcpError>
     ensures { ReadsInPart (λ numbers. numbers) result buf.new (views.numbers_at buf.old) }
 {
-    let op = buf.get_u8()?;
-    let htype = buf.get_u8()?;
-    let hlen = buf.get_u8()?;
-    let hops = buf.get_u8()?;
+    let bytes = buf.get_bytes(4)?;
     let xid = buf.get_u32_be()?;
     let secs = buf.get_u16_be()?;
     let flags = buf.get_u16_be()?;
-    Ok((op, htype, hlen, hops, xid, secs, flags))
+    Ok((bytes[0], bytes[1], bytes[2], bytes[3], xid, secs, flags))
 }
 
 // The four addresses: ciaddr, yiaddr, siaddr and giaddr.

@@ -94,8 +94,8 @@ impl DhcpV4Config {
             (λ config. config.ghost_name ≡ self.entry.ghost_name) }
         ensures* refused { sem 𝓛 (UnchangedIfRefused self.entry (setter_answer result)) }
     {
-        self.client_id = joined(alloc, 1, &self.src_mac)?;
-        Ok(SetterStep { value: self })
+        let src_mac = self.src_mac;
+        self.put_client_id(alloc, 1, &src_mac)
     }
 
     // Puts the host name as client identifier, of type 0, if there is one.
