@@ -20,9 +20,9 @@ ghost use Rattle.dhcp4_lease.specs.Config.{
 };
 
 use crate::DhcpV4MessageForms;
-use crate::outcomes::both;
 use dhcp_wire::{
-    Bytes, DhcpError, ErrorKind, FixedText, Sequence, Text, codes_of, parse_mac, setter_answer,
+    Bytes, DhcpError, ErrorKind, FixedText, Sequence, Text, both, codes_of, parse_mac,
+    setter_answer,
 };
 use dhcp4_msg::DhcpV4OptionCode;
 use std::alloc::Global;

@@ -15,10 +15,10 @@ ghost use Rattle.dhcp4_lease.specs.Lease as Lease;
 ghost use Rattle.dhcp4_lease.specs.Lease.{HasFieldsOf, ReadsLease, ReadsLeaseBy, are_times_in_order, empty_lease, lease_of, times_in};
 
 use self::times::{LeaseTimes, read_times};
-use crate::outcomes::both;
 use dhcp_clock::Words;
 use dhcp_wire::{
-    BROADCAST_MAC_ADDRESS, DhcpError, ErrorKind, FixedText, Sequence, Text, copied, copied_list,
+    BROADCAST_MAC_ADDRESS, DhcpError, ErrorKind, FixedText, Sequence, Text, both, copied,
+    copied_list,
 };
 use dhcp4_msg::{DhcpV4ClasslessRoute, DhcpV4Message, DhcpV4OptionCode, DhcpV4Options};
 use std::alloc::Global;

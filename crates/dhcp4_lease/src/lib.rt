@@ -7,7 +7,6 @@ pub mod laws;
 mod lease;
 mod message_forms;
 mod message_table;
-mod outcomes;
 
 pub use config::DhcpV4Config;
 pub use laws::{
