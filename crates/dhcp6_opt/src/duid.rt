@@ -11,6 +11,7 @@ ghost use Rattle.dhcp6_opt.specs.DrawnDuid.{DrawsDuid};
 ghost use Rattle.dhcp6_opt.specs.Duid.{drawn_duid, duid_in, random_duid, written_duid};
 ghost use Rattle.dhcp6_opt.specs.Duid as duids;
 
+use crate::written::{emit_all, pair};
 use dhcp_clock::Words;
 use dhcp_wire::{
     Buffer, BufferMut, Bytes, DhcpError, ErrorKind, FixedText, TryClone, none_if_refused,
@@ -45,8 +46,9 @@ const LINK_LAYER_ADDRESS: u16 = 3;
 
 const UUID: u16 = 4;
 
-// A type that has no name, of identifiers that are made at random.
-const RANDOM: u16 = 255;
+// The low byte of a type that has no name, of identifiers that are made at random; the high byte is
+// 0.
+const RANDOM: u8 = 255;
 
 impl DhcpV6Duid {
     /// The identifier of these bytes. `InvalidDhcpMessage` if and only if there are fewer than two.
@@ -60,7 +62,7 @@ impl DhcpV6Duid {
         let kind = rest.get_u16_be()?;
         match typed(alloc, kind, rest.get_remains())? {
             Some(duid) => Ok(duid),
-            None => Ok(DhcpV6Duid::Raw(Bytes::from_slice(alloc, raw)?)),
+            None => Bytes::from_slice(alloc, raw).map(DhcpV6Duid::Raw),
         }
     }
 
@@ -72,8 +74,7 @@ impl DhcpV6Duid {
     {
         match self {
             DhcpV6Duid::LinkLayerAddressPlusTime(duid) => {
-                buf.write_u16_be(LINK_LAYER_ADDRESS_PLUS_TIME)?;
-                buf.write_u16_be(duid.hardware_type)?;
+                buf.write_bytes(&pair(LINK_LAYER_ADDRESS_PLUS_TIME, duid.hardware_type))?;
                 buf.write_u32_be(duid.time)?;
                 buf.write_bytes(duid.link_layer_address.as_slice())
             }
@@ -83,8 +84,7 @@ impl DhcpV6Duid {
                 buf.write_bytes(duid.identifier.as_slice())
             }
             DhcpV6Duid::LinkLayerAddress(duid) => {
-                buf.write_u16_be(LINK_LAYER_ADDRESS)?;
-                buf.write_u16_be(duid.hardware_type())?;
+                buf.write_bytes(&pair(LINK_LAYER_ADDRESS, duid.hardware_type()))?;
                 buf.write_bytes(duid.link_layer_address().as_slice())
             }
             DhcpV6Duid::UUID(duid) => {
@@ -142,12 +142,10 @@ impl DhcpV6Duid {
         ensures { Makes (λ made. made) result (random_duid a b c d) }
     {
         let [_, _, third, fourth] = a.to_be_bytes();
+        // the type stands in place of the first two bytes
+        let front = u32::from_be_bytes([0, RANDOM, third, fourth]);
         let mut buf = BufferMut::with_capacity(alloc, 16)?;
-        buf.write_u16_be(RANDOM)?;
-        buf.write_bytes(&[third, fourth])?;
-        buf.write_u32_be(b)?;
-        buf.write_u32_be(c)?;
-        buf.write_u32_be(d)?;
+        emit_all(&[front, b, c, d], &mut buf)?;
         Ok(DhcpV6Duid::Raw(buf.into_bytes()))
     }
 
@@ -156,17 +154,17 @@ impl DhcpV6Duid {
         ensures { Makes (λ made. made) result self.now }
     {
         match self {
-            DhcpV6Duid::LinkLayerAddressPlusTime(duid) => {
-                Ok(DhcpV6Duid::LinkLayerAddressPlusTime(duid.try_clone(alloc)?))
-            }
-            DhcpV6Duid::EnterpriseNumber(duid) => {
-                Ok(DhcpV6Duid::EnterpriseNumber(duid.try_clone(alloc)?))
-            }
-            DhcpV6Duid::LinkLayerAddress(duid) => {
-                Ok(DhcpV6Duid::LinkLayerAddress(duid.try_clone(alloc)?))
-            }
+            DhcpV6Duid::LinkLayerAddressPlusTime(duid) => duid
+                .try_clone(alloc)
+                .map(DhcpV6Duid::LinkLayerAddressPlusTime),
+            DhcpV6Duid::EnterpriseNumber(duid) => duid
+                .try_clone(alloc)
+                .map(DhcpV6Duid::EnterpriseNumber),
+            DhcpV6Duid::LinkLayerAddress(duid) => duid
+                .try_clone(alloc)
+                .map(DhcpV6Duid::LinkLayerAddress),
             DhcpV6Duid::UUID(duid) => Ok(DhcpV6Duid::UUID(*duid)),
-            DhcpV6Duid::Raw(bytes) => Ok(DhcpV6Duid::Raw(bytes.try_clone(alloc)?)),
+            DhcpV6Duid::Raw(bytes) => bytes.try_clone(alloc).map(DhcpV6Duid::Raw),
         }
     }
 }

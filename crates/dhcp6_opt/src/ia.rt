@@ -10,11 +10,11 @@ ghost use Rattle.dhcp_wire.specs.Outcome.{Emits, Gives, Makes};
 ghost use Rattle.dhcp6_opt.specs.Ia as ia;
 
 use crate::DhcpV6OptionStatus;
-use crate::status::{STATUS_CODE, is_no_failure, status_copy, status_len};
-use crate::written::{emit_if_some, len_if_some};
+use crate::status::{STATUS_CODE, is_no_failure, status_len};
+use crate::written::{emit_all, emit_if_some, len_if_some};
 pub use address::DhcpV6OptionIaAddr;
 use dhcp_wire::{Buffer, BufferMut, DhcpError, ErrorKind, TryClone};
-use inside::{IA_ADDRESS, InsideIa};
+use inside::{IA_ADDRESS, InsideIa, copied_both};
 pub use pd::DhcpV6OptionIaPd;
 pub use prefix::DhcpV6OptionIaPrefix;
 use std::alloc::Global;
@@ -111,12 +111,13 @@ impl DhcpV6OptionIaNa {
     pub fn try_clone(&self, alloc: Global) -> Result<Self, DhcpError>
         ensures { Makes (λ made. made) result self.now }
     {
+        let (address, status) = copied_both(alloc, &self.address, &self.status)?;
         Ok(DhcpV6OptionIaNa {
             iaid: self.iaid,
             t1_sec: self.t1_sec,
             t2_sec: self.t2_sec,
-            address: address_copy(alloc, &self.address)?,
-            status: status_copy(alloc, &self.status)?,
+            address,
+            status,
         })
     }
 }
@@ -127,9 +128,7 @@ impl DhcpV6OptionIaNa {
     pub(crate) fn emit(&self, buf: &mut BufferMut) -> Result<(), DhcpError>
         ensures { Emits result buf.old buf.new (ia.written_ia_na self.now) }
     {
-        buf.write_u32_be(self.iaid)?;
-        buf.write_u32_be(self.t1_sec)?;
-        buf.write_u32_be(self.t2_sec)?;
+        emit_all(&[self.iaid, self.t1_sec, self.t2_sec], buf)?;
         emit_if_some(IA_ADDRESS, &self.address, buf)?;
         emit_if_some(STATUS_CODE, &self.status, buf)
     }
@@ -224,10 +223,11 @@ impl DhcpV6OptionIaTa {
     pub fn try_clone(&self, alloc: Global) -> Result<Self, DhcpError>
         ensures { Makes (λ made. made) result self.now }
     {
+        let (address, status) = copied_both(alloc, &self.address, &self.status)?;
         Ok(DhcpV6OptionIaTa {
             iaid: self.iaid,
-            address: address_copy(alloc, &self.address)?,
-            status: status_copy(alloc, &self.status)?,
+            address,
+            status,
         })
     }
 }
@@ -255,18 +255,5 @@ impl DhcpV6OptionIaTa {
 impl TryClone for DhcpV6OptionIaTa {
     fn try_clone(&self, alloc: Global) -> Result<Self, DhcpError> {
         DhcpV6OptionIaTa::try_clone(self, alloc)
-    }
-}
-
-// A copy of an address, if there is one.
-fn address_copy(
-    alloc: Global,
-    address: &Option<DhcpV6OptionIaAddr>,
-) -> Result<Option<DhcpV6OptionIaAddr>, DhcpError>
-    ensures { Makes (λ made. made) result address.now }
-{
-    match address {
-        Some(address) => Ok(Some(address.try_clone(alloc)?)),
-        None => Ok(None),
     }
 }

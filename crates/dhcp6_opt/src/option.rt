@@ -2,14 +2,14 @@
 
 mod order;
 
-ghost use Rattle.std.specs.Prelude.{◌≡◌, [], ◌++◌, IfOk, IsTrue};
-ghost use Rattle.std.specs.Int.{w16, to_be_bytes};
+ghost use Rattle.std.specs.Prelude.{◌≡◌, [], IfOk, IsTrue};
 ghost use Rattle.dhcp_wire.specs.Outcome.{Emits, Makes, ReadsOption};
 ghost use Rattle.dhcp6_opt.specs.OptionCode.{code_of};
 ghost use Rattle.dhcp6_opt.specs.Options.{option_at};
 ghost use Rattle.dhcp6_opt.specs.Value.{fits, has_own_code, option_code, written_option};
 
 use crate::value::read_value;
+use crate::written::pair;
 use crate::{
     DhcpV6Duid, DhcpV6OptionCode, DhcpV6OptionIaAddr, DhcpV6OptionIaNa, DhcpV6OptionIaPd,
     DhcpV6OptionIaPrefix, DhcpV6OptionIaTa, DhcpV6OptionNtpServer, DhcpV6OptionStatus,
@@ -144,7 +144,7 @@ impl DhcpV6Option {
         requires { IsTrue (fits self.now) }
         ensures { Emits result buf.old buf.new (written_option self.now) }
     {
-        buf.write_bytes(&header(u16::from(self.code()), self.value_len() as u16))?;
+        buf.write_bytes(&pair(u16::from(self.code()), self.value_len() as u16))?;
         self.emit_value(buf)
     }
 
@@ -234,13 +234,4 @@ impl TryClone for DhcpV6Option {
     fn try_clone(&self, alloc: Global) -> Result<Self, DhcpError> {
         DhcpV6Option::try_clone(self, alloc)
     }
-}
-
-// What stands before the value of an option: its code, and the length of the value.
-fn header(code: u16, len: u16) -> [u8; 4]
-    ensures { result ≡ to_be_bytes w16 code ++ to_be_bytes w16 len }
-{
-    let [code_high, code_low] = code.to_be_bytes();
-    let [len_high, len_low] = len.to_be_bytes();
-    [code_high, code_low, len_high, len_low]
 }

@@ -225,10 +225,7 @@ impl DhcpV6Options {
             All (λ option. IsTrue (fits option.now)) ordered.items) }
         ensures groups { IfOk result (λ _. AreGroups (map.entries self.now)) }
     {
-        let mut ordered = Vec::with_capacity(self.alloc, self.kept.len())?;
-        for option in &self.kept {
-            ordered.push(option)?;
-        }
+        let mut ordered: Vec<&DhcpV6Option> = self.kept.iter().collect(self.alloc)?;
         ordered.sort_by_key(|option| u16::from(option.code()))?;
         Ok(ordered)
     }
@@ -240,7 +237,7 @@ impl DhcpV6Options {
             (option_map (map written_option) (map.get self.now code)) }
     {
         match first_of(&self.index, code) {
-            Some(_) => Ok(Some(written_numbered(alloc, &self.kept, code)?)),
+            Some(_) => written_numbered(alloc, &self.kept, code).map(Some),
             None => Ok(None),
         }
     }

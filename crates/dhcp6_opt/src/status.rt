@@ -159,7 +159,7 @@ pub(crate) fn status_after(
     }
     match OptionFormat::DhcpV6.raw_option_at(bytes) {
         Some((raw, _)) if raw.code == STATUS_CODE => {
-            Ok(Some(DhcpV6OptionStatus::parse(alloc, raw.value)?))
+            DhcpV6OptionStatus::parse(alloc, raw.value).map(Some)
         }
         _ => Err(DhcpError::invalid_message(FixedText::Unreadable)),
     }
@@ -174,19 +174,6 @@ pub(crate) fn status_len(status: &Option<DhcpV6OptionStatus>) -> usize
     match status {
         Some(status) => 4 + status.written_len(),
         None => 0,
-    }
-}
-
-// A copy of a status, if there is one.
-pub(crate) fn status_copy(
-    alloc: Global,
-    status: &Option<DhcpV6OptionStatus>,
-) -> Result<Option<DhcpV6OptionStatus>, DhcpError>
-    ensures { Makes (λ made. made) result status.now }
-{
-    match status {
-        Some(status) => Ok(Some(status.try_clone(alloc)?)),
-        None => Ok(None),
     }
 }
 

@@ -1,6 +1,7 @@
 //! Writing: items one after the other, and a value as an option, RFC 8415 section 21.1.
 
-ghost use Rattle.std.specs.Prelude.{◌≡◌, ◌+◌, ◌-◌, ◌^◌, ◌≤◌, ◌%◌, ℕ, List, length, min};
+ghost use Rattle.std.specs.Prelude.{◌≡◌, ◌+◌, ◌-◌, ◌^◌, ◌≤◌, ◌%◌, ◌++◌, ℕ, List, length, min};
+ghost use Rattle.std.specs.Int.{w16, w32, to_be_bytes};
 ghost use Rattle.std.specs.List.{flat_map};
 ghost use Rattle.std.specs.Net.Addr.{ipv6_octets};
 ghost use Rattle.dhcp_wire.specs.Outcome.{Emits};
@@ -33,6 +34,18 @@ impl Written for Bytes {
 
     fn emit(&self, buf: &mut BufferMut) -> Result<(), DhcpError> {
         buf.write_bytes(self.as_slice())
+    }
+}
+
+impl Written for u32 {
+    ghost written = { λ number. to_be_bytes w32 number };
+
+    fn written_len(&self) -> usize {
+        4
+    }
+
+    fn emit(&self, buf: &mut BufferMut) -> Result<(), DhcpError> {
+        buf.write_u32_be(*self)
     }
 }
 
@@ -78,9 +91,17 @@ pub(crate) fn emit_as_option<T: Written>(
 ) -> Result<(), DhcpError>
     ensures { Emits result buf.old buf.new (as_option code (T.written value.now)) }
 {
-    buf.write_u16_be(code)?;
-    buf.write_u16_be(low_two_bytes(value.written_len()))?;
+    buf.write_bytes(&pair(code, low_two_bytes(value.written_len())))?;
     value.emit(buf)
+}
+
+// The bytes of two numbers, as of a code and a length.
+pub(crate) fn pair(first: u16, second: u16) -> [u8; 4]
+    ensures { result ≡ to_be_bytes w16 first ++ to_be_bytes w16 second }
+{
+    let [first_high, first_low] = first.to_be_bytes();
+    let [second_high, second_low] = second.to_be_bytes();
+    [first_high, first_low, second_high, second_low]
 }
 
 // The low two bytes of a length.

@@ -5,9 +5,9 @@ ghost use Rattle.dhcp_wire.specs.Outcome.{Gives, Makes};
 ghost use Rattle.dhcp6_opt.specs.Ia as ia;
 
 use crate::DhcpV6OptionStatus;
-use crate::status::{STATUS_CODE, status_after, status_copy, status_len};
-use crate::written::{Written, emit_if_some};
-use dhcp_wire::{Buffer, BufferMut, DhcpError, ErrorKind, TryClone};
+use crate::status::{STATUS_CODE, status_after, status_len};
+use crate::written::{Written, emit_all, emit_if_some};
+use dhcp_wire::{Buffer, BufferMut, DhcpError, ErrorKind, TryClone, copied};
 use std::alloc::Global;
 use std::net::Ipv6Addr;
 
@@ -73,7 +73,7 @@ impl DhcpV6OptionIaAddr {
             address: self.address,
             preferred_time_sec: self.preferred_time_sec,
             valid_time_sec: self.valid_time_sec,
-            status: status_copy(alloc, &self.status)?,
+            status: copied(alloc, self.status.as_ref())?,
         })
     }
 }
@@ -89,8 +89,7 @@ impl Written for DhcpV6OptionIaAddr {
     #[tactic(auto, unfolding(crate::specs::Ia::written_ia_address))]
     fn emit(&self, buf: &mut BufferMut) -> Result<(), DhcpError> {
         buf.write_ipv6(self.address)?;
-        buf.write_u32_be(self.preferred_time_sec)?;
-        buf.write_u32_be(self.valid_time_sec)?;
+        emit_all(&[self.preferred_time_sec, self.valid_time_sec], buf)?;
         emit_if_some(STATUS_CODE, &self.status, buf)
     }
 }

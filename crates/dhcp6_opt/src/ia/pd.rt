@@ -4,9 +4,9 @@ ghost use Rattle.std.specs.Prelude.{◌≡◌, ◌-◌, ◌^◌, length, min, ok
 ghost use Rattle.dhcp_wire.specs.Outcome.{Emits, Gives, Makes};
 ghost use Rattle.dhcp6_opt.specs.Ia as ia;
 
-use super::inside::{IA_PREFIX, InsideIa};
-use crate::status::{STATUS_CODE, is_no_failure, status_copy, status_len};
-use crate::written::{emit_if_some, len_if_some};
+use super::inside::{IA_PREFIX, InsideIa, copied_both};
+use crate::status::{STATUS_CODE, is_no_failure, status_len};
+use crate::written::{emit_all, emit_if_some, len_if_some};
 use crate::{DhcpV6OptionIaPrefix, DhcpV6OptionStatus};
 use dhcp_wire::{Buffer, BufferMut, DhcpError, ErrorKind, TryClone};
 use std::alloc::Global;
@@ -119,12 +119,13 @@ impl DhcpV6OptionIaPd {
     pub fn try_clone(&self, alloc: Global) -> Result<Self, DhcpError>
         ensures { Makes (λ made. made) result self.now }
     {
+        let (prefix, status) = copied_both(alloc, &self.prefix, &self.status)?;
         Ok(DhcpV6OptionIaPd {
             iaid: self.iaid,
             t1_sec: self.t1_sec,
             t2_sec: self.t2_sec,
-            prefix: prefix_copy(alloc, &self.prefix)?,
-            status: status_copy(alloc, &self.status)?,
+            prefix,
+            status,
         })
     }
 }
@@ -135,9 +136,7 @@ impl DhcpV6OptionIaPd {
     pub(crate) fn emit(&self, buf: &mut BufferMut) -> Result<(), DhcpError>
         ensures { Emits result buf.old buf.new (ia.written_ia_pd self.now) }
     {
-        buf.write_u32_be(self.iaid)?;
-        buf.write_u32_be(self.t1_sec)?;
-        buf.write_u32_be(self.t2_sec)?;
+        emit_all(&[self.iaid, self.t1_sec, self.t2_sec], buf)?;
         emit_if_some(IA_PREFIX, &self.prefix, buf)?;
         emit_if_some(STATUS_CODE, &self.status, buf)
     }
@@ -154,18 +153,5 @@ impl DhcpV6OptionIaPd {
 impl TryClone for DhcpV6OptionIaPd {
     fn try_clone(&self, alloc: Global) -> Result<Self, DhcpError> {
         DhcpV6OptionIaPd::try_clone(self, alloc)
-    }
-}
-
-// A copy of a prefix, if there is one.
-fn prefix_copy(
-    alloc: Global,
-    prefix: &Option<DhcpV6OptionIaPrefix>,
-) -> Result<Option<DhcpV6OptionIaPrefix>, DhcpError>
-    ensures { Makes (λ made. made) result prefix.now }
-{
-    match prefix {
-        Some(prefix) => Ok(Some(prefix.try_clone(alloc)?)),
-        None => Ok(None),
     }
 }

@@ -13,7 +13,7 @@ unfolding written_option
 returns c =
     let short : length (written_value c.args.self.now) ≤ 65535 = short_value _ c.requires in
     let len : c.value_len.result ≡ length (written_value c.args.self.now) = omega (arith, min, c.value_len.ensures, short) in
-    let code = c.header.ensures ∙ ap (λ n. to_be_bytes w16 n ++ to_be_bytes w16 c.value_len.result) (c.from.ensures ∙ ap number_of c.code.ensures) in
+    let code = c.pair.ensures ∙ ap (λ n. to_be_bytes w16 n ++ to_be_bytes w16 c.value_len.result) (c.from.ensures ∙ ap number_of c.code.ensures) in
     let long = ap (λ n. to_be_bytes w16 (number_of (option_code c.args.self.now)) ++ to_be_bytes w16 n) len in
     let front = c.in_ok-write_bytes.ensures ∙ ap (λ bytes. c.args.buf.now ++ bytes) (code ∙ long) in
     rw (as_option-parts _ (written_value c.args.self.now), ← append_assoc _ _ (written_value c.args.self.now)) (emits_last _ _ _ _ _ _ front c.emit_value.ensures)
