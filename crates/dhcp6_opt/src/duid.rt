@@ -46,9 +46,8 @@ const LINK_LAYER_ADDRESS: u16 = 3;
 
 const UUID: u16 = 4;
 
-// The low byte of a type that has no name, of identifiers that are made at random; the high byte is
-// 0.
-const RANDOM: u8 = 255;
+// A type that has no name, of identifiers that are made at random.
+const RANDOM: u16 = 255;
 
 impl DhcpV6Duid {
     /// The identifier of these bytes. `InvalidDhcpMessage` if and only if there are fewer than two.
@@ -142,10 +141,10 @@ impl DhcpV6Duid {
         ensures { Makes (λ made. made) result (random_duid a b c d) }
     {
         let [_, _, third, fourth] = a.to_be_bytes();
-        // the type stands in place of the first two bytes
-        let front = u32::from_be_bytes([0, RANDOM, third, fourth]);
         let mut buf = BufferMut::with_capacity(alloc, 16)?;
-        emit_all(&[front, b, c, d], &mut buf)?;
+        buf.write_u16_be(RANDOM)?;
+        buf.write_bytes(&[third, fourth])?;
+        emit_all(&[b, c, d], &mut buf)?;
         Ok(DhcpV6Duid::Raw(buf.into_bytes()))
     }
 
