@@ -46,20 +46,12 @@ const PRIVATE_ROUTES: u8 = 249;
 
 /// The options of a message, RFC 2132. Contracts see it as a finite map from number to option. A
 /// copy shares them, until the one or the other is changed.
-#[derive(Debug)]
+#[derive(Debug, Drop)]
 pub struct DhcpV4Options {
     // Gives the memory for a table.
     alloc: Global,
     // The options. Where there is no table, there are none.
     table: Option<Arc<OptionTable>>,
-}
-
-// By hand, so that a crate above proves one call where it drops options, and not each option anew.
-impl Drop for DhcpV4Options {
-    fn drop(self) {
-        let DhcpV4Options { alloc: _, table } = self;
-        drop(table);
-    }
 }
 
 impl Model for DhcpV4Options {

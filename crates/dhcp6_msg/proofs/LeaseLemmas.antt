@@ -1,10 +1,10 @@
 -- What every lease that is read has.
-use Rattle.std.proofs.Common.{◌≡◌, ℕ, ◌≤◌, true, false, not, length, IsTrue, IfErr, IfOk, IfSome, Option, Some, None, unwrap_or, Result, Ok, Err, cond, refl, sym, ap, subst, ◌∙◌, lit≤}
+use Rattle.std.proofs.Common.{◌≡◌, ℕ, ◌≤◌, true, false, not, length, IsTrue, IfOk, IfSome, Option, Some, None, unwrap_or, Result, Ok, Err, cond, refl, sym, ap, subst, ◌∙◌, lit≤}
 use Rattle.std.proofs.lemmas.Bool.{and_parts, leb-true}
 use Rattle.dhcp_wire.specs.declared.error.ErrorKind.{ErrorKind}
 use Rattle.dhcp_wire.specs.declared.error.ErrorKind.TheVariants.{InvalidDhcpMessage, NoLease}
 use Rattle.dhcp_wire.specs.Error.{ErrorParts}
-use Rattle.dhcp_wire.specs.Outcome.{Answers, Gives, Makes}
+use Rattle.dhcp_wire.specs.Outcome.{Answers, Gives}
 use Rattle.dhcp6_opt.specs.declared.duid.DhcpV6Duid.{DhcpV6Duid}
 use Rattle.dhcp6_opt.specs.declared.option.DhcpV6Option.TheVariants.{ServerId}
 use Rattle.dhcp6_opt.specs.Duid.{written_duid}
@@ -25,22 +25,6 @@ pub kept_is_short : (said : Option DhcpV6Duid) → IfSome said (λ duid. length 
 unfolding written_duid
 kept_is_short None short = lit≤ tt
 kept_is_short (Some duid) short = short
-
--- a copy, and another one beside it
-module _ {A B : Type 0} (first first' : A) (second : B) (made : Result B ErrorParts) where
-  pub both_are_made : (result : Result (A × B) ErrorParts) → IfOk result (λ both. (both.0 ≡ first) × (made ≡ Ok both.1)) → IfErr result (λ e. made ≡ Err e)
-      → first ≡ first' → Makes (λ made. made) made second → Makes (λ made. made) result (first', second)
-  both_are_made (Ok both) ok err same makes =
-      let other : both.1 ≡ second = subst (λ (made : Result B ErrorParts). Makes (λ made. made) made second) ok.1 makes in
-      ap (λ (x : A). (x, both.1)) (ok.0 ∙ same) ∙ ap (λ (y : B). (first', y)) other
-  both_are_made (Err e) ok err same makes = subst (λ (made : Result B ErrorParts). Makes (λ made. made) made second) err makes
-
-  -- what the other one has that it is a copy of
-  pub other_has : (Has : B → Type 0) (result : Result (A × B) ErrorParts) → IfOk result (λ both. (both.0 ≡ first) × (made ≡ Ok both.1))
-      → Makes (λ made. made) made second → Has second → IfOk result (λ both. Has both.1)
-  other_has Has (Ok both) ok makes has =
-      subst Has (sym (subst (λ (made : Result B ErrorParts). Makes (λ made. made) made second) ok.1 makes)) has
-  other_has Has (Err e) ok makes has = tt
 
 -- a lease that is granted is a grant
 pub granted-grant : (lease granted : Lease) → granted_lease lease ≡ Ok granted → IsTrue (is_grant granted)

@@ -25,7 +25,7 @@ ghost use Rattle.dhcp6_msg.specs.Lease.{
 
 use self::terms::{LeaseTerms, terms_of};
 use crate::{DhcpV6IaType, DhcpV6Message};
-use dhcp_wire::{Bytes, DhcpError, ErrorKind, FixedText, Sequence, Text, TryClone, beside};
+use dhcp_wire::{Bytes, DhcpError, ErrorKind, FixedText, Sequence, Text, TryClone, both};
 use dhcp6_opt::{
     DhcpV6Duid, DhcpV6Option, DhcpV6OptionCode, DhcpV6OptionStatus, DhcpV6OptionStatusCode,
     DhcpV6Options,
@@ -174,10 +174,11 @@ impl DhcpV6Lease {
     fn if_grant(self) -> Result<Self, DhcpError>
         ensures { Answers (λ lease. lease) result (Lease.granted_lease self) }
     {
-        let is_grant = self.is_grant();
-        is_grant
-            .then_some(self)
-            .ok_or(DhcpError::invalid_message(FixedText::Times))
+        if self.is_grant() {
+            Ok(self)
+        } else {
+            Err(DhcpError::invalid_message(FixedText::Times))
+        }
     }
 
     // Whether it grants something.
@@ -226,8 +227,14 @@ impl DhcpV6Lease {
     pub fn try_clone(&self, alloc: Global) -> Result<Self, DhcpError>
         ensures { Makes (λ lease. lease) result self.now }
     {
-        let (cli_duid, srv_duid) = copies(alloc, &self.cli_duid, &self.srv_duid)?;
-        let (ntp_srvs, options) = copies(alloc, &self.ntp_srvs, &self.options)?;
+        let (cli_duid, srv_duid) = both(
+            self.cli_duid.try_clone(alloc),
+            self.srv_duid.try_clone(alloc),
+        )?;
+        let (ntp_srvs, options) = both(
+            self.ntp_srvs.try_clone(alloc),
+            self.options.try_clone(alloc),
+        )?;
         Ok(DhcpV6Lease {
             t1_sec: self.t1_sec,
             t2_sec: self.t2_sec,
@@ -286,8 +293,6 @@ fn lease_with(alloc: Global, xid: u32, options: DhcpV6Options) -> Result<DhcpV6L
     ensures server { IfOk result (λ lease. length (written_duid lease.srv_duid) ≤ 65535) }
 {
     let terms = terms_of(&options);
-    let identifiers = identifiers_of(alloc, &options);
-    let (options, (cli_duid, srv_duid)) = beside(options, identifiers)?;
     Ok(DhcpV6Lease {
         t1_sec: terms.t1_sec,
         t2_sec: terms.t2_sec,
@@ -298,8 +303,8 @@ fn lease_with(alloc: Global, xid: u32, options: DhcpV6Options) -> Result<DhcpV6L
         ia_type: terms.ia_type,
         address: terms.address,
         prefix_len: terms.prefix_len,
-        cli_duid,
-        srv_duid,
+        cli_duid: copied_duid(alloc, client_of(&options))?,
+        srv_duid: copied_duid(alloc, server_of(&options))?,
         srv_ip: unicast_of(&options),
         ntp_srvs: Sequence::new(alloc),
         options,
@@ -360,35 +365,6 @@ fn unicast_of(options: &DhcpV6Options) -> Ipv6Addr
         Some(DhcpV6Option::ServerUnicast(address)) => *address,
         _ => Ipv6Addr::UNSPECIFIED,
     }
-}
-
-// Copies of the identifiers of the client and of the server that options say; the one without bytes
-// where they say none.
-fn identifiers_of(
-    alloc: Global,
-    options: &DhcpV6Options,
-) -> Result<(DhcpV6Duid, DhcpV6Duid), DhcpError>
-    ensures made { Makes (λ made. made) result (
-      unwrap_or (said_by client_said options.now 1) no_duid,
-      unwrap_or (said_by server_said options.now 2) no_duid,
-    ) }
-    ensures server { IfOk result (λ made. length (written_duid made.1) ≤ 65535) }
-{
-    let client = copied_duid(alloc, client_of(options))?;
-    beside(client, copied_duid(alloc, server_of(options)))
-}
-
-// Copies of two values.
-fn copies<A: TryClone, B: TryClone>(
-    alloc: Global,
-    first: &A,
-    second: &B,
-) -> Result<(A, B), DhcpError>
-    ensures { Makes (λ made. made) result (first.now, second.now) }
-{
-    let first = first.try_clone(alloc)?;
-    let second = second.try_clone(alloc)?;
-    Ok((first, second))
 }
 
 // A copy of an identifier; the one without bytes if there is none.

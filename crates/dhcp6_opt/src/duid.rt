@@ -61,7 +61,7 @@ impl DhcpV6Duid {
         let kind = rest.get_u16_be()?;
         match typed(alloc, kind, rest.get_remains())? {
             Some(duid) => Ok(duid),
-            None => Bytes::from_slice(alloc, raw).map(DhcpV6Duid::Raw),
+            None => Ok(DhcpV6Duid::Raw(Bytes::from_slice(alloc, raw)?)),
         }
     }
 
@@ -153,17 +153,17 @@ impl DhcpV6Duid {
         ensures { Makes (λ made. made) result self.now }
     {
         match self {
-            DhcpV6Duid::LinkLayerAddressPlusTime(duid) => duid
-                .try_clone(alloc)
-                .map(DhcpV6Duid::LinkLayerAddressPlusTime),
-            DhcpV6Duid::EnterpriseNumber(duid) => duid
-                .try_clone(alloc)
-                .map(DhcpV6Duid::EnterpriseNumber),
-            DhcpV6Duid::LinkLayerAddress(duid) => duid
-                .try_clone(alloc)
-                .map(DhcpV6Duid::LinkLayerAddress),
+            DhcpV6Duid::LinkLayerAddressPlusTime(duid) => {
+                Ok(DhcpV6Duid::LinkLayerAddressPlusTime(duid.try_clone(alloc)?))
+            }
+            DhcpV6Duid::EnterpriseNumber(duid) => {
+                Ok(DhcpV6Duid::EnterpriseNumber(duid.try_clone(alloc)?))
+            }
+            DhcpV6Duid::LinkLayerAddress(duid) => {
+                Ok(DhcpV6Duid::LinkLayerAddress(duid.try_clone(alloc)?))
+            }
             DhcpV6Duid::UUID(duid) => Ok(DhcpV6Duid::UUID(*duid)),
-            DhcpV6Duid::Raw(bytes) => bytes.try_clone(alloc).map(DhcpV6Duid::Raw),
+            DhcpV6Duid::Raw(bytes) => Ok(DhcpV6Duid::Raw(bytes.try_clone(alloc)?)),
         }
     }
 }

@@ -13,8 +13,8 @@ use crate::DhcpV6OptionStatus;
 use crate::status::{STATUS_CODE, is_no_failure, status_len};
 use crate::written::{emit_all, emit_if_some, len_if_some};
 pub use address::DhcpV6OptionIaAddr;
-use dhcp_wire::{Buffer, BufferMut, DhcpError, ErrorKind, TryClone};
-use inside::{IA_ADDRESS, InsideIa, copied_both};
+use dhcp_wire::{Buffer, BufferMut, DhcpError, ErrorKind, TryClone, copied};
+use inside::{IA_ADDRESS, InsideIa};
 pub use pd::DhcpV6OptionIaPd;
 pub use prefix::DhcpV6OptionIaPrefix;
 use std::alloc::Global;
@@ -111,13 +111,12 @@ impl DhcpV6OptionIaNa {
     pub fn try_clone(&self, alloc: Global) -> Result<Self, DhcpError>
         ensures { Makes (λ made. made) result self.now }
     {
-        let (address, status) = copied_both(alloc, &self.address, &self.status)?;
         Ok(DhcpV6OptionIaNa {
             iaid: self.iaid,
             t1_sec: self.t1_sec,
             t2_sec: self.t2_sec,
-            address,
-            status,
+            address: copied(alloc, self.address.as_ref())?,
+            status: copied(alloc, self.status.as_ref())?,
         })
     }
 }
@@ -223,11 +222,10 @@ impl DhcpV6OptionIaTa {
     pub fn try_clone(&self, alloc: Global) -> Result<Self, DhcpError>
         ensures { Makes (λ made. made) result self.now }
     {
-        let (address, status) = copied_both(alloc, &self.address, &self.status)?;
         Ok(DhcpV6OptionIaTa {
             iaid: self.iaid,
-            address,
-            status,
+            address: copied(alloc, self.address.as_ref())?,
+            status: copied(alloc, self.status.as_ref())?,
         })
     }
 }

@@ -63,9 +63,9 @@ impl DhcpV6OptionNtpServer {
             (ok_or (ntp_server_of (parts_of raw.entry)) ErrorKind.InvalidDhcpMessage) }
     {
         match raw.code {
-            SERVER_ADDRESS => ipv6_address_in(raw.value).map(DhcpV6OptionNtpServer::ServerAddr),
+            SERVER_ADDRESS => Ok(DhcpV6OptionNtpServer::ServerAddr(ipv6_address_in(raw.value)?)),
             MULTICAST_ADDRESS => {
-                ipv6_address_in(raw.value).map(DhcpV6OptionNtpServer::MulticastAddr)
+                Ok(DhcpV6OptionNtpServer::MulticastAddr(ipv6_address_in(raw.value)?))
             }
             SERVER_NAME => {
                 let (name, _) = name_at(alloc, raw.value)?;
@@ -99,9 +99,9 @@ impl DhcpV6OptionNtpServer {
             DhcpV6OptionNtpServer::MulticastAddr(address) => {
                 Ok(DhcpV6OptionNtpServer::MulticastAddr(*address))
             }
-            DhcpV6OptionNtpServer::ServerFqdn(name) => name
-                .try_clone(alloc)
-                .map(DhcpV6OptionNtpServer::ServerFqdn),
+            DhcpV6OptionNtpServer::ServerFqdn(name) => {
+                Ok(DhcpV6OptionNtpServer::ServerFqdn(name.try_clone(alloc)?))
+            }
             DhcpV6OptionNtpServer::Other(other) => {
                 let bytes = other.1.try_clone(alloc)?;
                 Ok(DhcpV6OptionNtpServer::Other((other.0, bytes)))

@@ -39,7 +39,7 @@ const OPTION_HEADER_LEN: usize = 4;
 
 /// The options of a message, RFC 8415 section 21. Contracts see, for each code number that is kept,
 /// by rising number, the list of its options in order of insertion.
-#[derive(Debug)]
+#[derive(Debug, Drop)]
 pub struct DhcpV6Options {
     // Gives the memory in which a write puts the options in order.
     alloc: Global,
@@ -47,19 +47,6 @@ pub struct DhcpV6Options {
     kept: Vec<DhcpV6Option>,
     // Where the first option of each code is, by rising number.
     index: Vec<IndexEntry>,
-}
-
-// By hand, so that a crate above proves one call where it drops options, and not each option anew.
-impl Drop for DhcpV6Options {
-    fn drop(self) {
-        let DhcpV6Options {
-            alloc: _,
-            kept,
-            index,
-        } = self;
-        drop(kept);
-        drop(index);
-    }
 }
 
 impl Model for DhcpV6Options {

@@ -103,13 +103,13 @@ fn report_release<S: Drop>(
     ensures outputs { OnOk result (outputs.new.items
         ≡ outputs.old.items ++ release_outputs number refuse handed released) }
 {
+    report_handed(number, refuse, handed, outputs)?;
     match released {
         Err(ReleaseError::OutOfMemory) => Err(AllocError),
         Err(ReleaseError::Refused) => {
-            report_handed(number, refuse, handed, outputs)?;
             report(number, Report::Failed(Failure::SendRefused), outputs)
         }
-        Ok(_) => report_handed(number, refuse, handed, outputs),
+        Ok(_) => Ok(()),
     }
 }
 
@@ -127,19 +127,15 @@ fn report_poll<S: Drop>(
     ensures outputs { OnOk result (outputs.new.items
         ≡ outputs.old.items ++ poll_outputs number refuse handed polled) }
 {
+    report_handed(number, refuse, handed, outputs)?;
     match polled {
         Err(RunError::OutOfMemory) => Err(AllocError),
         Err(RunError::TimedOut) => {
-            report_handed(number, refuse, handed, outputs)?;
             report(number, Report::Failed(Failure::TimedOut), outputs)?;
             Ok(false)
         }
-        Ok(None) => {
-            report_handed(number, refuse, handed, outputs)?;
-            Ok(false)
-        }
+        Ok(None) => Ok(false),
         Ok(Some(next)) => {
-            report_handed(number, refuse, handed, outputs)?;
             report(number, Report::Changed(next), outputs)?;
             Ok(true)
         }

@@ -58,7 +58,8 @@ triple_of parts = (parts.0, parts.1.0, parts.1.1)
 unfoldable pub three_at : {A B C : Type 0} → (List ℕ → Option A) → (List ℕ → Option B)
     → (List ℕ → Option C) → ℕ → List ℕ → Read (A × B × C)
 three_at first second third end text =
-    made_of triple_of (both (in_field first 32) (both (in_field second 32) (in_field third end))) text
+    made_of triple_of
+    (both (in_field first 32) (both (in_field second 32) (in_field third end))) text
 
 -- the route of its parts
 abbrev pub route_of : (Ipv4Addr × ℕ) × Ipv4Addr → DhcpV4ClasslessRoute

@@ -69,5 +69,5 @@ lease6_of parts = record {
 -- the fields of a lease, to the end of the line
 unfoldable pub lease6_at : Version → List ℕ → Read Lease6
 lease6_at version text =
-    made_of lease6_of
-    (both association_at (both server_at (both (times_at version) (version2_fields_at version)))) text
+    made_of lease6_of (both association_at (both server_at
+    (both (times_at version) (version2_fields_at version)))) text

@@ -12,17 +12,9 @@ use std::marker::Model;
 
 /// A list that contracts see as the list of its items, also as a field of another type. Lists are
 /// ordered as slices are: by the first item that differs, and else by length.
-#[derive(Debug)]
+#[derive(Debug, Drop)]
 pub struct Sequence<T> {
     kept: Vec<T>,
-}
-
-// By hand, so that a crate above proves one call where it drops a list.
-impl<T: Drop> Drop for Sequence<T> {
-    fn drop(self) {
-        let Sequence { kept } = self;
-        drop(kept);
-    }
 }
 
 /// A list of bytes.

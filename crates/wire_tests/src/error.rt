@@ -1,6 +1,8 @@
 //! Errors, their texts and contexts.
 
-use dhcp_wire::{DhcpError, ErrorContext, ErrorKind, FixedText, TryClone, none_if_refused, u16_in};
+use dhcp_wire::{
+    DhcpError, ErrorContext, ErrorKind, FixedText, TryClone, both, none_if_refused, u16_in,
+};
 use std::alloc::Global;
 
 // An error of a kind with a text of its own.
@@ -98,4 +100,23 @@ fn out_of_memory_alone_has_no_text(rt: HostRuntime) {
     for &text in &TEXTS {
         assert!(rt; !text.as_str().is_empty());
     }
+}
+
+// A read that was refused.
+fn refused() -> Result<u16, DhcpError> {
+    Err(DhcpError::invalid_message(FixedText::Short))
+}
+
+// A read that found no memory.
+fn no_memory() -> Result<u16, DhcpError> {
+    Err(DhcpError::out_of_memory())
+}
+
+#[test]
+fn of_two_errors_the_first_is_given(rt: HostRuntime) {
+    assert!(rt; both(Ok(1u16), Ok(2u16)) == Ok((1, 2)));
+    let short = DhcpError::invalid_message(FixedText::Short);
+    assert!(rt; both(refused(), no_memory()) == Err(short));
+    assert!(rt; both(no_memory(), refused()) == Err(DhcpError::out_of_memory()));
+    assert!(rt; both(Ok(1u16), no_memory()) == Err(DhcpError::out_of_memory()));
 }

@@ -3,7 +3,7 @@
 
 ghost use Rattle.std.specs.Prelude.{◌≡◌, ◌⊎◌, None, Some, ok_or, MatchResult};
 ghost use Rattle.dhcp_wire.specs.Error.{no_memory};
-ghost use Rattle.dhcp_wire.specs.Outcome.{Gives, Makes};
+ghost use Rattle.dhcp_wire.specs.Outcome.{Gives};
 ghost use Rattle.dhcp6_opt.specs.AddressKind.{AddressKind};
 ghost use Rattle.dhcp6_opt.specs.Ia as ia;
 ghost use Rattle.dhcp6_opt.specs.RawOption.{parts_of};
@@ -11,9 +11,7 @@ ghost use Rattle.dhcp6_opt.specs.RawOption.{parts_of};
 use super::{DhcpV6OptionIaAddr, DhcpV6OptionIaPrefix};
 use crate::DhcpV6OptionStatus;
 use crate::status::STATUS_CODE;
-use dhcp_wire::{
-    DhcpError, ErrorKind, FixedText, OptionFormat, RawOption, TryClone, beside, copied,
-};
+use dhcp_wire::{DhcpError, ErrorKind, FixedText, OptionFormat, RawOption};
 use std::alloc::Global;
 
 // The codes of the options that hold an address and a prefix.
@@ -109,16 +107,4 @@ impl<A: InnerAddress> InsideIa<A> {
         }
         Err(DhcpError::invalid_message(FixedText::Unreadable))
     }
-}
-
-// Copies of two values, each if it is there; out of memory is the only error.
-pub(crate) fn copied_both<A: TryClone, B: TryClone>(
-    alloc: Global,
-    first: &Option<A>,
-    second: &Option<B>,
-) -> Result<(Option<A>, Option<B>), DhcpError>
-    ensures { Makes (λ made. made) result (first.now, second.now) }
-{
-    let first = copied(alloc, first.as_ref())?;
-    beside(first, copied(alloc, second.as_ref()))
 }

@@ -4,11 +4,11 @@ ghost use Rattle.std.specs.Prelude.{◌≡◌, ◌-◌, ◌^◌, length, min, ok
 ghost use Rattle.dhcp_wire.specs.Outcome.{Emits, Gives, Makes};
 ghost use Rattle.dhcp6_opt.specs.Ia as ia;
 
-use super::inside::{IA_PREFIX, InsideIa, copied_both};
+use super::inside::{IA_PREFIX, InsideIa};
 use crate::status::{STATUS_CODE, is_no_failure, status_len};
 use crate::written::{emit_all, emit_if_some, len_if_some};
 use crate::{DhcpV6OptionIaPrefix, DhcpV6OptionStatus};
-use dhcp_wire::{Buffer, BufferMut, DhcpError, ErrorKind, TryClone};
+use dhcp_wire::{Buffer, BufferMut, DhcpError, ErrorKind, TryClone, copied};
 use std::alloc::Global;
 use std::net::Ipv6Addr;
 
@@ -119,13 +119,12 @@ impl DhcpV6OptionIaPd {
     pub fn try_clone(&self, alloc: Global) -> Result<Self, DhcpError>
         ensures { Makes (λ made. made) result self.now }
     {
-        let (prefix, status) = copied_both(alloc, &self.prefix, &self.status)?;
         Ok(DhcpV6OptionIaPd {
             iaid: self.iaid,
             t1_sec: self.t1_sec,
             t2_sec: self.t2_sec,
-            prefix,
-            status,
+            prefix: copied(alloc, self.prefix.as_ref())?,
+            status: copied(alloc, self.status.as_ref())?,
         })
     }
 }
