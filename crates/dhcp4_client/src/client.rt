@@ -21,18 +21,10 @@ use std::marker::Model;
 
 /// A client. It does nothing by itself: `run` polls it. Contracts see its configuration and the
 /// client of its rules. T1, T2 and the end of each lease that it holds are in order.
+#[derive(Drop)]
 pub struct DhcpV4Client {
     pub(crate) rules: ClientRules,
     client: Client<ClientState, Exchange>,
-}
-
-// By hand, so that a crate above proves one call where it drops a client.
-impl Drop for DhcpV4Client {
-    fn drop(self) {
-        let DhcpV4Client { rules, client } = self;
-        drop(rules);
-        drop(client);
-    }
 }
 
 impl Model for DhcpV4Client {

@@ -27,18 +27,10 @@ use std::marker::Model;
 
 /// A client. It does nothing by itself: `run` polls it. Contracts see its configuration and the
 /// client of its rules. T1, T2 and the lifetimes of each lease that it holds are in order.
+#[derive(Drop)]
 pub struct DhcpV6Client {
     pub(crate) rules: ClientRules,
     client: Client<ClientState, Exchange>,
-}
-
-// By hand, so that a crate above proves one call where it drops a client.
-impl Drop for DhcpV6Client {
-    fn drop(self) {
-        let DhcpV6Client { rules, client } = self;
-        drop(rules);
-        drop(client);
-    }
 }
 
 impl Model for DhcpV6Client {

@@ -23,18 +23,10 @@ use std::marker::Model;
 
 /// A client for configuration alone. It does nothing by itself: `run` polls it. Contracts see its
 /// configuration and the client of its rules.
+#[derive(Drop)]
 pub struct DhcpV6InfoClient {
     pub(crate) rules: ClientRules,
     client: Client<ClientState, Exchange>,
-}
-
-// By hand, so that a crate above proves one call where it drops a client.
-impl Drop for DhcpV6InfoClient {
-    fn drop(self) {
-        let DhcpV6InfoClient { rules, client } = self;
-        drop(rules);
-        drop(client);
-    }
 }
 
 impl Model for DhcpV6InfoClient {

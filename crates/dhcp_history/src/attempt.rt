@@ -157,13 +157,11 @@ pub(crate) fn receive<R: Rules, W: Words, L: DhcpLink>(
     if !is_listening(client.standing.phase) {
         return Ok(None);
     }
-    let packet = match link.receive() {
-        None => return Ok(None),
-        Some(packet) => packet,
+    let Some(packet) = link.receive() else {
+        return Ok(None);
     };
-    let answer = match rules.reading(&client.state, client.standing.exchange, packet, words)? {
-        None => return Ok(None),
-        Some(answer) => answer,
+    let Some(answer) = rules.reading(&client.state, client.standing.exchange, packet, words)? else {
+        return Ok(None);
     };
     let mut exchange = client.standing.exchange;
     let reported = rules.after_answer(&mut client.state, answer, now, &mut exchange)?;

@@ -7,7 +7,7 @@ returns-then-not-is_listening-clause-traced g c =
     hears_shut (g.R.Rules.protocol c.args.rules.now) g.W.Words.gives g.L.DhcpLink.moves c.args.now c.args.client.now _ refl c.args.words.now c.args.link.now
     (sym c.is_listening.ensures ∙ grind arith)
 
-pub returns-in-None-clause-traced : goal.returns-in-None-clause-traced
-returns-in-None-clause-traced g c =
+pub returns-in_default-clause-traced : goal.returns-in_default-clause-traced
+returns-in_default-clause-traced g c =
     hears_none (g.R.Rules.protocol c.args.rules.now) g.W.Words.gives g.L.DhcpLink.moves c.args.now c.args.client.now _ refl c.args.words.now c.args.link.now c.receive.new.self
-    (sym c.is_listening.ensures ∙ grind arith) c.in-None.ensures.moved
+    (sym c.is_listening.ensures ∙ grind arith) c.in_default.ensures.moved
