@@ -121,7 +121,8 @@ abbrev pub is_last_request : DhcpV4MessageForms → Exchange → Bool
 is_last_request Mozim exchange = false
 is_last_request Rfc2131 exchange = is_fourth exchange
 
--- a lease that was held before is requested four times
+-- Whether this attempt is the last one of its state: the fourth request of a lease that was held
+-- before, and of an offer as `is_last_request` says.
 abbrev pub is_last_attempt : DhcpV4MessageForms → ClientState → Exchange → Bool
 is_last_attempt forms InitReboot exchange = false
 is_last_attempt forms (Selecting offer) exchange = is_last_request forms exchange

@@ -3,7 +3,6 @@
 
 ghost use Rattle.std.specs.Prelude.{◌≡◌, ◌⊎◌, ℕ, All, Bool, List, Ok, Option, Some};
 ghost use Rattle.dhcp_clock.specs.Link.{Turn};
-ghost use Rattle.dhcp_history.specs.HeardBy.{IsEnded, IsHeard};
 ghost use Rattle.dhcp_history.specs.Machine.{View};
 ghost use Rattle.dhcp_history.specs.Traced.{IsPollBy};
 ghost use Rattle.dhcp4_client.specs.Granted.{LeasesAreGranted};

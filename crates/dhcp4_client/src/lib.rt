@@ -17,6 +17,6 @@ pub use dhcp_verdict::PacketVerdict;
 pub use dhcp4_lease::{
     DhcpV4Config, DhcpV4Lease, DhcpV4MessageForms, built_messages_read_back, discovery_is_short,
     new_discovery, new_rebind, new_reboot_request, new_release, new_renew, new_request,
-    requests_are_short, usual_times_are_in_order,
+    requests_are_short, server_of, usual_times_are_in_order,
 };
 pub use state::{DhcpV4State, PlainState};

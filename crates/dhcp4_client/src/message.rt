@@ -4,7 +4,6 @@
 ghost use Rattle.std.specs.Prelude.{◌≡◌, ◌≤◌, IfOk, IsTrue, length, option_copied};
 ghost use Rattle.dhcp_wire.specs.Outcome.{Makes};
 ghost use Rattle.dhcp_frame.specs.Write.{frame_bytes, most_payload};
-ghost use Rattle.dhcp4_msg.specs.Message.{written_message};
 ghost use Rattle.dhcp4_lease.specs.Config.{is_within_limits};
 ghost use Rattle.dhcp4_lease.specs.Laws.{RowIsShort};
 ghost use Rattle.dhcp4_lease.specs.MessageTable as table;
@@ -13,7 +12,7 @@ ghost use Rattle.dhcp4_client.specs.Message as messages;
 use crate::client_state::ClientState;
 use dhcp_clock::Handed;
 use dhcp_frame::{Frame, write_frame};
-use dhcp_wire::{BROADCAST_MAC_ADDRESS, BufferMut, Bytes, DhcpError};
+use dhcp_wire::{BROADCAST_MAC_ADDRESS, Bytes, DhcpError};
 use dhcp4_lease::{
     DhcpV4Config, DhcpV4Lease, DhcpV4MessageForms, discovery_is_short, new_discovery, new_rebind,
     new_reboot_request, new_release, new_renew, new_request, requests_are_short, server_of,
@@ -118,7 +117,7 @@ fn release_bytes(
 {
     requests_are_short(config, lease);
     let message = new_release(alloc, xid, config, lease)?;
-    bytes_of(alloc, &message)
+    message.to_bytes(alloc)
 }
 
 // The bytes of the message of a state.
@@ -136,7 +135,7 @@ fn payload_of(
 {
     has_short_message(config, state);
     let message = message_of(alloc, xid, config, state)?;
-    bytes_of(alloc, &message)
+    message.to_bytes(alloc)
 }
 
 // The message of a state. That of RENEWING and REBINDING has, by mozim's form, options 50 and 54,
@@ -175,15 +174,6 @@ fn has_short_message(config: &DhcpV4Config, state: &ClientState)
         ClientState::Renewing(bound) => requests_are_short(config, bound.lease()),
         ClientState::Rebinding(bound) => requests_are_short(config, bound.lease()),
     }
-}
-
-// The bytes of a message.
-fn bytes_of(alloc: Global, message: &DhcpV4Message) -> Result<Bytes, DhcpError>
-    ensures { Makes (λ bytes. bytes) result (written_message message.now) }
-{
-    let mut buffer = BufferMut::new(alloc);
-    message.emit(&mut buffer)?;
-    Ok(buffer.into_bytes())
 }
 
 /// The server that renews a lease, to which its renewals go: by RFC 2131 section 4.4.5 the one that

@@ -7,7 +7,6 @@ ghost use Rattle.dhcp_clock.specs.Wait as waits;
 ghost use Rattle.dhcp_clock.specs.Words.{DrawsBy};
 ghost use Rattle.dhcp_history.specs.Rules.{GivesDrawn, IsNext};
 ghost use Rattle.dhcp4_lease.specs.Config.{is_within_limits};
-ghost use Rattle.dhcp4_client.specs.Message as messages;
 ghost use Rattle.dhcp4_client.specs.Rules as table;
 ghost use Rattle.dhcp4_client.specs.State.{plain_state};
 ghost use Rattle.dhcp4_client.specs.declared.client_state.Exchange.{Exchange};
@@ -82,7 +81,8 @@ impl Rules for ClientRules {
         }
     }
 
-    // A lease that was held before is requested four times.
+    // Whether this attempt is the last one of its state: the fourth request of a lease that was
+    // held before, and of an offer as `is_last_request` says.
     fn is_last_attempt(&self, state: &ClientState, exchange: Exchange) -> bool {
         match state {
             ClientState::InitReboot => false,
@@ -171,6 +171,7 @@ impl Rules for ClientRules {
     }
 
     fn after_clean_up(&self, state: &mut ClientState, exchange: &mut Exchange) {
+        // It stays as it is; it is read so that the proof knows that.
         let _kept = *exchange;
         enter(state, ClientState::InitReboot);
     }

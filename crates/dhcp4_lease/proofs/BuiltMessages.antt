@@ -1,23 +1,18 @@
 -- The messages of the table are ones that read back.
-use Rattle.std.proofs.Common.{◌≡◌, ℕ, zero, suc, ◌<◌, ◌^◌, true, false, cond, List, [], ◌∷◌, ◌++◌, replicate, slice_index, IsTrue, IfSome, Option, Some, None, refl, sym, ◌∙◌, arith, length-append, lit<}
+use Rattle.std.proofs.Common.{◌≡◌, ℕ, zero, suc, ◌<◌, ◌^◌, List, [], ◌∷◌, ◌++◌, replicate, slice_index, IsTrue, IfSome, Option, Some, None, refl, arith, length-append, lit<}
 use Rattle.std.specs.List.{AllByRecursion}
-use Rattle.std.specs.Cmp.{nat_cmp_total, unsigned_tied}
-use Rattle.std.specs.Ordering.{nat_cmp, eq_by_cmp}
-use Rattle.std.specs.FinMap.{get, insert, empty, get-insert, get-empty}
+use Rattle.std.specs.FinMap.{empty}
 use Rattle.std.specs.declared.net.Ipv4Addr.{Ipv4Addr}
-use Rattle.std.proofs.lemmas.Bool.{eqb-true}
 use Rattle.std.proofs.lemmas.Str.{IsUtf8-nil}
-use Rattle.std.proofs.lemmas.Option.{none-some, same_Some}
 use Rattle.dhcp_wire.specs.Field.{FitsField}
 use Rattle.dhcp4_msg.specs.declared.message_type.DhcpV4MessageType.{DhcpV4MessageType}
 use Rattle.dhcp4_msg.specs.declared.option.DhcpV4Option.{DhcpV4Option}
 use Rattle.dhcp4_msg.specs.declared.option.DhcpV4Option.TheVariants.{HostName, RequestedIpAddress, MessageType, ServerIdentifier, ParameterRequestList, ClientIdentifier}
 use Rattle.dhcp4_msg.specs.OptionCode.{number_of}
 use Rattle.dhcp4_msg.specs.declared.message.DhcpV4Message.{DhcpV4Message}
-use Rattle.dhcp4_msg.specs.Laws.{FitsOption, ReadsBack, ReadsBackUnder, OptionsReadBack, MessageReadsBack, read_back}
+use Rattle.dhcp4_msg.specs.Laws.{FitsOption, ReadsBack, MessageReadsBack, read_back}
 use Rattle.dhcp4_msg.specs.Message.{no_address, read_message, written_message}
-use Rattle.dhcp4_msg.specs.Options.{OptionMap}
-use Rattle.dhcp4_msg.specs.Value.{option_code, option_number, fits}
+use Rattle.dhcp4_msg.specs.Value.{option_code, fits}
 use Rattle.std.specs.Net.Addr.{ipv4_octets, IsIpv4Addr}
 use Rattle.dhcp4_lease.specs.declared.message_forms.DhcpV4MessageForms.{DhcpV4MessageForms}
 use Rattle.dhcp4_lease.specs.declared.message_forms.DhcpV4MessageForms.TheVariants.{Mozim, Rfc2131}
@@ -25,36 +20,14 @@ use Rattle.dhcp4_lease.specs.declared.message_table.Row.{Row}
 use Rattle.dhcp4_lease.specs.Config.{Config, is_within_limits}
 use Rattle.dhcp4_lease.specs.Laws.{IsTyped, IsRow, RowReadsBack}
 use Rattle.dhcp4_lease.specs.Lease.{Lease}
-use Rattle.dhcp4_lease.specs.MessageTable.{client_option, extend, host_name_option, options_of, release, requested_option, server_of, server_option, table_message, with_options}
+use Rattle.dhcp4_lease.specs.MessageTable.{client_option, extend, host_name_option, options_of, release, requested_option, server_of, server_option, table_message}
+use Rattle.dhcp4_msg.proofs.AddedOptions.{Stands, all_added, none_kept}
 use Rattle.dhcp4_lease.proofs.OptionLemmas.{host_name_fits, requested_fits, server_fits, type_fits, requests_fit, client_fits, limits_of}
-
--- an option that reads back under its own number
-abbrev Stands : DhcpV4Option → Type 0
-Stands option = ReadsBackUnder (option_number option) option
 
 -- each option of two lists
 all_of_both : (xs ys : List DhcpV4Option) → AllByRecursion Stands xs → AllByRecursion Stands ys → AllByRecursion Stands (xs ++ ys)
 all_of_both [] ys all others = others
 all_of_both (x ∷ xs) ys all others = (all.0, all_of_both xs ys all.1 others)
-
--- one more option
-one_more : (kept : OptionMap) (option : DhcpV4Option) → OptionsReadBack kept → Stands option → OptionsReadBack (insert kept (option_number option) option)
-one_more kept option back stands q found is =
-    elim (eq_by_cmp nat_cmp q (option_number option)) as (λ b. eq_by_cmp nat_cmp q (option_number option) ≡ b → cond b (Some option) (get kept q) ≡ Some found → ReadsBackUnder q found) [
-      | true ↦ λ tied is.
-          let same : q ≡ option_number option = eqb-true _ _ (sym (unsigned_tied q (option_number option)) ∙ tied) in
-          rw (same, ← same_Some _ _ is) stands
-      | false ↦ λ _ is. back q found is
-    ] refl (sym (get-insert nat_cmp_total kept (option_number option) option q) ∙ is)
-
--- options that read back, added to others
-all_added : (list : List DhcpV4Option) (kept : OptionMap) → OptionsReadBack kept → AllByRecursion Stands list → OptionsReadBack (with_options kept list)
-all_added [] kept back all = back
-all_added (option ∷ list) kept back all = all_added list (insert kept (option_number option) option) (one_more kept option back all.0) all.1
-
--- where there are none
-none_kept : OptionsReadBack empty
-none_kept number option is = absurd (none-some _ (sym (get-empty nat_cmp number) ∙ is))
 
 -- Each kind of option of a row stands.
 

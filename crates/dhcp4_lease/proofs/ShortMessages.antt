@@ -1,61 +1,26 @@
 -- How long the messages of the table are.
-use Rattle.std.proofs.Common.{◌≡◌, ℕ, ◌+◌, ◌≤◌, List, [], ◌∷◌, ◌++◌, if◌then◌else◌, length, replicate, IsTrue, IfSome, Option, Some, None, refl, sym, ◌∙◌, arith, length-append, true, false, Bool, lit≤}
-use Rattle.std.specs.List.{flat_map}
-use Rattle.std.specs.Map.{values_of}
+use Rattle.std.proofs.Common.{◌≡◌, ℕ, ◌+◌, ◌≤◌, List, [], ◌∷◌, ◌++◌, length, replicate, IsTrue, IfSome, Option, Some, None, refl, arith, length-append}
 use Rattle.std.specs.FinMap as map
-use Rattle.std.specs.FinMap.{insert, empty, entries, put, values, entries-insert}
-use Rattle.std.specs.Cmp.{nat_cmp_total}
-use Rattle.std.specs.Ordering.{nat_cmp}
-use Rattle.std.specs.declared.cmp.Ordering.TheVariants.{Less, Equal, Greater}
+use Rattle.std.specs.FinMap.{empty}
 use Rattle.std.specs.declared.net.Ipv4Addr.{Ipv4Addr}
-use Rattle.std.specs.Int.{w16, w32, to_be_bytes}
+use Rattle.std.specs.Int.{w32, to_be_bytes}
 use Rattle.std.specs.Net.Addr.{ipv4_octets, IsIpv4Addr}
 use Rattle.std.proofs.lemmas.List.{length-map, length-take}
 use Rattle.dhcp_wire.specs.Field.{terminated_text}
-use Rattle.dhcp_wire.proofs.FieldLaws.{length-bytes_high_first}
 use Rattle.dhcp4_msg.specs.declared.option.DhcpV4Option.{DhcpV4Option}
 use Rattle.dhcp4_msg.specs.declared.option.DhcpV4Option.TheVariants.{MessageType, ParameterRequestList}
-use Rattle.dhcp4_msg.specs.declared.message.DhcpV4Message.{DhcpV4Message}
 use Rattle.dhcp4_msg.specs.OptionCode.{number_of}
 use Rattle.dhcp4_msg.specs.Message.{no_address, magic_cookie, written_numbers, written_addresses, written_texts, written_message}
-use Rattle.dhcp4_msg.specs.Options.{OptionMap, added_end, written_options}
-use Rattle.dhcp4_msg.specs.Value.{option_number, written_option, written_value}
+use Rattle.dhcp4_msg.specs.Options.{written_options}
+use Rattle.dhcp4_msg.specs.Value.{written_option, written_value}
 use Rattle.dhcp4_lease.specs.declared.message_forms.DhcpV4MessageForms.{DhcpV4MessageForms}
 use Rattle.dhcp4_lease.specs.declared.message_forms.DhcpV4MessageForms.TheVariants.{Mozim, Rfc2131}
 use Rattle.dhcp4_lease.specs.declared.message_table.Row.{Row}
 use Rattle.dhcp4_lease.specs.Config.{Config, is_within_limits}
 use Rattle.dhcp4_lease.specs.Laws.{IsTyped, IsRow, RowIsShort}
-use Rattle.dhcp4_lease.specs.MessageTable.{client_option, host_name_option, options_of, requested_option, server_option, table_message, with_options}
+use Rattle.dhcp4_lease.specs.MessageTable.{client_option, host_name_option, options_of, requested_option, server_option, table_message}
+use Rattle.dhcp4_msg.proofs.AddedOptions.{length-numbers, length-written_options, size_of-empty, size_of-with_options, total}
 use Rattle.dhcp4_lease.proofs.OptionLemmas.{limits_of}
-
--- how many bytes options take in a message, by entries of a map and as a list
-abbrev size_of : List (ℕ × DhcpV4Option) → ℕ
-size_of es = length (flat_map written_option (values_of es))
-
-abbrev total : List DhcpV4Option → ℕ
-total [] = 0
-total (option ∷ options) = length (written_option option) + total options
-
-size_of-first : (number : ℕ) (option : DhcpV4Option) (es : List (ℕ × DhcpV4Option)) → size_of ((number, option) ∷ es) ≡ length (written_option option) + size_of es
-size_of-first number option es = length-append (written_option option) (flat_map written_option (values_of es))
-
--- one more entry adds its own bytes at most
-size_of-put : (number : ℕ) (option : DhcpV4Option) (es : List (ℕ × DhcpV4Option)) → size_of (put nat_cmp number option es) ≤ size_of es + length (written_option option)
-size_of-put number option [] = omega (arith, size_of-first number option [])
-size_of-put number option (e ∷ es) =
-    elim (nat_cmp number e.0) as (λ order. size_of (map.Entries.by_order order ((number, option) ∷ e ∷ es) ((e.0, option) ∷ es) (e ∷ put nat_cmp number option es)) ≤ size_of (e ∷ es) + length (written_option option)) [
-      | Less ↦ omega (arith, size_of-first number option (e ∷ es))
-      | Equal ↦ omega (arith, size_of-first e.0 option es, size_of-first e.0 e.1 es)
-      | Greater ↦ omega (arith, size_of-first e.0 e.1 (put nat_cmp number option es), size_of-first e.0 e.1 es, size_of-put number option es)
-    ]
-
--- so do options that are added to others
-size_of-with_options : (options : List DhcpV4Option) (kept : OptionMap) → size_of (entries (with_options kept options)) ≤ size_of (entries kept) + total options
-size_of-with_options [] kept = omega arith
-size_of-with_options (option ∷ options) kept =
-    let added : size_of (entries (insert kept (option_number option) option)) ≤ size_of (entries kept) + length (written_option option) =
-    rw (entries-insert nat_cmp_total kept (option_number option) option) (size_of-put (option_number option) option (entries kept)) in
-    omega (arith, added, size_of-with_options options (insert kept (option_number option) option))
 
 -- how many bytes the options of a row take
 total-append : (xs ys : List DhcpV4Option) → total (xs ++ ys) ≡ total xs + total ys
@@ -114,34 +79,6 @@ total-options config row within is =
       total-append name requested,
     )
 
--- End adds a byte at most
-length-end : (found : Bool) → length {A = ℕ} (if found then [] else 255 ∷ []) ≤ 1
-length-end true = lit≤ tt
-length-end false = lit≤ tt
-
-length-added_end : (options : OptionMap) → length (added_end options) ≤ 1
-length-added_end options = length-end (map.contains_key options 255)
-
-length-written_options : (options : OptionMap) → length (written_options options) ≤ size_of (entries options) + 1
-unfolding written_options
-length-written_options options =
-    omega (arith, length-append (flat_map written_option (map.values options)) (added_end options), length-added_end options)
-
--- the fields before the options
-length-numbers : (message : DhcpV4Message) → length (written_numbers message) ≡ 12
-length-numbers message =
-    let id = to_be_bytes w32 message.xid in
-    let secs = to_be_bytes w16 message.secs in
-    let flags = to_be_bytes w16 message.flags in
-    omega (
-      arith,
-      length-append id (secs ++ flags),
-      length-append secs flags,
-      length-bytes_high_first 4 message.xid,
-      length-bytes_high_first 2 message.secs,
-      length-bytes_high_first 2 message.flags,
-    )
-
 length-addresses : (ciaddr : Ipv4Addr) (mac : List ℕ) → IsIpv4Addr ciaddr → length mac ≡ 6 →
     length (ipv4_octets ciaddr ++ (ipv4_octets no_address ++ (ipv4_octets no_address ++ (ipv4_octets no_address ++ (mac ++ replicate 10 0))))) ≡ 32
 length-addresses ciaddr mac is six =
@@ -151,14 +88,6 @@ length-addresses ciaddr mac is six =
 
 length-texts : length (terminated_text 64 [] ++ (terminated_text 128 [] ++ to_be_bytes w32 magic_cookie)) ≡ 196
 length-texts = refl
-
--- a map without entries takes none
-size_of-none : (es : List (ℕ × DhcpV4Option)) → length es ≡ 0 → size_of es ≡ 0
-size_of-none [] none = refl
-size_of-none (e ∷ es) none = absurd (omega (arith, none))
-
-size_of-empty : size_of (entries (map.empty {X = DhcpV4Option} {R = nat_cmp})) ≡ 0
-size_of-empty = size_of-none (entries map.empty) (sym (map.len-entries map.empty) ∙ map.len-empty nat_cmp DhcpV4Option)
 
 -- the message of a row
 length-message : (id : ℕ) (config : Config) (row : Row) → IsTrue (is_within_limits config) → IsTyped config → IsRow row →

@@ -11,14 +11,14 @@ use Rattle.dhcp_wire.specs.Field.{address_of}
 use Rattle.dhcp4_msg.specs.Message.{written_message}
 use Rattle.dhcp4_msg.specs.MessageType.{type_number}
 use Rattle.dhcp4_msg.specs.OptionCode.{code_of, number_of}
-use Rattle.dhcp4_msg.specs.Options.{OptionMap, written_options}
+use Rattle.dhcp4_msg.specs.Options.{OptionMap, with_options, written_options}
 use Rattle.dhcp4_msg.specs.Value.{option_code, option_number, written_option, written_value}
 use Rattle.dhcp4_msg.specs.declared.option.DhcpV4Option.{DhcpV4Option}
 use Rattle.dhcp4_msg.specs.declared.option_code.DhcpV4OptionCode.TheVariants.{DomainNameServer, Router, SubnetMask}
 use Rattle.dhcp4_lease.specs.Config.{Config}
 use Rattle.dhcp4_lease.specs.Lease.{Lease, empty_lease}
 use Rattle.dhcp4_lease.specs.declared.message_forms.DhcpV4MessageForms.TheVariants.{Mozim, Rfc2131}
-use Rattle.dhcp4_lease.specs.MessageTable.{discover, extend, options_of, release, table_message, with_options}
+use Rattle.dhcp4_lease.specs.MessageTable.{discover, extend, options_of, release, table_message}
 
 -- an option put among others, by its number
 abbrev placed : List (ℕ × DhcpV4Option) → DhcpV4Option → List (ℕ × DhcpV4Option)

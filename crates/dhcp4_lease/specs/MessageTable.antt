@@ -1,9 +1,8 @@
 -- The messages that a client sends, RFC 2131 section 4.3 and tables 4 and 5: one row for each. Two
 -- of them depend on the forms of the configuration, and so does option 61.
-use Rattle.std.specs.Prelude.{◌≡◌, ℕ, List, [], ◌∷◌, ◌++◌, fold, replicate, Option, Some, None, Result, Ok, Err, if◌then◌else◌, Bool}
+use Rattle.std.specs.Prelude.{ℕ, List, [], ◌∷◌, ◌++◌, replicate, Option, Some, None, if◌then◌else◌, Bool}
 use Rattle.std.specs.Net.Addr.{ipv4_octets}
 use Rattle.std.specs.Str.{bytes_eq}
-use Rattle.dhcp_wire.specs.Error.{ErrorParts, no_memory}
 use Rattle.std.specs.FinMap as options
 use Rattle.std.specs.declared.net.Ipv4Addr.{Ipv4Addr}
 use Rattle.dhcp4_msg.specs.declared.message_type.DhcpV4MessageType.TheVariants.{Discovery, Request, Release}
@@ -11,8 +10,7 @@ use Rattle.dhcp4_msg.specs.declared.option.DhcpV4Option.{DhcpV4Option}
 use Rattle.dhcp4_msg.specs.declared.option.DhcpV4Option.TheVariants.{HostName, RequestedIpAddress, MessageType, ServerIdentifier, ParameterRequestList, ClientIdentifier}
 use Rattle.dhcp4_msg.specs.declared.message.DhcpV4Message.{DhcpV4Message}
 use Rattle.dhcp4_msg.specs.Message.{no_address}
-use Rattle.dhcp4_msg.specs.Options.{OptionMap}
-use Rattle.dhcp4_msg.specs.Value.{option_number}
+use Rattle.dhcp4_msg.specs.Options.{with_options}
 use Rattle.dhcp4_lease.specs.declared.message_forms.DhcpV4MessageForms.{DhcpV4MessageForms}
 use Rattle.dhcp4_lease.specs.declared.message_forms.DhcpV4MessageForms.TheVariants.{Mozim, Rfc2131}
 use Rattle.dhcp4_lease.specs.declared.message_table.Row.{Row}
@@ -116,11 +114,6 @@ options_of config row =
     ++ ParameterRequestList config.request_opts
     ∷ client_option config.message_forms config.client_id
 
--- these options added to others, by their numbers
-abbrev pub with_options : OptionMap → List DhcpV4Option → OptionMap
-with_options kept list =
-    fold (λ kept option. options.insert kept (option_number option) option) kept list
-
 -- the message of a row with this transaction id: from a client, over Ethernet, from its MAC address
 unfoldable pub table_message : ℕ → Config → Row → DhcpV4Message
 table_message id config row = record {
@@ -140,9 +133,3 @@ table_message id config row = record {
   file = [];
   options = with_options options.empty (options_of config row);
 }
-
--- Options are added one after the other, or out of memory.
-abbrev pub Adds : {X : Type 0} →
-    Result X ErrorParts → OptionMap → OptionMap → List DhcpV4Option → Type 0
-Adds (Ok _) old new list = new ≡ with_options old list
-Adds (Err e) old new list = e ≡ no_memory

@@ -5,7 +5,6 @@ mod setters;
 ghost use Rattle.std.specs.Prelude.{◌≡◌, [], ◌∷◌, IfOk, Ok};
 ghost use Rattle.std.specs.Borrow.{sem};
 ghost use Rattle.dhcp_wire.specs.Outcome.{Answers, Gives, Makes};
-ghost use Rattle.dhcp4_msg.specs.OptionCode.{code_of};
 ghost use Rattle.dhcp4_lease.specs.Setter.{UnchangedIfRefused};
 ghost use Rattle.dhcp4_lease.specs.Config.{
   config_of,
@@ -38,7 +37,9 @@ pub struct DhcpV4Config {
     pub iface_name: Text,
     /// The index of the network interface; 0 is none.
     pub iface_index: u32,
-    /// Whether the client obtains a lease for another host, from whose MAC address it sends.
+    /// Whether the client obtains a lease for another host, from whose MAC address it sends. A
+    /// renewal is a payload from the lease's address all the same: a link that cannot send from it
+    /// refuses it, and the client waits for T2.
     pub is_proxy: bool,
     /// How long the client stays in a state other than done before it gives up, in seconds, counted
     /// anew in each state; 0 is no limit.

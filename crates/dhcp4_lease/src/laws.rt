@@ -47,7 +47,8 @@ pub fn discovery_is_short(config: &DhcpV4Config)
     is_typed(config);
 }
 
-/// So have its other messages.
+/// The other messages of a configuration within its limits have at most 1,027 bytes as well,
+/// whatever the transaction id.
 pub fn requests_are_short(config: &DhcpV4Config, lease: &DhcpV4Lease)
     requires { IsTrue (is_within_limits config.now) }
     ensures request { RowIsShort config.now (table.request lease.now) }

@@ -2,13 +2,12 @@
 
 mod times;
 
-ghost use Rattle.std.specs.Prelude.{◌≡◌, ◌⊎◌, IfOk, IfErr, IsTrue, None, count_ones, option_copied, option_map, replicate};
+ghost use Rattle.std.specs.Prelude.{◌≡◌, ◌⊎◌, IfOk, IfErr, IsTrue, None, count_ones, option_copied, option_map};
 ghost use Rattle.std.specs.FinMap as map;
 ghost use Rattle.std.specs.Net.Addr.{ipv4_bits};
 ghost use Rattle.std.specs.Vec.{vec_items};
 ghost use Rattle.dhcp_wire.specs.Error.{no_memory};
 ghost use Rattle.dhcp_wire.specs.Outcome.{Makes};
-ghost use Rattle.dhcp4_msg.specs.Message.{no_address};
 ghost use Rattle.dhcp4_msg.specs.Options.{classless_routes, said_by};
 ghost use Rattle.dhcp4_msg.specs.Value.{addresses_said, text_said, written_option};
 ghost use Rattle.dhcp4_lease.specs.Lease as Lease;
@@ -163,7 +162,7 @@ impl DhcpV4Lease {
     {
         match read_times(&msg.options, words) {
             Some(times) => copied_lease(alloc, msg, times),
-            None => Err(out_of_order()),
+            None => Err(no_grant()),
         }
     }
 
@@ -184,7 +183,7 @@ impl DhcpV4Lease {
     {
         match read_times(&msg.options, words) {
             Some(times) => lease_with(alloc, msg.siaddr, msg.yiaddr, msg.options, times),
-            None => Err(out_of_order()),
+            None => Err(no_grant()),
         }
     }
 
@@ -358,10 +357,10 @@ fn values_in(
 }
 
 // The refusal of a message that grants no lease.
-fn out_of_order() -> DhcpError
+fn no_grant() -> DhcpError
     ensures { result.kind ≡ ErrorKind.InvalidDhcpMessage }
 {
-    DhcpError::invalid_message(FixedText::Times)
+    DhcpError::invalid_message(FixedText::NoLease)
 }
 
 // The routes of a lease.
@@ -374,6 +373,7 @@ type Lists = (
     Option<Sequence<Ipv4Addr>>,
 );
 
+// Copies of these lists.
 fn copied_lists(
     alloc: Global,
     dns_srvs: Option<&Sequence<Ipv4Addr>>,
@@ -392,6 +392,7 @@ fn copied_lists(
 // The host name and the domain name of a lease.
 type Names = (Option<Text>, Option<Text>);
 
+// Copies of these names.
 fn copied_names(
     alloc: Global,
     host_name: Option<&Text>,

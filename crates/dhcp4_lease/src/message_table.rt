@@ -2,13 +2,13 @@
 //! of them depend on the forms of the configuration, and so does option 61.
 
 ghost use Rattle.std.specs.Prelude.{◌≡◌, ◌++◌, IsTrue, replicate};
-ghost use Rattle.std.specs.FinMap as map;
 ghost use Rattle.dhcp_wire.specs.Outcome.{Makes};
+ghost use Rattle.dhcp4_msg.specs.Options.{Adds};
 ghost use Rattle.dhcp4_msg.specs.Value.{fits};
 ghost use Rattle.dhcp4_msg.specs.declared.option.DhcpV4Option.TheVariants.{ClientIdentifier};
 ghost use Rattle.dhcp4_lease.specs.Config.{is_within_limits};
 ghost use Rattle.dhcp4_lease.specs.MessageTable as table;
-ghost use Rattle.dhcp4_lease.specs.MessageTable.{Adds, table_message};
+ghost use Rattle.dhcp4_lease.specs.MessageTable.{table_message};
 
 use crate::{DhcpV4Config, DhcpV4Lease, DhcpV4MessageForms};
 use dhcp_wire::{Bytes, DhcpError, Text};

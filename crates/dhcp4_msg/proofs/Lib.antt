@@ -1,3 +1,4 @@
+pub mod AddedOptions
 pub mod CodeLemmas
 pub mod LawLemmas
 pub mod MessageLaw

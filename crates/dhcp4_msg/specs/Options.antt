@@ -1,6 +1,6 @@
 -- Options as a map from their numbers, RFC 2132: how they are read from a list, how they are
 -- written, and how they are kept.
-use Rattle.std.specs.Prelude.{◌≡◌, ℕ, ◌<◌, ◌≤◌, ◌+◌, Bool, ◌==◌, ◌&&◌, List, [], ◌∷◌, ◌++◌, length, reverse, position, Option, Some, None, IsTrue, is_some, option_map, slice_get, slice_index_or, if◌then◌else◌}
+use Rattle.std.specs.Prelude.{◌≡◌, ℕ, ◌<◌, ◌≤◌, ◌+◌, Bool, ◌==◌, ◌&&◌, List, [], ◌∷◌, ◌++◌, length, reverse, position, Option, Some, None, IsTrue, is_some, option_map, slice_get, slice_index_or, if◌then◌else◌, fold, Result, Ok, Err}
 use Rattle.std.specs.Ordering.{nat_cmp}
 use Rattle.std.specs.List.{All, count_by, flat_map, filter_map}
 use Rattle.std.specs.Cmp.{IsPartialEquivalence, on_per, and_per, nat_eq_equiv, partial_equiv_from_equiv}
@@ -8,6 +8,7 @@ use Rattle.std.specs.Cmp.Lexicographic.{pointwise, lists_per}
 use Rattle.std.specs.Option.{option_or}
 use Rattle.std.specs.FinMap as map
 use Rattle.std.specs.declared.net.Ipv4Addr.{Ipv4Addr}
+use Rattle.dhcp_wire.specs.Error.{ErrorParts, no_memory}
 use Rattle.dhcp_wire.specs.Field.{Read, ◌>>=◌}
 use Rattle.dhcp_wire.specs.RawOption.{RawOptionParts, raw_option_at, raw_options}
 use Rattle.dhcp_wire.specs.declared.raw_option.RawOption.{RawOption}
@@ -62,6 +63,17 @@ entry_of raw = option_map (λ option. (raw.code, option)) (reading_of raw)
 abbrev pub with_entry : OptionMap → Option (ℕ × DhcpV4Option) → OptionMap
 with_entry options None = options
 with_entry options (Some entry) = map.insert options entry.0 entry.1
+
+-- a map with these options added to it, each in place of one with its number
+abbrev pub with_options : OptionMap → List DhcpV4Option → OptionMap
+with_options kept list =
+    fold (λ kept option. map.insert kept (option_number option) option) kept list
+
+-- Options are added one after the other, or out of memory.
+abbrev pub Adds : {X : Type 0} →
+    Result X ErrorParts → OptionMap → OptionMap → List DhcpV4Option → Type 0
+Adds (Ok _) old new list = new ≡ with_options old list
+Adds (Err e) old new list = e ≡ no_memory
 
 -- the options of some raw options: of each number the last that reads
 abbrev pub options_of : List RawOptionParts → OptionMap

@@ -168,7 +168,7 @@ fn address_is_whole(address: Ipv4Addr)
     an_address_reads_back(address);
 }
 
-// So have those of a list,
+// Each address of a list has four octets.
 fn addresses_are_whole(addresses: &[Ipv4Addr])
     ensures { AllByRecursion IsWhole addresses.now }
 {
@@ -177,7 +177,7 @@ fn addresses_are_whole(addresses: &[Ipv4Addr])
     }
 }
 
-// and those of routes.
+// Both addresses of each route have four octets.
 fn routes_are_whole(routes: &[DhcpV4ClasslessRoute])
     ensures { AllByRecursion HasWholeAddresses routes.now }
 {

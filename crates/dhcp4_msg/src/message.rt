@@ -2,7 +2,7 @@
 
 ghost use Rattle.std.specs.Prelude.{◌≡◌, ◌↔◌, None, ok_or};
 ghost use Rattle.std.specs.FinMap as map;
-ghost use Rattle.dhcp_wire.specs.Outcome.{Gives, Reads, Emits};
+ghost use Rattle.dhcp_wire.specs.Outcome.{Emits, Gives, Makes, Reads};
 ghost use Rattle.dhcp_wire.specs.Field.{bytes_at};
 ghost use Rattle.dhcp4_msg.specs.Options as options;
 ghost use Rattle.dhcp4_msg.specs.Message.{
@@ -16,7 +16,7 @@ ghost use Rattle.dhcp4_msg.specs.Message.{
 
 use crate::value::emit_addresses;
 use crate::{DhcpV4MessageType, DhcpV4OptionCode, DhcpV4Options, DhcpV4View};
-use dhcp_wire::{Buffer, BufferMut, DhcpError, ErrorKind, Text};
+use dhcp_wire::{Buffer, BufferMut, Bytes, DhcpError, ErrorKind, Text};
 use std::alloc::Global;
 use std::net::Ipv4Addr;
 
@@ -116,6 +116,15 @@ impl DhcpV4Message {
     {
         buf.reserve(self.options.room().saturating_add(HEADER_LEN))?;
         self.emit_parts(buf)
+    }
+
+    /// The bytes that the message is written as. Out of memory is the only error.
+    pub fn to_bytes(&self, alloc: Global) -> Result<Bytes, DhcpError>
+        ensures { Makes (λ bytes. bytes) result (written_message self.now) }
+    {
+        let mut buf = BufferMut::new(alloc);
+        self.emit(&mut buf)?;
+        Ok(buf.into_bytes())
     }
 
     // Writes the message, part by part.

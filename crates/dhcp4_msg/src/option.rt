@@ -129,7 +129,7 @@ impl DhcpV4Option {
         ensures fit { IfOk result (λ option. IsTrue (fits option)) }
     {
         let Some((raw, later)) = OptionFormat::DhcpV4.raw_option_at(buf.get_remains()) else {
-            return Err(DhcpError::invalid_message(FixedText::Unreadable));
+            return Err(DhcpError::invalid_message(FixedText::Short));
         };
         match read_value(alloc, DhcpV4OptionCode::from(raw.code as u8), raw.value) {
             Ok(option) => {

@@ -68,6 +68,7 @@ impl PartialEq for OptionTable {
     ghost laws = { same_options_per option_per.laws-law };
 
     fn eq(&self, other: &Self) -> bool {
+        // They are read so that the proof knows what each keeps.
         let _ = &self.kept;
         let _ = &other.kept;
         for number in 0..=u8::MAX {
@@ -222,7 +223,8 @@ impl OptionTable {
         Ok(())
     }
 
-    // Writes the options that are kept, by rising number, as most senders keep them.
+    // Writes the options that are kept, by rising number: in the order of the list where that
+    // rises, as it does in most messages, else place by place.
     fn emit_kept(&self, buf: &mut BufferMut) -> Result<(), DhcpError>
         ensures { Emits result buf.old buf.new (flat_map written_option (map.values self.now)) }
     {

@@ -4,7 +4,7 @@
 ghost use Rattle.std.specs.Prelude.{◌≡◌, length, map, ok_or, option_copied, take};
 ghost use Rattle.std.specs.List.{flat_map};
 ghost use Rattle.dhcp_wire.specs.Outcome.{Answers, Emits, Gives, Makes};
-ghost use Rattle.dhcp4_msg.specs.OptionCode.{code_of, number_of};
+ghost use Rattle.dhcp4_msg.specs.OptionCode.{number_of};
 ghost use Rattle.dhcp4_msg.specs.Route.{routes_of, written_route};
 ghost use Rattle.dhcp4_msg.specs.Value.{
   address_said,

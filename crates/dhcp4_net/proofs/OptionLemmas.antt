@@ -15,12 +15,12 @@ use Rattle.dhcp4_msg.specs.declared.option.DhcpV4Option.TheVariants.{MessageType
 use Rattle.dhcp4_msg.specs.Laws.{all_with_names, options_read_back, read_back, with_names}
 use Rattle.dhcp4_msg.specs.MessageType.{type_number}
 use Rattle.dhcp4_msg.specs.OptionCode.{number_of}
-use Rattle.dhcp4_msg.specs.Options.{OptionMap, message_type}
+use Rattle.dhcp4_msg.specs.Options.{OptionMap, message_type, with_options}
 use Rattle.dhcp4_msg.specs.Value.{option_code, type_said}
 use Rattle.dhcp4_lease.specs.declared.message_forms.DhcpV4MessageForms.{DhcpV4MessageForms}
 use Rattle.dhcp4_lease.specs.declared.message_forms.DhcpV4MessageForms.TheVariants.{Mozim, Rfc2131}
 use Rattle.dhcp4_lease.specs.Config.{Config}
-use Rattle.dhcp4_lease.specs.MessageTable.{client_option, host_name_option, options_of, requested_option, server_option, table_message, with_options}
+use Rattle.dhcp4_lease.specs.MessageTable.{client_option, host_name_option, options_of, requested_option, server_option, table_message}
 use Rattle.dhcp4_lease.specs.declared.message_table.Row.{Row}
 use Rattle.dhcp4_net.specs.Grants.{is_offer_or_ack}
 

@@ -47,7 +47,8 @@ use Rattle.dhcp4_net.specs.declared.script.NetAct.TheVariants.{CleanUp, Deliver,
 use Rattle.dhcp4_net.specs.declared.script.NetWho.TheVariants.{Client, Server}
 use Rattle.dhcp4_net.specs.declared.output.NetWhat.TheVariants.{Failed, Hold, Sent}
 use Rattle.dhcp4_server.specs.Answer.{Answer as Served}
-use Rattle.dhcp4_net.specs.OneAddress.{Holds, OneAddress, OneHolder, OwnsAt, held_from, ServesBy, ServesSoundly}
+use Rattle.dhcp4_client.specs.Held.{bound_lease}
+use Rattle.dhcp4_net.specs.OneAddress.{Holds, OneAddress, OneHolder, OwnsAt, ServesBy, ServesSoundly}
 use Rattle.dhcp4_net.proofs.AnswerLemmas.{Bound, bind_some, if_some}
 use Rattle.dhcp4_net.proofs.ClientLemmas as clients
 
@@ -92,11 +93,11 @@ module _ (serve : List Ack → ℕ → Packet → Served) (configs : ℕ → Con
 
   -- a lease rests on an Ack to the client, from the moment on from which it is held
   abbrev Backs : List Ack → ℕ → BoundLease Lease → Type 0
-  Backs acks client bound_lease = IsGranted lease bound acks (record {
+  Backs acks client held = IsGranted lease bound acks (record {
     xid = ids client;
-    address = ipv4_bits bound_lease.lease.yiaddr;
-    from = bound_lease.since;
-    until = bound_lease.since + 1000 * bound_lease.lease.lease_time_sec;
+    address = ipv4_bits held.lease.yiaddr;
+    from = held.since;
+    until = held.since + 1000 * held.lease.lease_time_sec;
   })
 
   pub record IsOwn (acks : List Ack) (client : ℕ) (view : View ClientState Exchange) : Type 0 where
@@ -398,7 +399,7 @@ module _ (serve : List Ack → ℕ → Packet → Served) (configs : ℕ → Con
         Backs acks client (record { lease = owns.lease; since = owns.since })
     owned acks client moment address view own owns = go view.state own.backed owns.is
       where
-        go : (state : ClientState) → HoldsBacked (Backs acks client) state → held_from state ≡ Some (record { lease = owns.lease; since = owns.since }) → Backs acks client (record { lease = owns.lease; since = owns.since })
+        go : (state : ClientState) → HoldsBacked (Backs acks client) state → bound_lease state ≡ Some (record { lease = owns.lease; since = owns.since }) → Backs acks client (record { lease = owns.lease; since = owns.since })
         go states.InitReboot h e = absurd (cc e)
         go (states.Selecting offer) h e = absurd (cc e)
         go (states.Rebooting held) h e = absurd (cc e)

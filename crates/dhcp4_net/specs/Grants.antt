@@ -36,6 +36,7 @@ grant_in message =
     then Some (record { xid = message.xid; address = ipv4_bits message.yiaddr })
     else None
 
+-- what a packet grants that comes to the port of a client
 unfoldable pub grant_of : Packet → Option Grant
 grant_of packet = message_in packet >>= grant_in
 
@@ -45,6 +46,8 @@ packet_of (handed.Frame bytes) = record { kind = kinds.Frame; bytes = bytes }
 packet_of (handed.Udp4 from to bytes) = record { kind = kinds.Payload; bytes = bytes }
 packet_of (handed.Udp6 from index bytes) = record { kind = kinds.Payload; bytes = bytes }
 
+-- ---- what proofs say of packets and clients; no clause cites it
+
 -- the addresses that a client takes of a message are IPv4 addresses
 pub record HasAddresses (message : DhcpV4Message) : Type 0 where
   pub yiaddr : IsIpv4Addr message.yiaddr
@@ -52,7 +55,7 @@ pub record HasAddresses (message : DhcpV4Message) : Type 0 where
   pub server : (address : Ipv4Addr) → said_by address_said message.options 54 ≡ Some address →
       IsIpv4Addr address
 
--- An Offer or an Ack has such addresses, and an Ack this lease time.
+-- whether a message offers or grants a lease
 abbrev pub is_offer_or_ack : DhcpV4Message → Bool
 is_offer_or_ack message = is_of_type Offer message || is_of_type Ack message
 
@@ -61,6 +64,8 @@ abbrev pub IsAnswerable : Packet → Type 0
 IsAnswerable packet =
     (message : DhcpV4Message) → message_to_server packet ≡ Some message → CanBeAnswered message
 
+-- a packet whose Offer or Ack has such addresses, whose Ack has this lease time, and which a server
+-- can answer
 pub record IsSound (lease_sec : ℕ) (packet : Packet) : Type 0 where
   pub addresses : (message : DhcpV4Message) → message_in packet ≡ Some message →
       is_offer_or_ack message ≡ true → HasAddresses message
@@ -92,17 +97,19 @@ HoldsBacked Backs (states.Done bound) = Backs bound
 HoldsBacked Backs (states.Renewing bound) = Backs bound
 HoldsBacked Backs (states.Rebinding bound) = Backs bound
 
--- what a client may show at an event that brings a packet: a lease that this grants it
+-- a lease that this packet grants the client with this transaction id
 pub record IsGrantedBy (lease_sec xid : ℕ) (packet : Packet) (lease : Lease) : Type 0 where
   pub grant : grant_of packet ≡ Some (record { xid = xid; address = ipv4_bits lease.yiaddr })
   pub time : lease.lease_time_sec ≡ lease_sec
 
+-- what a client may show as its lease, by what an event brings: what the packet grants it
 abbrev pub GrantedIn : ℕ → ℕ → Input Packet → Lease → Type 0
 GrantedIn lease_sec xid (Arrival packet) lease = IsGrantedBy lease_sec xid packet lease
 GrantedIn lease_sec xid Nothing lease = ⊥
 GrantedIn lease_sec xid Release lease = ⊥
 GrantedIn lease_sec xid CleanUp lease = ⊥
 
+-- a state that is reported at an event shows no lease but one that the event brings
 abbrev pub ShowsGrant : ℕ → ℕ → Input Packet → PlainState → Type 0
 ShowsGrant lease_sec xid input plain.InitReboot = Unit {0}
 ShowsGrant lease_sec xid input plain.Selecting = Unit {0}

@@ -42,21 +42,25 @@ pub record Net : Type 0 where
 
 -- 1. What a client's event adds.
 
+-- what grows: the packets sent, and what was reported
 pub record Log : Type 0 where
   pub sent : List SentPacket
   pub outputs : List NetOutput
 
 module _ (number now client : ℕ) where
+  -- one more output
   abbrev pub log_output : NetWhat → Log → Log
   log_output what log =
       record log { outputs = log.outputs ++ record { event = number; what = what } ∷ [] }
 
+  -- one more packet, which is reported by its number
   abbrev pub log_packet : Packet → Log → Log
   log_packet packet log = record {
     sent = log.sent ++ record { packet = packet; moment = now } ∷ [];
     outputs = log.outputs ++ record { event = number; what = Sent (length log.sent) } ∷ [];
   }
 
+  -- a state that a client reports: a lease that it has begun to hold is an output
   abbrev pub log_state : PlainState → Log → Log
   log_state plain.InitReboot log = log
   log_state plain.Selecting log = log
@@ -65,6 +69,7 @@ module _ (number now client : ℕ) where
   log_state plain.Renewing log = log
   log_state plain.Rebinding log = log
 
+  -- a report of a client: a message that the link took is a packet, a failed release is an output
   abbrev pub log_report : Report PlainState Handed → Log → Log
   log_report (reports.Handed message) log = log_packet (packet_of message) log
   log_report (reports.Refused message) log = log
@@ -72,22 +77,26 @@ module _ (number now client : ℕ) where
   log_report (reports.Failed SendRefused) log = log_output (Failed client) log
   log_report (reports.Failed TimedOut) log = log
 
+  -- reports one after the other
   abbrev pub log_reports : List (NumberedReport PlainState Handed) → Log → Log
   log_reports [] log = log
   log_reports (output ∷ outputs) log = log_reports outputs (log_report output.report log)
 
 -- 2. The events.
 
--- a packet that was sent by the given moment, so long before it at most
+-- a packet, if it was sent at most so long before this moment
 abbrev pub in_time : ℕ → ℕ → SentPacket → Option Packet
 in_time bound now sent = if nat_le now (sent.moment + bound) then Some sent.packet else None
 
+-- the packet of this number, if it may come at this moment
 abbrev pub delivered : ℕ → List SentPacket → ℕ → ℕ → Option Packet
 delivered bound sent now number = slice_get sent number >>= in_time bound now
 
+-- what a client reads of a packet
 abbrev pub arrival_of : Packet → Option (Input Packet)
 arrival_of packet = Some (inputs.Arrival packet)
 
+-- what happens at a client, if it may
 abbrev pub input_of : ℕ → List SentPacket → ℕ → NetAct → Option (Input Packet)
 input_of bound sent now Nothing = Some inputs.Nothing
 input_of bound sent now (Deliver number) = delivered bound sent now number >>= arrival_of
@@ -95,10 +104,12 @@ input_of bound sent now Release = Some inputs.Release
 input_of bound sent now CleanUp = Some inputs.CleanUp
 
 module _ (serve : List Ack → ℕ → Packet → Served) (configs : ℕ → Config) (bound count : ℕ) where
+  -- the event of a client's own history
   abbrev pub client_event : ℕ → ℕ → Bool → Input Packet → NumberedEvent Packet
   client_event number now refuse input =
       record { number = number; moment = now; refuse = refuse; input = input }
 
+  -- the network after what an event did to a client
   abbrev pub with_client : Net → ℕ → ℕ → EventEffect PlainState Handed ClientState Exchange →
       ℕ → Net
   with_client net number now effect client =
@@ -112,15 +123,18 @@ module _ (serve : List Ack → ℕ → Packet → Served) (configs : ℕ → Con
         outputs = log.outputs;
       }
 
+  -- the network after an event at a client
   abbrev pub after_client : Net → ℕ → ℕ → ℕ → Bool → Input Packet → Net
   after_client net number now client refuse input =
       with_client net number now (event_at (protocol (configs client))
       (client_event number now refuse input) (net.clients client)) client
 
+  -- a reply of the server, if there is one, is a packet
   abbrev pub log_reply : ℕ → ℕ → Option Packet → Log → Log
   log_reply number now None log = log
   log_reply number now (Some packet) log = log_packet number now 0 packet log
 
+  -- the network after a packet came to the server
   abbrev pub after_server : Net → ℕ → ℕ → Packet → Net
   after_server net number now packet =
       let served = serve net.acks now packet in
@@ -134,7 +148,7 @@ module _ (serve : List Ack → ℕ → Packet → Served) (configs : ℕ → Con
         outputs = log.outputs;
       }
 
-  -- an event of the number, if it may come
+  -- the network after an event with this number at this moment, if it may come
   abbrev pub after_who : Net → ℕ → ℕ → NetWho → Option Net
   after_who net number now (Client client refuse act) =
       if nat_lt client count
@@ -145,6 +159,7 @@ module _ (serve : List Ack → ℕ → Packet → Served) (configs : ℕ → Con
       delivered bound net.sent now packet
       >>= (λ packet. Some (after_server net number now packet))
 
+  -- the same, if moments do not fall
   abbrev pub after_event : Net → ℕ → NetEvent → Option Net
   after_event net number event =
       if nat_le net.now event.moment then after_who net number event.moment event.who else None

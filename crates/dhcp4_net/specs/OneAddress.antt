@@ -1,4 +1,4 @@
--- No address has two holders at one moment; and what is asked of a server for that.
+-- No address has two holders at one moment.
 use Rattle.std.specs.Prelude.{◌≡◌, ◌⊎◌, ℕ, ◌≤◌, ◌<◌, ◌+◌, ◌*◌, true, List, ◌∷◌, Option, Some, None}
 use Rattle.std.specs.List.{Contains}
 use Rattle.std.specs.declared.net.Ipv4Addr.{Ipv4Addr}
@@ -6,10 +6,9 @@ use Rattle.dhcp_clock.specs.declared.link.Packet.{Packet}
 use Rattle.dhcp4_server.specs.Ack.{Ack, is_free}
 use Rattle.dhcp4_server.specs.Answer.{Answer as Served}
 use Rattle.dhcp4_net.specs.Grants.{IsAnswerable, IsSound, grant_of}
-use Rattle.dhcp_history.specs.BoundLease.{Bound}
 use Rattle.dhcp4_lease.specs.Lease.{Lease}
 use Rattle.dhcp4_client.specs.declared.client_state.ClientState.{ClientState}
-use Rattle.dhcp4_client.specs.declared.client_state.ClientState.TheVariants as states
+use Rattle.dhcp4_client.specs.Held.{bound_lease}
 use Rattle.dhcp4_net.specs.Net.{Net}
 use Rattle.dhcp4_net.specs.declared.output.NetOutput.{NetOutput}
 use Rattle.dhcp4_net.specs.declared.output.NetWhat.TheVariants.{Hold}
@@ -30,21 +29,12 @@ OneAddress outputs =
     Holds moment client address one → Holds moment second address other →
     client ≡ second
 
--- the lease that a client holds by an Ack, with the moment from which it is held
-abbrev pub held_from : ClientState → Option (Bound Lease)
-held_from states.InitReboot = None
-held_from (states.Selecting offer) = None
-held_from (states.Rebooting held) = None
-held_from (states.Done bound) = Some bound
-held_from (states.Renewing bound) = Some bound
-held_from (states.Rebinding bound) = Some bound
-
 -- a client in this state holds the address at the moment: it holds a lease of it, which has begun
 -- and is not over
 pub record OwnsAt (moment : ℕ) (address : Ipv4Addr) (state : ClientState) : Type 0 where
   pub lease : Lease
   pub since : ℕ
-  pub is : held_from state ≡ Some (record { lease = lease; since = since })
+  pub is : bound_lease state ≡ Some (record { lease = lease; since = since })
   pub address_is : lease.yiaddr ≡ address
   pub begun : since ≤ moment
   pub lasts : moment < since + 1000 * lease.lease_time_sec
@@ -56,6 +46,8 @@ OneHolder count net =
     OwnsAt moment address (net.clients one).state →
     OwnsAt moment address (net.clients other).state →
     one ≡ other
+
+-- ---- what proofs say of the server; no clause cites it
 
 -- an Ack for an address that is free for its client
 pub record Grants (kept : ℕ) (acks : List Ack) (now : ℕ) (reply : Packet) (after : List Ack) :
@@ -71,6 +63,8 @@ pub record Denies (acks : List Ack) (reply : Packet) (after : List Ack) : Type 0
   pub none : grant_of reply ≡ None
   pub unchanged : after ≡ acks
 
+-- a server that has this reply and these Acks then, by the Acks so far: no reply leaves them, and a
+-- reply is sound, and grants an address that is free or denies
 abbrev pub ServesBy : ℕ → ℕ → List Ack → ℕ → Option Packet → List Ack → Type 0
 ServesBy kept lease_sec acks now None after = after ≡ acks
 ServesBy kept lease_sec acks now (Some reply) after =

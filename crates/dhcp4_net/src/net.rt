@@ -1,10 +1,10 @@
 //! A network, run by its script.
 
-ghost use Rattle.std.specs.Prelude.{◌≡◌, ◌<◌, ◌^◌, All, IfOk, IfSome, length, ok_or, true};
+ghost use Rattle.std.specs.Prelude.{◌≡◌, ◌<◌, All, IfOk, IfSome, length, ok_or, true};
 ghost use Rattle.dhcp_wire.specs.Outcome.{Gives};
-ghost use Rattle.dhcp4_net.specs.Clients.{HaveDistinctIds, IsTypedClient};
+ghost use Rattle.dhcp4_net.specs.Clients.{IsTypedClient};
 ghost use Rattle.dhcp4_net.specs.OneAddress.{OneAddress, OneHolder};
-ghost use Rattle.dhcp4_net.specs.Script.{IsWithin, are_distinct, is_within_limits, net_at_end, outputs_at_end};
+ghost use Rattle.dhcp4_net.specs.Script.{IsWithin, is_within_limits, net_at_end, outputs_at_end};
 
 use crate::running::RunningNet;
 use crate::{NetClient, NetOutput, NetScript};

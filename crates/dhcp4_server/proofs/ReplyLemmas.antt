@@ -1,20 +1,16 @@
 -- The replies of a server read back as they are written, and are short.
-use Rattle.std.proofs.Common.{◌≡◌, ℕ, zero, suc, ◌+◌, ◌*◌, ◌/◌, ◌<◌, ◌≤◌, ◌^◌, Bool, true, false, cond, List, [], ◌∷◌, ◌++◌, length, slice_index, Option, Some, refl, sym, ap, subst, ◌∙◌, arith, length-append, append-nil, lit<, lit≤}
-use Rattle.std.specs.Prelude.{if◌then◌else◌}
-use Rattle.std.specs.List.{AllByRecursion, flat_map}
-use Rattle.std.specs.Cmp.{nat_cmp_total, unsigned_tied}
+use Rattle.std.proofs.Common.{◌≡◌, ℕ, zero, suc, ◌+◌, ◌*◌, ◌/◌, ◌<◌, ◌≤◌, ◌^◌, cond, List, [], ◌∷◌, ◌++◌, length, slice_index, Option, Some, refl, ap, subst, ◌∙◌, arith, length-append, append-nil, lit<}
+use Rattle.std.specs.List.{AllByRecursion}
+use Rattle.std.specs.Cmp.{nat_cmp_total}
 use Rattle.std.specs.Ordering.{nat_cmp, eq_by_cmp}
-use Rattle.std.specs.Map.{values_of}
 use Rattle.std.specs.FinMap as map
-use Rattle.std.specs.FinMap.{get, insert, empty, entries, put, values, entries-insert, get-insert, get-empty}
-use Rattle.std.specs.declared.cmp.Ordering.TheVariants.{Less, Equal, Greater}
-use Rattle.std.specs.Int.{w16, w32, to_be_bytes}
+use Rattle.std.specs.FinMap.{get, insert, empty, get-insert}
+use Rattle.std.specs.Int.{w32, to_be_bytes}
 use Rattle.std.specs.declared.net.Ipv4Addr.{Ipv4Addr}
 use Rattle.std.specs.Net.Addr.{ipv4_octets, ipv4_bits, IsIpv4Addr}
-use Rattle.std.proofs.lemmas.Bool.{and_from, eqb-true, le-leb}
+use Rattle.std.proofs.lemmas.Bool.{and_from, le-leb}
 use Rattle.std.proofs.lemmas.Nat.{from_be_bytes-to_be_bytes_4}
 use Rattle.std.proofs.lemmas.Str.{IsUtf8-nil}
-use Rattle.std.proofs.lemmas.Option.{none-some, same_Some}
 use Rattle.dhcp_wire.specs.Field.{FitsField}
 use Rattle.dhcp_wire.proofs.FieldLaws.{length-bytes_high_first}
 use Rattle.dhcp4_msg.specs.declared.message.DhcpV4Message.{DhcpV4Message}
@@ -23,37 +19,19 @@ use Rattle.dhcp4_msg.specs.declared.message_type.DhcpV4MessageType.TheVariants a
 use Rattle.dhcp4_msg.specs.declared.option.DhcpV4Option.{DhcpV4Option}
 use Rattle.dhcp4_msg.specs.declared.option.DhcpV4Option.TheVariants.{SubnetMask, IpAddressLeaseTime, MessageType, ServerIdentifier, RenewalTime, RebindingTime}
 use Rattle.dhcp4_msg.specs.OptionCode.{number_of}
-use Rattle.dhcp4_msg.specs.Laws.{ReadsBack, ReadsBackUnder, OptionsReadBack, MessageReadsBack, read_back}
+use Rattle.dhcp4_msg.specs.Laws.{ReadsBack, MessageReadsBack, read_back}
 use Rattle.dhcp4_msg.specs.Message.{no_address, read_message, written_addresses, written_message, written_numbers, written_texts}
-use Rattle.dhcp4_msg.specs.Options.{OptionMap, added_end, written_options}
+use Rattle.dhcp4_msg.specs.Options.{OptionMap, with_options, written_options}
 use Rattle.dhcp4_msg.specs.Value.{fits, option_code, option_number, written_option, written_value}
+use Rattle.dhcp4_msg.proofs.AddedOptions.{Stands, all_added, length-numbers, length-written_options, none_kept, size_of-empty, size_of-with_options, total}
 use Rattle.dhcp4_msg.proofs.MessageLaw.{message_back}
 use Rattle.dhcp_frame.proofs.Back.{read_frame-frame_bytes}
 use Rattle.dhcp4_server.specs.Request.{CanBeAnswered}
-use Rattle.dhcp4_server.specs.Reply.{IsFramed, address_of_bits, granting, granting_options, refusing, refusing_options, reply_frame, reply_message, with_options}
+use Rattle.dhcp4_server.specs.Reply.{IsFramed, address_of_bits, granting, granting_options, refusing, refusing_options, reply_frame, reply_message}
 use Rattle.dhcp4_server.specs.Config.{IsTyped}
 use Rattle.dhcp4_server.specs.declared.config.ServerConfig.{ServerConfig}
 
 -- 1. The options of a reply stand.
-
-abbrev Stands : DhcpV4Option → Type 0
-Stands option = ReadsBackUnder (option_number option) option
-
-one_more : (kept : OptionMap) (option : DhcpV4Option) → OptionsReadBack kept → Stands option → OptionsReadBack (insert kept (option_number option) option)
-one_more kept option back stands q found is =
-    elim (eq_by_cmp nat_cmp q (option_number option)) as (λ b. eq_by_cmp nat_cmp q (option_number option) ≡ b → cond b (Some option) (get kept q) ≡ Some found → ReadsBackUnder q found) [
-      | true ↦ λ tied is.
-          let same : q ≡ option_number option = eqb-true _ _ (sym (unsigned_tied q (option_number option)) ∙ tied) in
-          rw (same, ← same_Some _ _ is) stands
-      | false ↦ λ _ is. back q found is
-    ] refl (sym (get-insert nat_cmp_total kept (option_number option) option q) ∙ is)
-
-all_added : (list : List DhcpV4Option) (kept : OptionMap) → OptionsReadBack kept → AllByRecursion Stands list → OptionsReadBack (with_options kept list)
-all_added [] kept back all = back
-all_added (option ∷ list) kept back all = all_added list (insert kept (option_number option) option) (one_more kept option back all.0) all.1
-
-none_kept : OptionsReadBack empty
-none_kept number option is = absurd (none-some _ (sym (get-empty nat_cmp number) ∙ is))
 
 four : (n : ℕ) → length (to_be_bytes w32 n) ≡ 4
 four n = length-bytes_high_first 4 n
@@ -199,48 +177,6 @@ reply_fields message yiaddr siaddr options = record { xid = refl; yiaddr_is = re
 
 -- 4. A reply is short.
 
-abbrev size_of : List (ℕ × DhcpV4Option) → ℕ
-size_of es = length (flat_map written_option (values_of es))
-
-abbrev total : List DhcpV4Option → ℕ
-total [] = 0
-total (option ∷ options) = length (written_option option) + total options
-
-size_of-first : (number : ℕ) (option : DhcpV4Option) (es : List (ℕ × DhcpV4Option)) → size_of ((number, option) ∷ es) ≡ length (written_option option) + size_of es
-size_of-first number option es = length-append (written_option option) (flat_map written_option (values_of es))
-
-size_of-put : (number : ℕ) (option : DhcpV4Option) (es : List (ℕ × DhcpV4Option)) → size_of (put nat_cmp number option es) ≤ size_of es + length (written_option option)
-size_of-put number option [] = omega (arith, size_of-first number option [])
-size_of-put number option (e ∷ es) =
-    elim (nat_cmp number e.0) as (λ order. size_of (map.Entries.by_order order ((number, option) ∷ e ∷ es) ((e.0, option) ∷ es) (e ∷ put nat_cmp number option es)) ≤ size_of (e ∷ es) + length (written_option option)) [
-      | Less ↦ omega (arith, size_of-first number option (e ∷ es))
-      | Equal ↦ omega (arith, size_of-first e.0 option es, size_of-first e.0 e.1 es)
-      | Greater ↦ omega (arith, size_of-first e.0 e.1 (put nat_cmp number option es), size_of-first e.0 e.1 es, size_of-put number option es)
-    ]
-
-size_of-with_options : (options : List DhcpV4Option) (kept : OptionMap) → size_of (entries (with_options kept options)) ≤ size_of (entries kept) + total options
-size_of-with_options [] kept = omega arith
-size_of-with_options (option ∷ options) kept =
-    let added : size_of (entries (insert kept (option_number option) option)) ≤ size_of (entries kept) + length (written_option option) =
-    rw (entries-insert nat_cmp_total kept (option_number option) option) (size_of-put (option_number option) option (entries kept)) in
-    omega (arith, added, size_of-with_options options (insert kept (option_number option) option))
-
-length-end : (found : Bool) → length {A = ℕ} (if found then [] else 255 ∷ []) ≤ 1
-length-end true = lit≤ tt
-length-end false = lit≤ tt
-
-length-written_options : (options : OptionMap) → length (written_options options) ≤ size_of (entries options) + 1
-unfolding written_options
-length-written_options options =
-    omega (arith, length-append (flat_map written_option (map.values options)) (added_end options), length-end (map.contains_key options 255))
-
-size_of-none : (es : List (ℕ × DhcpV4Option)) → length es ≡ 0 → size_of es ≡ 0
-size_of-none [] none = refl
-size_of-none (e ∷ es) none = absurd (omega (arith, none))
-
-size_of-empty : size_of (entries (map.empty {X = DhcpV4Option} {R = nat_cmp})) ≡ 0
-size_of-empty = size_of-none (entries map.empty) (sym (map.len-entries map.empty) ∙ map.len-empty nat_cmp DhcpV4Option)
-
 granting_total : (config : ServerConfig) → IsTyped config → (kind : DhcpV4MessageType) → total (granting_options config kind) ≤ 33
 unfolding written_option written_value
 granting_total config typed kind = omega (arith, typed.mask.0, typed.ip.0, four config.lease_sec, four (config.lease_sec / 2), four (7 * config.lease_sec / 8))
@@ -248,20 +184,6 @@ granting_total config typed kind = omega (arith, typed.mask.0, typed.ip.0, four 
 refusing_total : (config : ServerConfig) → IsTyped config → total (refusing_options config) ≤ 33
 unfolding written_option written_value
 refusing_total config typed = omega (arith, typed.ip.0)
-
-length-numbers : (message : DhcpV4Message) → length (written_numbers message) ≡ 12
-length-numbers message =
-    let id = to_be_bytes w32 message.xid in
-    let secs = to_be_bytes w16 message.secs in
-    let flags = to_be_bytes w16 message.flags in
-    omega (
-      arith,
-      length-append id (secs ++ flags),
-      length-append secs flags,
-      length-bytes_high_first 4 message.xid,
-      length-bytes_high_first 2 message.secs,
-      length-bytes_high_first 2 message.flags,
-    )
 
 reply_length : (message : DhcpV4Message) (yiaddr siaddr : Ipv4Addr) (options : List DhcpV4Option) → CanBeAnswered message → length (ipv4_octets yiaddr) ≡ 4 → length (ipv4_octets siaddr) ≡ 4 → total options ≤ 33 →
     length (written_message (reply_message message yiaddr siaddr options)) ≤ 300

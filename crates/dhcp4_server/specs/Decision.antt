@@ -26,19 +26,24 @@ abbrev pub is_to : Option Ack → ℕ → Bool
 is_to None xid = false
 is_to (Some ack) xid = ack.xid == xid
 
--- the lowest address that is the client's own, else the lowest that is free for it
+-- an Offer of this address, where there is one, else nothing
 abbrev pub offer_if : Option ℕ → Decision
 offer_if None = Silence
 offer_if (Some address) = Offer address
 
+-- an Offer of the client's own address, where it has one, else of this free one, where there is one
 abbrev pub offer_or : Option ℕ → Option ℕ → Decision
 offer_or None free = offer_if free
 offer_or (Some own) free = Offer own
 
+-- an Ack of an address that the client may have, else a Nack
 abbrev pub grant_if : Bool → ℕ → Decision
 grant_if may address = if may then Grant address else Refuse
 
--- by a test of what is the client's own and one of what is free for it
+-- What is answered, by a test of which addresses are the client's own and a test of which are free
+-- for it: to a Discover an Offer of the lowest address of the pool that is its own, else of the
+-- lowest that is free for it, else nothing; to a Request an Ack of the address, if it is one of the
+-- pool and free for it, else a Nack.
 abbrev pub decide_with : (ℕ → Bool) → (ℕ → Bool) → Pool → Query → Decision
 decide_with is_own is_free pool Discover =
     offer_or (lowest is_own pool.first pool.count) (lowest is_free pool.first pool.count)

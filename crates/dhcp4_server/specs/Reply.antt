@@ -1,9 +1,8 @@
 -- The replies of a server, RFC 2131 section 4.3.1 and table 3.
-use Rattle.std.specs.Prelude.{◌≡◌, ℕ, ◌*◌, ◌/◌, List, [], ◌∷◌, fold, replicate, Option, Some, None, Result, Ok, Err}
+use Rattle.std.specs.Prelude.{◌≡◌, ℕ, ◌*◌, ◌/◌, List, [], ◌∷◌, replicate, Option, Some, None}
 use Rattle.std.specs.FinMap as map
 use Rattle.std.specs.Int.{w32, to_be_bytes}
 use Rattle.std.specs.declared.net.Ipv4Addr.{Ipv4Addr}
-use Rattle.dhcp_wire.specs.Error.{ErrorParts, no_memory}
 use Rattle.dhcp_wire.specs.Field.{address_of}
 use Rattle.dhcp_clock.specs.declared.link.Packet.{Packet}
 use Rattle.dhcp_clock.specs.declared.link.PacketKind.{PacketKind}
@@ -17,8 +16,7 @@ use Rattle.dhcp4_msg.specs.declared.message_type.DhcpV4MessageType.TheVariants a
 use Rattle.dhcp4_msg.specs.declared.option.DhcpV4Option.{DhcpV4Option}
 use Rattle.dhcp4_msg.specs.declared.option.DhcpV4Option.TheVariants.{SubnetMask, IpAddressLeaseTime, MessageType, ServerIdentifier, RenewalTime, RebindingTime}
 use Rattle.dhcp4_msg.specs.Message.{no_address, written_message}
-use Rattle.dhcp4_msg.specs.Options.{OptionMap}
-use Rattle.dhcp4_msg.specs.Value.{option_number}
+use Rattle.dhcp4_msg.specs.Options.{with_options}
 use Rattle.dhcp4_server.specs.declared.config.ServerConfig.{ServerConfig}
 use Rattle.dhcp4_server.specs.declared.decision.Decision.{Decision}
 use Rattle.dhcp4_server.specs.declared.decision.Decision.TheVariants as decisions
@@ -26,17 +24,6 @@ use Rattle.dhcp4_server.specs.declared.decision.Decision.TheVariants as decision
 -- the address of a number
 abbrev pub address_of_bits : ℕ → Ipv4Addr
 address_of_bits bits = address_of (to_be_bytes w32 bits)
-
--- these options after others, each in place of one with its code
-abbrev pub with_options : OptionMap → List DhcpV4Option → OptionMap
-with_options kept list =
-    fold (λ kept option. map.insert kept (option_number option) option) kept list
-
--- These options are added, or out of memory.
-abbrev pub Adds : {X : Type 0} → Result X ErrorParts → OptionMap → OptionMap → List DhcpV4Option →
-    Type 0
-Adds (Ok _) old new list = new ≡ with_options old list
-Adds (Err e) old new list = e ≡ no_memory
 
 -- The options of an Offer and of an Ack: subnet mask, lease time, type, server identifier, T1 of
 -- half the lease time and T2 of seven eighths, RFC 2131 section 4.4.5, both rounded down.

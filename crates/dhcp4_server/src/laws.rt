@@ -1,6 +1,6 @@
 //! The laws of Acks, bindings and replies. A call does nothing.
 
-ghost use Rattle.std.specs.Prelude.{◌≡◌, ◌≤◌, ◌<◌, ◌+◌, ◌^◌, ◌⊎◌, ℕ, IfSome, List, Option, Some, length};
+ghost use Rattle.std.specs.Prelude.{◌≡◌, ◌≤◌, ◌+◌, ◌⊎◌, ℕ, IfSome, List, Option, Some, length};
 ghost use Rattle.dhcp4_msg.specs.Laws.{read_back};
 ghost use Rattle.dhcp4_msg.specs.Message.{read_message, written_message};
 ghost use Rattle.dhcp4_server.specs.Ack.{Ack, AreLawful, IsAmong};
@@ -13,7 +13,7 @@ ghost use Rattle.dhcp4_server.specs.declared.binding.Binding.{Binding};
 ghost use Rattle.dhcp4_server.specs.declared.decision.Query.{Query};
 
 use crate::{Decision, ServerConfig};
-use dhcp_wire::laws::has_six_bytes;
+use dhcp_wire::laws::{fits_four_bytes, has_six_bytes};
 use dhcp4_msg::DhcpV4Message;
 
 /// Bindings that stand for Acks decide as those do. Once they are changed by what they decide they
@@ -71,16 +71,11 @@ pub fn a_configuration_is_typed(config: &ServerConfig)
 fn can_be_answered(message: &DhcpV4Message)
     ensures { CanBeAnswered message.now }
 {
-    is_u32(message.xid);
+    fits_four_bytes(message.xid);
     has_sixteen_bytes(message.chaddr);
 }
 
-fn is_u32(number: u32)
-    ensures { number < 2 ^ 32 }
-{
-    let _number = number;
-}
-
+// A hardware address has sixteen bytes.
 fn has_sixteen_bytes(chaddr: [u8; 16])
     ensures { length chaddr ≡ 16 }
 {

@@ -3,16 +3,16 @@
 ghost use Rattle.std.specs.Prelude.{◌≡◌, ◌≤◌, ◌/◌, ◌*◌, [], length};
 ghost use Rattle.dhcp_wire.specs.Outcome.{Makes};
 ghost use Rattle.dhcp_frame.specs.Write.{frame_bytes};
-ghost use Rattle.dhcp4_msg.specs.Message.{no_address, written_message};
+ghost use Rattle.dhcp4_msg.specs.Message.{written_message};
+ghost use Rattle.dhcp4_msg.specs.Options.{Adds};
 ghost use Rattle.dhcp4_server.specs.Reply as replies;
-ghost use Rattle.dhcp4_server.specs.Reply.{Adds};
 
 use crate::ServerConfig;
 use crate::decision::Decision;
 use crate::request::SERVER_PORT;
 use dhcp_clock::{Packet, PacketKind};
 use dhcp_frame::{Frame, write_frame};
-use dhcp_wire::{BROADCAST_MAC_ADDRESS, BufferMut, Bytes, DhcpError};
+use dhcp_wire::{BROADCAST_MAC_ADDRESS, Bytes, DhcpError};
 use dhcp4_msg::{DhcpV4Message, DhcpV4MessageType, DhcpV4Option, DhcpV4Options};
 use std::alloc::Global;
 use std::net::Ipv4Addr;
@@ -119,6 +119,7 @@ fn add_granting(
     let lease = config.lease_sec;
     let mask = config.mask;
     let ip = config.ip;
+    // Read so that the proof knows that each has four octets.
     let _mask = mask.octets();
     let _ip = ip.octets();
     options.insert(DhcpV4Option::SubnetMask(mask))?;
@@ -142,6 +143,7 @@ fn add_refusing(options: &mut DhcpV4Options, config: &ServerConfig) -> Result<()
     ensures { Adds result options.old options.new (replies.refusing_options config.now) }
 {
     let ip = config.ip;
+    // Read so that the proof knows that it has four octets.
     let _ip = ip.octets();
     options.insert(DhcpV4Option::MessageType(DhcpV4MessageType::Nack))?;
     options.insert(DhcpV4Option::ServerIdentifier(ip))
@@ -159,7 +161,7 @@ pub(crate) fn packet_of(
     ensures { Makes (λ packet. packet) result
         (replies.packet_of config.now kind message.now) }
 {
-    let payload = bytes_of(alloc, message)?;
+    let payload = message.to_bytes(alloc)?;
     match kind {
         PacketKind::Payload => Ok(Packet {
             kind,
@@ -170,15 +172,6 @@ pub(crate) fn packet_of(
             bytes: framed(alloc, config, payload)?,
         }),
     }
-}
-
-// The bytes of a message.
-fn bytes_of(alloc: Global, message: &DhcpV4Message) -> Result<Bytes, DhcpError>
-    ensures { Makes (λ bytes. bytes) result (written_message message.now) }
-{
-    let mut buffer = BufferMut::new(alloc);
-    message.emit(&mut buffer)?;
-    Ok(buffer.into_bytes())
 }
 
 // A payload in a frame to everyone, from port 67 to port 68.

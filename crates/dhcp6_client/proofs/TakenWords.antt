@@ -9,10 +9,11 @@ use Rattle.dhcp_history.specs.declared.rules.NewAttempt.{NewAttempt}
 use Rattle.dhcp6_opt.specs.declared.duid.DhcpV6Duid.{DhcpV6Duid}
 use Rattle.dhcp6_opt.specs.DrawnDuid.{DrawsDuid}
 use Rattle.dhcp6_msg.specs.Config.{Config, client_duid}
+use Rattle.dhcp6_msg.specs.Exchange.{new_id}
 use Rattle.dhcp6_client.specs.declared.client_state.ClientState.{ClientState}
 use Rattle.dhcp6_client.specs.declared.client_state.Exchange.{Exchange}
 use Rattle.dhcp6_client.specs.Client.{FirstDraws, first_draws}
-use Rattle.dhcp6_client.specs.Rules.{association_id, attempt, attempt_with, first_pause, id_for, new_id, transaction_id, wait}
+use Rattle.dhcp6_client.specs.Rules.{association_id, attempt, attempt_with, first_pause, id_for, transaction_id, wait}
 
 module _ {Source : Type 0} (gives : ℕ → Source → Source → Type 0) where
   -- a value that the next word gives

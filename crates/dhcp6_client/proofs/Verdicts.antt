@@ -13,12 +13,13 @@ use Rattle.dhcp_verdict.proofs.Opened.{answer_test}
 use Rattle.dhcp6_msg.specs.declared.message.DhcpV6Message.{DhcpV6Message}
 use Rattle.dhcp6_msg.specs.declared.message_type.DhcpV6MessageType.{DhcpV6MessageType}
 use Rattle.dhcp6_msg.specs.Config.{Config}
+use Rattle.dhcp6_msg.specs.Exchange.{concerning, payload_in}
 use Rattle.dhcp6_msg.specs.Lease.{Lease, read_lease}
 use Rattle.dhcp6_msg.specs.Message.{id_number, read_message}
 use Rattle.dhcp_history.specs.declared.client.Client.{Client}
 use Rattle.dhcp6_client.specs.declared.client_state.ClientState.{ClientState}
 use Rattle.dhcp6_client.specs.declared.client_state.Exchange.{Exchange}
-use Rattle.dhcp6_client.specs.Answer.{answer_of, awaited_type, concerning, lease_if_read, message_for, payload_in}
+use Rattle.dhcp6_client.specs.Answer.{answer_of, awaited_type, lease_if_read, message_for}
 use Rattle.dhcp6_client.specs.Rules.{protocol}
 use Rattle.dhcp6_client.specs.Verdict.{Verdict, is_of_type, packet_verdict, verdict_by, verdict_if_read, verdict_of_lease, verdict_of_message, verdict_of_payload, verdict_of_refusal}
 

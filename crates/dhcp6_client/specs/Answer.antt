@@ -1,18 +1,16 @@
 -- What a packet answers to an open attempt, RFC 8415 sections 16.3, 16.10 and 18.2.10: it is a
 -- payload; it has the transaction id of the attempt; it is of the awaited type; and it grants a
 -- lease.
-use Rattle.std.specs.Prelude.{ℕ, ◌==◌, ◌&&◌, Bool, List, Option, Some, None, Result, Ok, Err, if◌then◌else◌}
+use Rattle.std.specs.Prelude.{ℕ, Option, Some, None, Result, Ok, Err}
 use Rattle.dhcp_wire.specs.Field.{◌>>=◌}
 use Rattle.dhcp_wire.specs.declared.error.ErrorKind.{ErrorKind}
 use Rattle.dhcp_clock.specs.declared.link.Packet.{Packet}
-use Rattle.dhcp_clock.specs.declared.link.PacketKind.{PacketKind}
-use Rattle.dhcp_clock.specs.declared.link.PacketKind.TheVariants as carriers
+use Rattle.dhcp6_msg.specs.Exchange.{concerning, payload_in}
 use Rattle.dhcp6_msg.specs.declared.message.DhcpV6Message.{DhcpV6Message}
 use Rattle.dhcp6_msg.specs.declared.message_type.DhcpV6MessageType.{DhcpV6MessageType}
 use Rattle.dhcp6_msg.specs.declared.message_type.DhcpV6MessageType.TheVariants.{Advertise, Reply}
 use Rattle.dhcp6_msg.specs.Lease.{Lease, read_lease}
-use Rattle.dhcp6_msg.specs.Message.{id_number, read_message}
-use Rattle.dhcp6_msg.specs.MessageType.{type_number}
+use Rattle.dhcp6_msg.specs.Message.{read_message}
 use Rattle.dhcp6_client.specs.declared.client_state.ClientState.{ClientState}
 use Rattle.dhcp6_client.specs.declared.client_state.ClientState.TheVariants.{Solicit, Request, Done, Temporary, Renew, Rebind}
 
@@ -25,24 +23,7 @@ awaited_type (Temporary bound) = None
 awaited_type (Renew bound) = Some Reply
 awaited_type (Rebind bound) = Some Reply
 
--- the payload of a packet; a frame has none here
-abbrev pub payload_by : PacketKind → List ℕ → Option (List ℕ)
-payload_by carriers.Frame bytes = None
-payload_by carriers.Payload bytes = Some bytes
-
-abbrev pub payload_in : Packet → Option (List ℕ)
-payload_in packet = payload_by packet.kind packet.bytes
-
--- whether a message is of this type and has this transaction id; its client identifier, which RFC
--- 8415 sections 16.3 and 16.10 compare too, is not compared
-abbrev pub concerns : DhcpV6MessageType → ℕ → DhcpV6Message → Bool
-concerns kind xid message =
-    (type_number message.msg_type == type_number kind) && (id_number message.xid == xid)
-
 -- the message of a packet that concerns an attempt with this transaction id
-abbrev pub concerning : DhcpV6MessageType → ℕ → DhcpV6Message → Option DhcpV6Message
-concerning kind xid message = if concerns kind xid message then Some message else None
-
 abbrev pub message_for : Option DhcpV6MessageType → ℕ → Packet → Option DhcpV6Message
 message_for None xid packet = None
 message_for (Some kind) xid packet =

@@ -10,12 +10,13 @@ use Rattle.dhcp6_msg.specs.declared.mode.DhcpV6Mode.TheVariants.{NonTemporaryAdd
 use Rattle.dhcp6_opt.specs.declared.duid.DhcpV6Duid.{DhcpV6Duid}
 use Rattle.dhcp6_opt.specs.declared.duid.DhcpV6Duid.TheVariants.{Raw}
 use Rattle.dhcp6_msg.specs.Config.{Config, client_duid, ethernet_duid, is_within_limits}
+use Rattle.dhcp6_msg.specs.Exchange.{new_id}
 use Rattle.dhcp6_msg.specs.Lease as leases
 use Rattle.dhcp6_msg.specs.Lease.{Lease, is_duid, is_no_duid, is_unspecified}
 use Rattle.dhcp6_client.specs.declared.client_state.ClientState.{ClientState}
 use Rattle.dhcp6_client.specs.declared.client_state.ClientState.TheVariants.{Solicit, Renew}
 use Rattle.dhcp6_client.specs.declared.client_state.Exchange.{Exchange}
-use Rattle.dhcp6_client.specs.Rules.{bound_state, new_id, restarted}
+use Rattle.dhcp6_client.specs.Rules.{bound_state, restarted}
 
 -- what contracts see of a client: its configuration, and the client of its rules
 abbrev pub ClientParts : Type 0

@@ -1,5 +1,5 @@
 -- The table of states, RFC 8415 section 18.2: one function for each column, every state named.
-use Rattle.std.specs.Prelude.{ℕ, ◌+◌, ◌-◌, ◌%◌, ◌^◌, min, max, nat_le, Bool, true, false, List, Option, Some, None, is_some}
+use Rattle.std.specs.Prelude.{ℕ, ◌+◌, ◌-◌, ◌^◌, min, max, nat_le, Bool, true, false, List, Option, Some, None, is_some}
 use Rattle.dhcp_clock.specs.declared.link.Packet.{Packet}
 use Rattle.dhcp_clock.specs.declared.link.Handed.{Handed}
 use Rattle.dhcp_clock.specs.Wait.{draw, retransmit_wait}
@@ -11,6 +11,7 @@ use Rattle.dhcp_history.specs.Protocol.{Protocol, NextState}
 use Rattle.dhcp6_msg.specs.declared.mode.DhcpV6Mode.{DhcpV6Mode}
 use Rattle.dhcp6_msg.specs.declared.mode.DhcpV6Mode.TheVariants.{NonTemporaryAddresses, TemporaryAddresses, PrefixDelegation}
 use Rattle.dhcp6_msg.specs.Config.{Config}
+use Rattle.dhcp6_msg.specs.Exchange.{new_id}
 use Rattle.dhcp6_msg.specs.Lease.{Lease}
 use Rattle.dhcp6_client.specs.declared.client_state.ClientState.{ClientState}
 use Rattle.dhcp6_client.specs.declared.client_state.ClientState.TheVariants.{Solicit, Request, Done, Temporary, Renew, Rebind}
@@ -84,10 +85,6 @@ wait (Renew bound) exchange now words =
     wait_until (after bound bound.lease.t2_sec) exchange now words
 wait (Rebind bound) exchange now words =
     wait_until (after bound bound.lease.valid_time_sec) exchange now words
-
--- a new transaction id, of three bytes
-abbrev pub new_id : ℕ → ℕ
-new_id word = word % 16777215
 
 -- the first message of a stay has a new id, each further one the same (RFC 8415, section 16.1)
 abbrev pub id_for : Bool → Exchange → List ℕ → Drawn ℕ

@@ -13,12 +13,13 @@ use Rattle.dhcp_history.specs.declared.client.Client.{Client}
 use Rattle.dhcp6_msg.specs.declared.message.DhcpV6Message.{DhcpV6Message}
 use Rattle.dhcp6_msg.specs.declared.message_type.DhcpV6MessageType.{DhcpV6MessageType}
 use Rattle.dhcp6_msg.specs.Config.{Config}
+use Rattle.dhcp6_msg.specs.Exchange.{payload_in}
 use Rattle.dhcp6_msg.specs.Lease.{Lease, read_lease}
 use Rattle.dhcp6_msg.specs.Message.{id_number, read_message}
 use Rattle.dhcp6_msg.specs.MessageType.{type_number}
 use Rattle.dhcp6_client.specs.declared.client_state.ClientState.{ClientState}
 use Rattle.dhcp6_client.specs.declared.client_state.Exchange.{Exchange}
-use Rattle.dhcp6_client.specs.Answer.{awaited_type, payload_in}
+use Rattle.dhcp6_client.specs.Answer.{awaited_type}
 use Rattle.dhcp6_client.specs.Rules.{protocol}
 
 -- what a packet is, with the type of its message

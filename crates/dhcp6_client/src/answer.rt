@@ -4,14 +4,13 @@
 
 ghost use Rattle.std.specs.Prelude.{◌≡◌, IfErr, IfOk, None, Ok, Some, false, is_some};
 ghost use Rattle.dhcp_wire.specs.Error.{no_memory};
-ghost use Rattle.dhcp_wire.specs.Outcome.{Finds};
 ghost use Rattle.dhcp6_client.specs.Answer as answers;
 
 use crate::client_state::ClientState;
 use crate::granted_lease::BoxedLease;
-use dhcp_clock::{Packet, PacketKind};
+use dhcp_clock::Packet;
 use dhcp_wire::{DhcpError, none_if_refused};
-use dhcp6_msg::{DhcpV6Lease, DhcpV6MessageType, DhcpV6View};
+use dhcp6_msg::{DhcpV6Lease, DhcpV6MessageType, DhcpV6View, concerns, payload_in};
 use std::alloc::Global;
 
 /// The type that a state awaits.
@@ -52,25 +51,6 @@ pub fn read_answer(
         return Ok(None);
     }
     lease_of(alloc, &view)
-}
-
-/// The payload of a packet; a frame has none here.
-pub fn payload_in(packet: &Packet) -> Option<&[u8]>
-    ensures { Finds (λ bytes. bytes.now) result (answers.payload_in packet.now) }
-{
-    match packet.kind {
-        PacketKind::Frame => None,
-        PacketKind::Payload => Some(packet.bytes.as_slice()),
-    }
-}
-
-// Whether a message is of this type and has this transaction id. Its client identifier, which RFC
-// 8415 sections 16.3 and 16.10 compare too, is not compared.
-#[tactic(auto, unfolding(dhcp6_msg::specs::MessageType::type_number))]
-fn concerns(kind: DhcpV6MessageType, xid: u32, message: &DhcpV6View) -> bool
-    ensures { result ≡ answers.concerns kind xid message.now }
-{
-    message.msg_type() == kind && message.xid() == xid
 }
 
 // The lease that a message grants, if it grants one.

@@ -15,13 +15,13 @@ ghost use Rattle.dhcp6_client.specs.State.{plain_state};
 
 use crate::DhcpV6State;
 use crate::client_state::{ClientState, Exchange};
-use crate::draws::{new_id, restarted};
+use crate::draws::restarted;
 use crate::granted_lease::GrantedLease;
 use crate::rules::{ClientRules, bound_state};
 use dhcp_clock::{DhcpLink, Words};
 use dhcp_history::{BoundLease, Client, StateReport, clean_up, is_listening, next_poll, run};
 use dhcp_wire::{DhcpError, ErrorKind, FixedText, beside};
-use dhcp6_msg::{DhcpV6Config, DhcpV6Lease, DhcpV6Mode, is_duid};
+use dhcp6_msg::{DhcpV6Config, DhcpV6Lease, DhcpV6Mode, is_duid, new_id};
 use std::alloc::Global;
 use std::marker::Model;
 

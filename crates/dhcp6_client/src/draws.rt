@@ -9,6 +9,7 @@ ghost use Rattle.dhcp6_client.specs.Rules as table;
 use crate::client_state::{ClientState, Exchange};
 use crate::granted_lease::{expiry, rebinding, renewal};
 use dhcp_clock::{Words, retransmit_wait};
+use dhcp6_msg::new_id;
 
 /// About how long the first Solicit of a stay awaits an answer, in milliseconds. RFC 8415 section
 /// 7.6.
@@ -113,13 +114,6 @@ fn id_for<W: Words>(is_first: bool, exchange: Exchange, words: &mut W) -> u32
     } else {
         exchange.xid
     }
-}
-
-/// The transaction id of a random word: a number of three bytes, from 0 to 16,777,214.
-pub fn new_id(word: u32) -> u32
-    ensures { result ≡ table.new_id word }
-{
-    word % 16_777_215
 }
 
 /// The identifier of the identity association that is asked for: drawn anew at each attempt of a

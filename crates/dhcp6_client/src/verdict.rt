@@ -9,14 +9,14 @@ ghost use Rattle.dhcp6_client.specs.Answer as answers;
 ghost use Rattle.dhcp6_client.specs.Rules.{needs_memory, protocol};
 ghost use Rattle.dhcp6_client.specs.Verdict as verdicts;
 
-use crate::answer::{awaited_type, payload_in};
+use crate::answer::awaited_type;
 use crate::client_state::{ClientState, Exchange};
 use crate::rules::ClientRules;
 use dhcp_clock::Packet;
 use dhcp_history::Client;
 use dhcp_verdict::{PacketVerdict, is_open};
 use dhcp_wire::{DhcpError, ErrorKind};
-use dhcp6_msg::{DhcpV6Lease, DhcpV6Message, DhcpV6MessageType, DhcpV6View};
+use dhcp6_msg::{DhcpV6Lease, DhcpV6Message, DhcpV6MessageType, DhcpV6View, payload_in};
 use std::alloc::Global;
 
 /// What a packet is, with the type of its message.

@@ -7,9 +7,10 @@ use Rattle.dhcp_clock.proofs.Taken.{taken_both, taken_nothing, taken_word}
 use Rattle.dhcp_history.specs.declared.rules.AttemptStart.{AttemptStart}
 use Rattle.dhcp_history.specs.declared.rules.NewAttempt.{NewAttempt}
 use Rattle.dhcp6_msg.specs.Config.{Config}
+use Rattle.dhcp6_msg.specs.Exchange.{new_id}
 use Rattle.dhcp6_info.specs.declared.client_state.ClientState.{ClientState}
 use Rattle.dhcp6_info.specs.declared.client_state.Exchange.{Exchange}
-use Rattle.dhcp6_info.specs.Rules.{attempt, attempt_with, first_pause, new_id, transaction_id, wait}
+use Rattle.dhcp6_info.specs.Rules.{attempt, attempt_with, first_pause, transaction_id, wait}
 
 module _ {Source : Type 0} (gives : ℕ → Source → Source → Type 0) where
   -- a value that the next word gives

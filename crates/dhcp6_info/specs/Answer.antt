@@ -1,37 +1,18 @@
 -- What a packet answers to an open attempt, RFC 8415 sections 16.10 and 18.2.10.4: it is a payload;
 -- it is a Reply; it has the transaction id of the attempt; and it gives a configuration.
-use Rattle.std.specs.Prelude.{ℕ, ◌==◌, ◌&&◌, Bool, List, Option, Some, None, if◌then◌else◌}
+use Rattle.std.specs.Prelude.{ℕ, List, Option, Some, None, if◌then◌else◌}
 use Rattle.dhcp_wire.specs.Field.{◌>>=◌}
 use Rattle.dhcp_clock.specs.declared.link.Packet.{Packet}
-use Rattle.dhcp_clock.specs.declared.link.PacketKind.{PacketKind}
-use Rattle.dhcp_clock.specs.declared.link.PacketKind.TheVariants as carriers
+use Rattle.dhcp6_msg.specs.Exchange.{concerning, payload_in}
 use Rattle.dhcp6_msg.specs.declared.message.DhcpV6Message.{DhcpV6Message}
 use Rattle.dhcp6_msg.specs.declared.message_type.DhcpV6MessageType.TheVariants.{Reply}
-use Rattle.dhcp6_msg.specs.Message.{id_number, read_message}
-use Rattle.dhcp6_msg.specs.MessageType.{type_number}
+use Rattle.dhcp6_msg.specs.Message.{read_message}
 use Rattle.dhcp6_info.specs.declared.info.DhcpV6Info.{DhcpV6Info}
 use Rattle.dhcp6_info.specs.Info.{info_with, is_given, refresh_time}
 
--- the payload of a packet; a frame has none here
-abbrev pub payload_by : PacketKind → List ℕ → Option (List ℕ)
-payload_by carriers.Frame bytes = None
-payload_by carriers.Payload bytes = Some bytes
-
-abbrev pub payload_in : Packet → Option (List ℕ)
-payload_in packet = payload_by packet.kind packet.bytes
-
--- whether a message is a Reply with this transaction id; its client identifier, which RFC 8415
--- section 16.10 compares too, is not compared
-abbrev pub concerns : ℕ → DhcpV6Message → Bool
-concerns xid message =
-    (type_number message.msg_type == type_number Reply) && (id_number message.xid == xid)
-
--- the message of a payload, if it is such a Reply
-abbrev pub concerning : ℕ → DhcpV6Message → Option DhcpV6Message
-concerning xid message = if concerns xid message then Some message else None
-
+-- the message of a payload, if it is a Reply with this transaction id
 abbrev pub reply_in : ℕ → List ℕ → Option DhcpV6Message
-reply_in xid payload = read_message payload >>= concerning xid
+reply_in xid payload = read_message payload >>= concerning Reply xid
 
 -- the configuration that this message of a payload gives, if it gives one
 abbrev pub given_by : List ℕ → DhcpV6Message → Option DhcpV6Info

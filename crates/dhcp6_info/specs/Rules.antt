@@ -1,5 +1,5 @@
 -- The table of states, RFC 8415 section 18.2.6: one function for each column, every state named.
-use Rattle.std.specs.Prelude.{ℕ, ◌-◌, ◌%◌, ◌==◌, Bool, true, false, List, Option, Some, None, is_some, if◌then◌else◌}
+use Rattle.std.specs.Prelude.{ℕ, ◌-◌, ◌==◌, Bool, true, false, List, Option, Some, None, is_some, if◌then◌else◌}
 use Rattle.dhcp_clock.specs.declared.link.Packet.{Packet}
 use Rattle.dhcp_clock.specs.declared.link.Handed.{Handed}
 use Rattle.dhcp_clock.specs.Wait.{draw, retransmit_wait}
@@ -9,6 +9,7 @@ use Rattle.dhcp_history.specs.declared.rules.AttemptStart.{AttemptStart}
 use Rattle.dhcp_history.specs.declared.rules.NewAttempt.{NewAttempt}
 use Rattle.dhcp_history.specs.Protocol.{Protocol, NextState}
 use Rattle.dhcp6_msg.specs.Config.{Config}
+use Rattle.dhcp6_msg.specs.Exchange.{new_id}
 use Rattle.dhcp6_info.specs.declared.client_state.ClientState.{ClientState}
 use Rattle.dhcp6_info.specs.declared.client_state.ClientState.TheVariants.{Inform, Done}
 use Rattle.dhcp6_info.specs.declared.client_state.Exchange.{Exchange}
@@ -54,10 +55,6 @@ pause (Done bound) exchange words = undrawn 0 words
 -- is set by a count or a duration
 abbrev pub wait : Exchange → List ℕ → Drawn ℕ
 wait exchange = retransmit_wait exchange.previous_wait 1000 3600000
-
--- a new transaction id, of three bytes
-abbrev pub new_id : ℕ → ℕ
-new_id word = word % 16777215
 
 -- the first message of a stay has a new id, each further one the same (RFC 8415, section 16.1)
 abbrev pub transaction_id : Bool → Exchange → List ℕ → Drawn ℕ

@@ -1,4 +1,4 @@
--- The states of a client for information alone, as they are printed.
+-- The states of a client for configuration alone, as they are printed.
 use Rattle.std.specs.Prelude.{ℕ, List, codes, Bool, true, false}
 use Rattle.dhcp6_info.specs.declared.state.DhcpV6InfoState.{DhcpV6InfoState}
 use Rattle.dhcp6_info.specs.declared.state.DhcpV6InfoState.TheVariants.{Done, Inform}

@@ -4,7 +4,6 @@
 
 ghost use Rattle.std.specs.Prelude.{◌≡◌, IfErr, IfOk, None, Ok, false, is_some};
 ghost use Rattle.dhcp_wire.specs.Error.{no_memory};
-ghost use Rattle.dhcp_wire.specs.Outcome.{Finds};
 ghost use Rattle.dhcp6_msg.specs.Lease.{said_by, status_said};
 ghost use Rattle.dhcp6_opt.specs.Status as statuses;
 ghost use Rattle.dhcp6_info.specs.Answer as answers;
@@ -12,9 +11,9 @@ ghost use Rattle.dhcp6_info.specs.Info as infos;
 
 use crate::given_info::{GivenInfo, server_of};
 use crate::refresh_time::refresh_time;
-use dhcp_clock::{Packet, PacketKind};
+use dhcp_clock::Packet;
 use dhcp_wire::DhcpError;
-use dhcp6_msg::{DhcpV6MessageType, DhcpV6View};
+use dhcp6_msg::{DhcpV6MessageType, DhcpV6View, concerns, payload_in};
 use dhcp6_opt::{DhcpV6Option, DhcpV6OptionCode, DhcpV6OptionStatusCode, DhcpV6Options};
 use std::alloc::Global;
 
@@ -31,29 +30,10 @@ pub fn read_answer(alloc: Global, xid: u32, packet: &Packet) -> Result<Option<Gi
     let Some(view) = DhcpV6View::new(payload) else {
         return Ok(None);
     };
-    if !concerns(xid, &view) {
+    if !concerns(DhcpV6MessageType::Reply, xid, &view) {
         return Ok(None);
     }
     given_by(alloc, payload, &view)
-}
-
-// The payload of a packet; a frame has none here.
-fn payload_in(packet: &Packet) -> Option<&[u8]>
-    ensures { Finds (λ bytes. bytes.now) result (answers.payload_in packet.now) }
-{
-    match packet.kind {
-        PacketKind::Frame => None,
-        PacketKind::Payload => Some(packet.bytes.as_slice()),
-    }
-}
-
-// Whether a message is a Reply with this transaction id. Its client identifier, which RFC 8415
-// section 16.10 compares too, is not compared.
-#[tactic(auto, unfolding(dhcp6_msg::specs::MessageType::type_number))]
-fn concerns(xid: u32, message: &DhcpV6View) -> bool
-    ensures { result ≡ answers.concerns xid message.now }
-{
-    message.msg_type() == DhcpV6MessageType::Reply && message.xid() == xid
 }
 
 // The configuration that this message of a payload gives, if it gives one.

@@ -7,6 +7,7 @@ ghost use Rattle.dhcp6_info.specs.Rules as table;
 
 use crate::client_state::Exchange;
 use dhcp_clock::{Words, retransmit_wait};
+use dhcp6_msg::new_id;
 
 /// About how long the first Information-request of a stay awaits an answer, in milliseconds. RFC
 /// 8415 section 7.6.
@@ -44,13 +45,6 @@ pub fn transaction_id<W: Words>(is_first: bool, exchange: Exchange, words: &mut 
     } else {
         exchange.xid
     }
-}
-
-// The transaction id of a random word: a number of three bytes, from 0 to 16,777,214.
-fn new_id(word: u32) -> u32
-    ensures { result ≡ table.new_id word }
-{
-    word % 16_777_215
 }
 
 /// An exchange whose previous wait begins anew.

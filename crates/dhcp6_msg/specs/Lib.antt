@@ -1,4 +1,5 @@
 pub mod Config
+pub mod Exchange
 pub mod Laws
 pub mod Lease
 pub mod Message

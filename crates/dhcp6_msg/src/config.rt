@@ -8,7 +8,6 @@ ghost use Rattle.dhcp_wire.specs.Outcome.{Makes};
 ghost use Rattle.dhcp_clock.specs.Words.{Draws};
 ghost use Rattle.dhcp6_opt.specs.declared.duid.DhcpV6Duid.{DhcpV6Duid};
 ghost use Rattle.dhcp6_opt.specs.DrawnDuid.{DrawsDuid};
-ghost use Rattle.dhcp6_opt.specs.OptionCode.{code_of};
 ghost use Rattle.dhcp6_msg.specs.declared.mode.DhcpV6Mode.TheVariants as modes;
 ghost use Rattle.dhcp6_msg.specs.Setter.{UnchangedIfRefused};
 ghost use Rattle.dhcp6_msg.specs.Lease.{is_duid, is_no_duid};

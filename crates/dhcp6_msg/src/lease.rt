@@ -23,7 +23,7 @@ ghost use Rattle.dhcp6_msg.specs.Lease.{
   unicast_said,
 };
 
-use self::terms::{LeaseTerms, terms_of};
+use self::terms::terms_of;
 use crate::{DhcpV6IaType, DhcpV6Message};
 use dhcp_wire::{Bytes, DhcpError, ErrorKind, FixedText, Sequence, Text, TryClone, both};
 use dhcp6_opt::{
@@ -177,7 +177,7 @@ impl DhcpV6Lease {
         if self.is_grant() {
             Ok(self)
         } else {
-            Err(DhcpError::invalid_message(FixedText::Times))
+            Err(DhcpError::invalid_message(FixedText::NoLease))
         }
     }
 

@@ -3,6 +3,7 @@
 #![tactic(auto)]
 
 mod config;
+mod exchange;
 pub mod laws;
 mod lease;
 mod message;
@@ -12,6 +13,7 @@ mod mode;
 mod view;
 
 pub use config::DhcpV6Config;
+pub use exchange::{concerns, new_id, payload_in};
 pub use laws::{
     built_message_reads_back, ids_read_back, leases_are_within_limits, messages_read_back,
 };

@@ -2,7 +2,7 @@
 
 ghost use Rattle.std.specs.Prelude.{◌≡◌, ◌≤◌, ◌⊎◌, [], ◌∷◌, length, IfErr, IfOk, OnOk, Some};
 ghost use Rattle.dhcp_wire.specs.Error.{no_memory};
-ghost use Rattle.dhcp_wire.specs.Outcome.{Emits, Gives, Makes};
+ghost use Rattle.dhcp_wire.specs.Outcome.{Gives, Makes};
 ghost use Rattle.dhcp6_opt.specs.Duid.{written_duid};
 ghost use Rattle.dhcp6_opt.specs.declared.option.DhcpV6Option.TheVariants.{ClientId, ElapsedTime};
 ghost use Rattle.dhcp6_msg.specs.MessageTable.{lease_options, server_option};

@@ -1,7 +1,6 @@
 //! The messages that a client sends, RFC 8415 section 18.2: one row for each.
 
 ghost use Rattle.std.specs.Prelude.{◌≡◌, ◌≤◌, IfSome, IsTrue, MatchResult, length, option_copied};
-ghost use Rattle.std.specs.Net.Addr.{ipv6_octets};
 ghost use Rattle.dhcp_wire.specs.Error.{no_memory};
 ghost use Rattle.dhcp_wire.specs.Outcome.{Makes};
 ghost use Rattle.dhcp6_opt.specs.Duid.{written_duid};
@@ -16,6 +15,7 @@ ghost use Rattle.dhcp6_msg.specs.MessageTable.{table_message};
 use crate::{
     DhcpV6Config, DhcpV6IaType, DhcpV6Lease, DhcpV6Message, DhcpV6MessageType, DhcpV6Mode,
 };
+use dhcp_wire::laws::an_ipv6_address_reads_back;
 use dhcp_wire::{DhcpError, beside};
 use dhcp6_opt::{
     DhcpV6Duid, DhcpV6Option, DhcpV6OptionIaAddr, DhcpV6OptionIaNa, DhcpV6OptionIaPd,
@@ -23,7 +23,6 @@ use dhcp6_opt::{
 };
 use std::alloc::Global;
 use std::marker::Model;
-use std::net::Ipv6Addr;
 
 /// The Solicit that searches for servers, with the lower 24 bits of this transaction id, the time
 /// since when the client tries, in milliseconds, and this identifier of its identity association
@@ -278,7 +277,7 @@ fn lease_address(lease: &DhcpV6Lease) -> DhcpV6OptionIaAddr
     ensures value { result ≡ table.lease_address lease.now }
     ensures len { length (written_ia_address result) ≡ 24 }
 {
-    has_sixteen_bytes(lease.address);
+    an_ipv6_address_reads_back(lease.address);
     DhcpV6OptionIaAddr::new(
         lease.address,
         lease.preferred_time_sec,
@@ -292,20 +291,13 @@ fn lease_prefix(lease: &DhcpV6Lease) -> DhcpV6OptionIaPrefix
     ensures value { result ≡ table.lease_prefix lease.now }
     ensures len { length (written_ia_prefix result) ≡ 25 }
 {
-    has_sixteen_bytes(lease.address);
+    an_ipv6_address_reads_back(lease.address);
     DhcpV6OptionIaPrefix::new(
         lease.address,
         lease.prefix_len,
         lease.preferred_time_sec,
         lease.valid_time_sec,
     )
-}
-
-// What the type of an address keeps.
-fn has_sixteen_bytes(address: Ipv6Addr)
-    ensures { length (ipv6_octets address) ≡ 16 }
-{
-    let _octets = address.octets();
 }
 
 // The message of a row. Its options are added by rising code, so that they are written as they are

@@ -1,5 +1,6 @@
 -- Domain names, RFC 1035 section 3.1 and RFC 8415 section 10: labels, each with its length before
--- it, and a zero byte. Their text has a dot between any two labels.
+-- it, and a zero byte. Their text has a dot between any two labels. Beyond that section a name may
+-- end where its value does, and may have more than 255 bytes.
 use Rattle.std.specs.Prelude.{ℕ, zero, suc, ◌&&◌, Bool, not, ◌==◌, List, [], ◌∷◌, ◌++◌, length, Option, Some, None, option_map, nat_le, if◌then◌else◌}
 use Rattle.std.specs.Int.{w8, to_be_bytes}
 use Rattle.std.specs.List.{flat_map, join_with_byte, list_all, list_any, slice_split}

@@ -1,4 +1,5 @@
 -- The suboptions of the NTP server option, RFC 5908 section 4: they are laid out as options are.
+-- Where that section has one time source in an option, any number of them reads.
 use Rattle.std.specs.Prelude.{ℕ, ◌==◌, Bool, true, List, [], ◌∷◌, Option, Some, option_map, if◌then◌else◌}
 use Rattle.std.specs.Net.Addr.{ipv6_octets}
 use Rattle.dhcp_wire.specs.Field.{◌>>=◌}

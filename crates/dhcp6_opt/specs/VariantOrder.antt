@@ -9,12 +9,10 @@ use Rattle.dhcp6_opt.specs.declared.duid.enterprise.DhcpV6DuidEnterpriseNumber.{
 use Rattle.dhcp6_opt.specs.declared.duid.link_layer.DhcpV6DuidLinkLayerAddr.{DhcpV6DuidLinkLayerAddr}
 use Rattle.dhcp6_opt.specs.declared.duid.link_layer.DhcpV6DuidLinkLayerAddrPlusTime.{DhcpV6DuidLinkLayerAddrPlusTime}
 use Rattle.dhcp6_opt.specs.declared.duid.uuid.DhcpV6DuidUuid.{DhcpV6DuidUuid}
-use Rattle.dhcp6_opt.specs.declared.duid.DhcpV6Duid.{DhcpV6Duid}
 use Rattle.dhcp6_opt.specs.declared.duid.DhcpV6Duid.TheVariants.{LinkLayerAddressPlusTime, EnterpriseNumber, LinkLayerAddress, UUID, Raw}
 use Rattle.dhcp6_opt.specs.declared.option.DhcpV6Option.{DhcpV6Option}
 use Rattle.dhcp6_opt.specs.declared.option.DhcpV6Option.TheVariants.{Unknown}
 use Rattle.dhcp6_opt.specs.declared.option.DhcpV6OptionUnknown.{DhcpV6OptionUnknown}
-use Rattle.dhcp6_opt.specs.declared.status.DhcpV6OptionStatusCode.{DhcpV6OptionStatusCode}
 use Rattle.dhcp6_opt.specs.declared.status.DhcpV6OptionStatusCode.TheVariants as codes
 use Rattle.dhcp6_opt.specs.Value.{option_number}
 

@@ -42,13 +42,14 @@ pub enum DhcpV6Option {
     IAPrefix(DhcpV6OptionIaPrefix),
     /// Option 7: the preference of the server, 255 the highest. RFC 8415 section 21.8.
     Preference(u8),
-    /// Option 8: since when the client tries, in hundredths of a second. RFC 8415 section 21.9.
+    /// Option 8: for how long the client has tried, in hundredths of a second. RFC 8415 section
+    /// 21.9.
     ElapsedTime(u16),
     /// Option 12: the address to which a client may send its messages. RFC 8415 section 21.12.
     ServerUnicast(Ipv6Addr),
     /// Option 13: a status. RFC 8415 section 21.13.
     StatusCode(DhcpV6OptionStatus),
-    /// Option 14: two messages are to do for four. RFC 8415 section 21.14.
+    /// Option 14: the exchange may take two messages in place of four. RFC 8415 section 21.14.
     RapidCommit,
     /// Option 23: name servers, in order of preference. RFC 3646 section 3.
     DnsServers(Sequence<Ipv6Addr>),
@@ -121,7 +122,7 @@ impl DhcpV6Option {
         ensures fit { IfOk result (λ option. IsTrue (fits option)) }
     {
         let Some((raw, later)) = OptionFormat::DhcpV6.raw_option_at(buf.get_remains()) else {
-            return Err(DhcpError::invalid_message(FixedText::Unreadable));
+            return Err(DhcpError::invalid_message(FixedText::Short));
         };
         match read_value(alloc, DhcpV6OptionCode::from(raw.code), raw.value) {
             Ok(option) => {

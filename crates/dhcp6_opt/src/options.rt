@@ -3,7 +3,7 @@
 mod equality;
 mod index;
 
-ghost use Rattle.std.specs.Prelude.{◌≡◌, ◌+◌, ◌-◌, ◌*◌, ◌^◌, ◌≤◌, ◌==◌, ◌&&◌, [], ◌∷◌, ◌++◌, length, map, IfErr, IfOk, IfSome, IsTrue, OnOk, option_copied, option_map, vec_capacity, vec_items, vec_len};
+ghost use Rattle.std.specs.Prelude.{◌≡◌, ◌+◌, ◌-◌, ◌*◌, ◌^◌, ◌≤◌, [], ◌∷◌, ◌++◌, map, IfErr, IfOk, IfSome, IsTrue, OnOk, option_copied, option_map, vec_capacity, vec_items, vec_len};
 ghost use Rattle.std.specs.List.{filter, flat_map, All, AllByRecursion};
 ghost use Rattle.std.specs.List.Sorted.{IsNonDecreasingBy};
 ghost use Rattle.std.specs.Cmp.{on_per, on_equiv, and_per, and_equiv, nat_eq_equiv, partial_equiv_from_equiv};

@@ -28,7 +28,7 @@ pub(crate) trait Widths {
         ensures { has self.now };
 }
 
-// Each of some values has it,
+// Each of some values has what its type says.
 pub(crate) fn all_have<T: Widths>(items: &[T])
     ensures { AllByRecursion T.has items.now }
 {
@@ -37,7 +37,7 @@ pub(crate) fn all_have<T: Widths>(items: &[T])
     }
 }
 
-// and so has one that is there.
+// A value has it, if there is one.
 fn has_if_some<T: Widths>(item: &Option<T>)
     ensures { IfSome item.now T.has }
 {

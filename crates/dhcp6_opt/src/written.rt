@@ -15,7 +15,7 @@ pub(crate) trait Written {
     // The bytes that it is written as.
     ghost written: { Self → List ℕ };
 
-    // How many bytes that are: those of a list, and a few beside it.
+    // How many bytes these are: at most those of one list or text, and a few more.
     fn written_len(&self) -> usize
         ensures value { result ≡ length (written self.now) }
         ensures few { result ≤ 2 ^ 63 + 64 };

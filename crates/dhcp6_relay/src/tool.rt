@@ -6,7 +6,7 @@ ghost use Rattle.dhcp_tool.specs.Input.{AnswersSource};
 ghost use Rattle.dhcp_tool.specs.Job.{AnswersPrinting};
 ghost use Rattle.dhcp_tool.specs.Status.{status_number};
 ghost use Rattle.dhcp_tool.specs.Texts.{AnswersText};
-ghost use Rattle.dhcp6_relay.specs.Request.{AsksFor, AsksForNothing, IsRequest};
+ghost use Rattle.dhcp6_relay.specs.Request.{AsksFor, AsksForNothing};
 ghost use Rattle.dhcp6_relay.specs.Tool.{AnswersMessage, hex_line, messages, status_of};
 ghost use Rattle.dhcp6_relay.specs.declared.request.Request.{Request};
 

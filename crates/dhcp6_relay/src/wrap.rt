@@ -20,7 +20,9 @@ const HOP_COUNT_LIMIT: u8 = 8;
 /// in on, if that is given. Its hop count is 0, or one more than that of a Relay-forward. In this
 /// order: `Short` if the message is a Relay-forward of fewer than 34 bytes; `TooManyHops` if its
 /// hop count is 8 or more; `TooLong` if the result would be longer than 65,535 bytes. Else out of
-/// memory is the only error.
+/// memory is the only error. The message may be of any type: to discard an Advertise, a Reply and a
+/// Reconfigure, which no client sends (RFC 8415, sections 16.3, 16.10 and 16.11), and not to relay
+/// a Relay-reply towards a server, is the caller's test.
 #[tactic(auto, unfolding(crate::specs::Wrap::wrapped_message, crate::specs::Layer::layers_around))]
 pub fn wrap_forward(
     alloc: Global,

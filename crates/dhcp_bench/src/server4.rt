@@ -1,7 +1,7 @@
 //! The DHCPv4 server core, as it is measured.
 
 use dhcp_clock::{Packet, PacketKind};
-use dhcp_wire::{BufferMut, Bytes, DhcpError};
+use dhcp_wire::{Bytes, DhcpError};
 use dhcp4_msg::{DhcpV4Message, DhcpV4MessageType, DhcpV4Option};
 use dhcp4_server::{DhcpV4Server, ServerAnswer, ServerConfig};
 use std::alloc::Global;
@@ -76,9 +76,7 @@ fn written_request(
     let options = &mut message.options;
     options.insert(DhcpV4Option::MessageType(DhcpV4MessageType::Request))?;
     options.insert(DhcpV4Option::RequestedIpAddress(address))?;
-    let mut buffer = BufferMut::new(alloc);
-    message.emit(&mut buffer)?;
-    Ok(buffer.into_bytes())
+    message.to_bytes(alloc)
 }
 
 // The configuration of a server with a pool of so many addresses.

@@ -2,7 +2,7 @@
 use Rattle.std.proofs.Common.{◌≡◌, ℕ, List, [], ◌∷◌, ◌++◌, append_assoc, ap, subst, ◌∙◌, refl, ◌<◌, ◌≤◌}
 use Rattle.std.proofs.lemmas.Bool.{le-leb, lt-leb}
 use Rattle.dhcp_clock.specs.Leads.{Leads}
-use Rattle.dhcp_clock.specs.Wait.{first_time, next_time, bounded_time, retransmit_wait}
+use Rattle.dhcp_clock.specs.Wait.{randomized_time, next_time, bounded_time, retransmit_wait}
 use Rattle.dhcp_clock.specs.Words.{Drawn, undrawn, drawn_word, drawn_then, DrawsBy}
 
 module _ {Step Value : Type 0} (moves : Step → Value → Value → Type 0) where
@@ -50,11 +50,11 @@ module _ {Source : Type 0} (gives : ℕ → Source → Source → Type 0) where
   pub taken_below : (source : Source) (mrt time : ℕ) → time ≤ mrt → DrawsBy gives (bounded_time mrt time) source time source
   taken_below source mrt time h = taken_same source source (undrawn time) (bounded_time mrt time) time (λ words. rw (le-leb time mrt h) refl) (taken_nothing source time)
 
-  pub taken_above : (old new : Source) (mrt time word : ℕ) → mrt < time → gives word old new → DrawsBy gives (bounded_time mrt time) old (first_time mrt word) new
+  pub taken_above : (old new : Source) (mrt time word : ℕ) → mrt < time → gives word old new → DrawsBy gives (bounded_time mrt time) old (randomized_time mrt word) new
   taken_above old new mrt time word h given =
-      let about : ℕ → List ℕ → Drawn ℕ = λ word. undrawn (first_time mrt word) in
-      taken_same old new (drawn_then drawn_word about) (bounded_time mrt time) (first_time mrt word) (λ words. rw (lt-leb time mrt h) refl)
-      (taken_both old new new drawn_word about word (first_time mrt word) (taken_word old new word given) (taken_nothing new (first_time mrt word)))
+      let about : ℕ → List ℕ → Drawn ℕ = λ word. undrawn (randomized_time mrt word) in
+      taken_same old new (drawn_then drawn_word about) (bounded_time mrt time) (randomized_time mrt word) (λ words. rw (lt-leb time mrt h) refl)
+      (taken_both old new new drawn_word about word (randomized_time mrt word) (taken_word old new word given) (taken_nothing new (randomized_time mrt word)))
 
   -- the wait of a retransmission: the word of its time, and what is drawn after it
   pub retransmit_taken : (old between new : Source) (previous irt mrt word time wait : ℕ) → gives word old between → time ≡ next_time previous irt word →

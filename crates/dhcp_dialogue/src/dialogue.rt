@@ -71,6 +71,7 @@ pub trait Dialogue {
         ensures long { OnOk result (length line.new.items ≤ most_line_bytes) }
         ensures fault { IfErr result (λ why. HasCause (why ≡ Failed)
             (hear_faults self.old) (hear_faults self.new)) }
+        ensures later { hear_faults self.old ≤ hear_faults self.new }
         ensures said { say_faults self.new ≡ say_faults self.old };
 
     /// Says a text, and returns whether all of it went out: `false` only if the count of faults

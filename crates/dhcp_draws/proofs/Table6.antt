@@ -1,15 +1,16 @@
 -- How many words the table of states of an IPv6 client draws, and how many a new client.
 use Rattle.std.proofs.Common.{ℕ, ◌+◌, ◌-◌, List, []}
 use Rattle.std.specs.Prelude.{Option, Some, None, Bool, true, false, min, nat_le}
-use Rattle.dhcp_clock.specs.Wait.{bounded_time, draw, first_time, next_time, retransmit_wait}
+use Rattle.dhcp_clock.specs.Wait.{bounded_time, draw, randomized_time, next_time, retransmit_wait}
 use Rattle.dhcp_clock.specs.Words.{drawn_then, drawn_word, undrawn}
 use Rattle.dhcp_history.specs.declared.rules.AttemptStart.{AttemptStart}
 use Rattle.dhcp6_opt.specs.Duid.{random_duid}
 use Rattle.dhcp6_opt.specs.declared.duid.DhcpV6Duid.{DhcpV6Duid}
 use Rattle.dhcp6_opt.specs.declared.duid.DhcpV6Duid.TheVariants.{Raw}
 use Rattle.dhcp6_msg.specs.Config.{Config, client_duid, duid_or_made}
+use Rattle.dhcp6_msg.specs.Exchange.{new_id}
 use Rattle.dhcp6_client.specs.Client.{first_draws}
-use Rattle.dhcp6_client.specs.Rules.{association_id, attempt, attempt_with, id_for, new_id, pause, protocol, transaction_id, wait, wait_until}
+use Rattle.dhcp6_client.specs.Rules.{association_id, attempt, attempt_with, id_for, pause, protocol, transaction_id, wait, wait_until}
 use Rattle.dhcp6_client.specs.declared.client_state.ClientState.{ClientState}
 use Rattle.dhcp6_client.specs.declared.client_state.ClientState.TheVariants.{Solicit, Request, Done, Temporary, Renew, Rebind}
 use Rattle.dhcp6_client.specs.declared.client_state.Exchange.{Exchange}
@@ -35,7 +36,7 @@ pause_draws (Rebind bound) exchange = draws_nothing 1 0
 
 -- the wait of an attempt
 bounded_draws : (mrt time : ℕ) → DrawsAtMost 1 (bounded_time mrt time)
-bounded_draws mrt time = draws_either 1 (nat_le time mrt) (undrawn time) (drawn_then drawn_word (λ word. undrawn (first_time mrt word))) (draws_nothing 1 time) (made_draws (first_time mrt))
+bounded_draws mrt time = draws_either 1 (nat_le time mrt) (undrawn time) (drawn_then drawn_word (λ word. undrawn (randomized_time mrt word))) (draws_nothing 1 time) (made_draws (randomized_time mrt))
 
 retransmit_draws : (previous irt mrt : ℕ) → DrawsAtMost 2 (retransmit_wait previous irt mrt)
 retransmit_draws previous irt mrt = draws_both 1 1 drawn_word (λ word. bounded_time mrt (next_time previous irt word)) next_draws (λ word. bounded_draws mrt (next_time previous irt word))

@@ -16,6 +16,15 @@ const IPV4: u16 = 0x0800;
 // The protocol number of UDP in an IPv4 header.
 pub(crate) const UDP: u8 = 17;
 
+// How many bytes an Ethernet header has.
+pub(crate) const ETHERNET_HEADER: usize = 14;
+
+// How many bytes an IPv4 header has that has no options.
+pub(crate) const IP_HEADER: usize = 20;
+
+// How many bytes a UDP header has.
+pub(crate) const UDP_HEADER: usize = 8;
+
 /// A frame over the bytes that it was read from: nothing is copied but its addresses and ports.
 /// Contracts see it as the frame that those bytes are.
 #[derive(Debug, Drop)]
@@ -183,13 +192,13 @@ impl<'a> Model for Datagram<'a> {
 fn read_ethernet(frame: &[u8]) -> Option<Ethernet<'_>>
     ensures { result ≡ View.read_ethernet frame.now }
 {
-    if frame.len() < 14 || field_at(frame, 12) != IPV4 {
+    if frame.len() < ETHERNET_HEADER || field_at(frame, 12) != IPV4 {
         return None;
     }
     Some(Ethernet {
         destination: array_at(frame, 0),
         source: array_at(frame, 6),
-        content: &frame[14..],
+        content: &frame[ETHERNET_HEADER..],
     })
 }
 
@@ -198,12 +207,12 @@ fn read_ethernet(frame: &[u8]) -> Option<Ethernet<'_>>
 fn read_packet(packet: &[u8]) -> Option<Packet<'_>>
     ensures { result ≡ View.read_packet packet.now }
 {
-    if packet.len() < 20 || packet[0] / 16 != 4 {
+    if packet.len() < IP_HEADER || packet[0] / 16 != 4 {
         return None;
     }
     let header_length = usize::from(packet[0] % 16) * 4;
     let total_length = usize::from(field_at(packet, 2));
-    if header_length < 20 || total_length < header_length || packet.len() < total_length {
+    if header_length < IP_HEADER || total_length < header_length || packet.len() < total_length {
         return None;
     }
     if field_at(packet, 6) % 0x4000 != 0 || packet[9] != UDP {
@@ -221,17 +230,17 @@ fn read_packet(packet: &[u8]) -> Option<Packet<'_>>
 pub(crate) fn read_datagram(datagram: &[u8]) -> Option<Datagram<'_>>
     ensures { result ≡ View.read_datagram datagram.now }
 {
-    if datagram.len() < 8 {
+    if datagram.len() < UDP_HEADER {
         return None;
     }
     let length = usize::from(field_at(datagram, 4));
-    if length < 8 || datagram.len() < length {
+    if length < UDP_HEADER || datagram.len() < length {
         return None;
     }
     Some(Datagram {
         source: field_at(datagram, 0),
         destination: field_at(datagram, 2),
-        payload: &datagram[8..length],
+        payload: &datagram[UDP_HEADER..length],
     })
 }
 

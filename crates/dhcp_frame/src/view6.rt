@@ -3,16 +3,14 @@
 ghost use Rattle.std.specs.Prelude.{◌≡◌, ◌≤◌, ◌+◌, length, option_map};
 ghost use Rattle.dhcp_frame.specs.View6 as View6;
 
-use crate::view::{UDP, array_at, field_at, read_datagram};
+use crate::view::{ETHERNET_HEADER, UDP, array_at, field_at, read_datagram};
 use std::marker::Model;
 use std::net::Ipv6Addr;
 
 // The type of IPv6 in an Ethernet header.
 const IPV6: u16 = 0x86dd;
 
-// The bytes of an Ethernet header, and of an IPv6 header.
-const ETHERNET_HEADER: usize = 14;
-
+// How many bytes an IPv6 header has.
 const IPV6_HEADER: usize = 40;
 
 /// A UDP datagram over IPv6 in an Ethernet frame, over the bytes that it was read from: nothing is

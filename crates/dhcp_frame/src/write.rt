@@ -8,15 +8,9 @@ ghost use Rattle.dhcp_frame.specs.View.{read_frame};
 
 use crate::Frame;
 use crate::checksum::{carried, checksum, word_sum};
+use crate::view::{ETHERNET_HEADER, IP_HEADER, UDP_HEADER};
 use dhcp_wire::{Bytes, DhcpError};
 use std::alloc::Global;
-
-// The bytes of an Ethernet, an IPv4 and a UDP header.
-const ETHERNET_HEADER: usize = 14;
-
-const IP_HEADER: usize = 20;
-
-const UDP_HEADER: usize = 8;
 
 /// The most bytes of payload of a frame that is written, 65,507: the most that a total length can
 /// say (RFC 791, section 3.1), less the headers of IPv4 and UDP.

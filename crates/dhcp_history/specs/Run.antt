@@ -194,7 +194,8 @@ pub record IsShut {A E State Exchange : Type 0} (result : Result (Option A) E)
   pub link : new.shown ≡ old.shown
   pub faults : new.faults ≡ old.faults
 
--- Out of memory came before a message was handed to the link: the client stands as it stood.
+-- Out of memory came before the link took or refused a message: the client stands as it stood, and
+-- the link lists no more.
 pub record IsUnsent {State Exchange : Type 0} (old new : Client State Exchange)
     (before after : Option Shown) : Type 0 where
   pub standing : new.standing ≡ old.standing

@@ -1,7 +1,5 @@
 //! The errors of a client's calls: out of memory as one of them, and each as `DhcpError`.
 
-ghost use Rattle.dhcp_history.specs.Errors as errors;
-
 use crate::{ReleaseError, RunError};
 use dhcp_wire::{DhcpError, ErrorKind, FixedText};
 use std::alloc::AllocError;

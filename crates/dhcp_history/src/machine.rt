@@ -2,10 +2,10 @@
 //! link. Each step has a function of its own; the last two, what a refused attempt and an open one
 //! await, share `receive`.
 
-ghost use Rattle.std.specs.Prelude.{◌≡◌, ◌≤◌, ◌<◌, ◌+◌, ◌^◌, ◌⊎◌, ◌&&◌, ◌||◌, ℕ, List, true, false, not, Option, Some, None, is_some, Ok, Err, OnErr, IfOk, IfSome, IsSomeAnd};
+ghost use Rattle.std.specs.Prelude.{◌≡◌, ◌<◌, ◌+◌, ◌^◌, ◌⊎◌, ◌&&◌, ◌||◌, ℕ, List, true, false, Option, Some, None, is_some, Ok, Err, OnErr, IfSome, IsSomeAnd};
 ghost use Rattle.dhcp_history.specs.Protocol.{has_come, pause_of};
 ghost use Rattle.dhcp_history.specs.History.{limit_moment, after_wait_if};
-ghost use Rattle.dhcp_history.specs.Machine.{is_unpolled, is_listening, is_stopped, limit_is_over, has_ended, exchange_at, enter, begin_stay, receive, transmit_and_receive, poll};
+ghost use Rattle.dhcp_history.specs.Machine.{is_unpolled, is_listening, is_stopped, limit_is_over, has_ended, exchange_at, enter, begin_stay, receive};
 ghost use Rattle.dhcp_history.specs.Calls.{Polls};
 ghost use Rattle.dhcp_history.specs.Seen.{seen};
 ghost use Rattle.dhcp_history.specs.Work.{HasWorked};
@@ -14,7 +14,7 @@ ghost use Rattle.dhcp_history.specs.Client.{view_of, view_with, unpolled, silent
 ghost use Rattle.dhcp_clock.specs.Words.{DrawsBy};
 ghost use Rattle.dhcp_history.specs.Traced.{StepsBy, Traces, Works, due_of};
 ghost use Rattle.dhcp_history.specs.Turns.{PollsUnheard, RunsOut, TakesTurns, WorksUnheard};
-ghost use Rattle.dhcp_history.specs.Run.{input_of, UsesLink, WhereKnown, UnlessNoMemory, OnNoMemory, OnTimeout, HasPolled, HasDrawn, HasDue, IsShut, NeedsMemory, IsUnsent, IsSent};
+ghost use Rattle.dhcp_history.specs.Run.{UsesLink, UnlessNoMemory, OnNoMemory, HasDrawn, HasDue, IsShut, NeedsMemory, IsUnsent, IsSent};
 
 use crate::attempt::{receive, transmit};
 use crate::schedule::limit_moment;

@@ -1,14 +1,12 @@
 //! The release of a lease, and the clean-up.
 
-ghost use Rattle.std.specs.Prelude.{◌≡◌, ℕ, List, true, is_some, None, if◌then◌else◌, Err, OnErr, OnOk, IfOk, IfSome};
+ghost use Rattle.std.specs.Prelude.{◌≡◌, ℕ, List, true, is_some, if◌then◌else◌, Err, OnOk, IfOk, IfSome};
 ghost use Rattle.dhcp_wire.specs.Fault.{HasCause};
 ghost use Rattle.dhcp_clock.specs.Link.{Hands, HandsOver};
 ghost use Rattle.dhcp_history.specs.Machine.{clean_up};
 ghost use Rattle.dhcp_history.specs.Calls.{CleansUp, KeepsClient};
 ghost use Rattle.dhcp_history.specs.Client.{unpolled, view_of};
-ghost use Rattle.dhcp_history.specs.Schedule.{HasNextAttempt};
 ghost use Rattle.dhcp_history.specs.Errors.{sent_when};
-ghost use Rattle.dhcp_history.specs.Kept.{DropsLease, Keeps};
 ghost use Rattle.dhcp_history.specs.Release.{OnOutOfMemory, UnlessOutOfMemory, held_message, release_held, HasReleased};
 ghost use Rattle.dhcp_history.specs.Turns.{TracesRelease};
 

@@ -9,7 +9,7 @@ ghost use Rattle.dhcp_history.specs.Release.{UnlessOutOfMemory, held_message};
 ghost use Rattle.dhcp_history.specs.Turns.{TracesRelease};
 
 use crate::{Client, ReleaseError, Rules, release_by, release_held};
-use dhcp_clock::{DhcpLink, Handed, Sent};
+use dhcp_clock::{DhcpLink, Handed};
 use dhcp_wire::DhcpError;
 
 /// Hands the release of a lease to the link at a moment, in milliseconds, and cleans up where the

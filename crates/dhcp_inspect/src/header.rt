@@ -26,14 +26,14 @@ pub enum ByteOrder {
 pub enum TimeUnit {
     /// Millionths of a second: the magic number is a1b2c3d4.
     Microseconds,
-    /// Thousandths of a millionth: the magic number is a1b23c4d.
+    /// Billionths of a second: the magic number is a1b23c4d.
     Nanoseconds,
 }
 
 /// What the header of a file says.
 #[derive(Clone, Copy, Debug, PartialEq, Eq)]
 pub struct Header {
-    /// The order of the bytes of all numbers of headers.
+    /// The order of the bytes of each number in the headers of the file and of its records.
     pub order: ByteOrder,
     /// The unit of the fractions.
     pub unit: TimeUnit,

@@ -108,7 +108,8 @@ impl<C: VerdictClient> LiveClient<C> {
         Ok(outputs_of(alloc, reports)?)
     }
 
-    /// Adds random words behind those that are left. Out of memory is the only error.
+    /// Adds random words behind those that are left. Out of memory is the only error; a part of
+    /// them may then be there.
     pub fn add_words(&mut self, words: &[u32]) -> Result<(), DhcpError>
         ensures added { OnOk result
             (held C.parts self.new ≡ with_words words.now (held C.parts self.old)) }

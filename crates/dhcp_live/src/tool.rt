@@ -2,7 +2,6 @@
 
 ghost use Rattle.std.specs.Prelude.{◌≡◌, true};
 ghost use Rattle.dhcp_tool.specs.Status.{status_number};
-ghost use Rattle.dhcp_script.specs.Script as scripts;
 ghost use Rattle.dhcp_script.specs.Script4 as v4;
 ghost use Rattle.dhcp_script.specs.Script6 as v6;
 ghost use Rattle.dhcp_script.specs.declared.script.Script.TheVariants.{V4, V6};

@@ -37,7 +37,8 @@ impl WordQueue {
         Ok(queue)
     }
 
-    /// Adds words behind those that are left. Out of memory is the only error.
+    /// Adds words behind those that are left. Out of memory is the only error; a part of them may
+    /// then be there.
     pub fn add(&mut self, words: &[u32]) -> Result<(), DhcpError>
         ensures added { OnOk result (self.new ≡ self.old ++ words.now) }
         ensures error { IfErr result (λ error. error ≡ no_memory) }

@@ -18,6 +18,7 @@ use Rattle.dhcp_history.specs.declared.script.Report.{Report}
 use Rattle.dhcp_history.specs.declared.script.Report.TheVariants as reports
 use Rattle.dhcp4_client.specs.declared.state.PlainState as states4
 use Rattle.dhcp6_msg.specs.Config.{Config}
+use Rattle.dhcp6_msg.specs.Exchange.{concerns, payload_in}
 use Rattle.dhcp6_msg.specs.Lease.{Lease, is_duid, is_typed, is_within_limits, read_lease}
 use Rattle.dhcp6_msg.specs.Message.{read_message}
 use Rattle.dhcp6_msg.specs.declared.message.DhcpV6Message.{DhcpV6Message}
@@ -25,7 +26,7 @@ use Rattle.dhcp6_msg.specs.declared.message_type.DhcpV6MessageType.{DhcpV6Messag
 use Rattle.dhcp6_msg.specs.declared.mode.DhcpV6Mode.{DhcpV6Mode}
 use Rattle.dhcp6_msg.specs.declared.mode.DhcpV6Mode.TheVariants.{NonTemporaryAddresses, TemporaryAddresses, PrefixDelegation}
 use Rattle.dhcp6_msg.proofs.LimitLemmas.{within_limits}
-use Rattle.dhcp6_client.specs.Answer.{answer_of, awaited_type, concerns, lease_if_read, message_for, payload_in}
+use Rattle.dhcp6_client.specs.Answer.{answer_of, awaited_type, lease_if_read, message_for}
 use Rattle.dhcp6_client.specs.Rules.{after_answer, after_end, bound_state, protocol, public_state, reading}
 use Rattle.dhcp6_client.specs.declared.state.PlainState as states6
 use Rattle.dhcp6_client.specs.declared.client_state.ClientState.{ClientState}

@@ -90,7 +90,8 @@ fn begun6<W: Words>(
     )
 }
 
-// Whether all that a client is given is within the limits of a script; the error names what is not.
+// Whether all that a client is given is within the limits of a script; the error says that it is
+// not.
 fn check_limits(
     config: &DhcpV6Config,
     lease: &Option<DhcpV6Lease>,
@@ -103,7 +104,7 @@ fn check_limits(
 {
     check_events(start, events)?;
     if !fit_a_script(config, lease) {
-        return Err(DhcpError::new_fixed(ErrorKind::InvalidArgument, FixedText::Config));
+        return Err(DhcpError::new_fixed(ErrorKind::InvalidArgument, FixedText::Script));
     }
     Ok(())
 }

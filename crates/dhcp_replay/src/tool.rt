@@ -15,7 +15,7 @@ ghost use Rattle.dhcp_script.specs.Script.{IsScript, is_valid, script_text};
 ghost use Rattle.dhcp_script.specs.declared.script.Script.{Script};
 ghost use Rattle.dhcp_replay.specs.Promises.{KeepsPromisesOf};
 ghost use Rattle.dhcp_replay.specs.Replayed.{events_of, outputs_of};
-ghost use Rattle.dhcp_replay.specs.Request.{AsksFor, AsksForNothing, IsRequest};
+ghost use Rattle.dhcp_replay.specs.Request.{AsksFor, AsksForNothing};
 ghost use Rattle.dhcp_replay.specs.Tool.{
   demo_summary,
   job_of,

@@ -14,10 +14,10 @@ use Rattle.dhcp4_msg.specs.Message.{no_address}
 use Rattle.dhcp4_msg.specs.declared.route.DhcpV4ClasslessRoute.{DhcpV4ClasslessRoute}
 use Rattle.dhcp_script.specs.Field.{list_text, unless_none}
 use Rattle.dhcp_script.specs.declared.lease4.Lease4.{Lease4}
-use Rattle.dhcp_script.specs.declared.lease4.reader.Version2Fields.{Version2Fields}
+use Rattle.dhcp_script.specs.declared.lease4.reader.LaterFields.{LaterFields}
 use Rattle.dhcp_script.specs.declared.version.Version.{Version}
 use Rattle.dhcp_script.specs.declared.version.Version.TheVariants.{One, Later}
-use Rattle.dhcp_script.specs.Lease4Reader.{lease4_at, lease4_of, link_at, names_at, no_version2_fields, servers_at, version2_fields_at, version2_fields_of}
+use Rattle.dhcp_script.specs.Lease4Reader.{lease4_at, lease4_of, link_at, names_at, no_later_fields, servers_at, later_fields_at, later_fields_of}
 use Rattle.dhcp_script.specs.FieldReader.{held_at, list_in, route_in, route_of, three_at, u32_in, word_or}
 use Rattle.dhcp_script.specs.Lease4.{HasLeaseText, IsLease4, IsRoute, addresses_text, first_alone, lease_text, route_text, versioned_lease_text}
 use Rattle.dhcp_script.specs.Version.{end_of_times}
@@ -138,32 +138,32 @@ codec_names : IsCodec names_print NamesFit names_at
 unfolding three_at names_print NamesFit
 codec_names = IsCodec-triple name_field name_field routes_field
 
-version2_parts : Version2Fields → (Ipv4Addr × Option Ipv4Addr × Option ℕ)
+later_parts : LaterFields → (Ipv4Addr × Option Ipv4Addr × Option ℕ)
     × ((Option (List Ipv4Addr) × Option (List Ipv4Addr) × Option (List Ipv4Addr)) × (Option (List ℕ) × Option (List ℕ) × Option (List DhcpV4ClasslessRoute)))
-version2_parts x = (
+later_parts x = (
   (x.subnet_mask, x.broadcast_addr, x.mtu),
   ((x.dns_srvs, x.gateways, x.ntp_srvs), (x.host_name, x.domain_name, x.classless_routes)),
 )
 
-version2_print : Version → Version2Fields → List ℕ
-version2_print One x = []
-version2_print Later x = link_print (version2_parts x).0 ++ (servers_print (version2_parts x).1.0 ++ names_print (version2_parts x).1.1)
+later_print : Version → LaterFields → List ℕ
+later_print One x = []
+later_print Later x = link_print (later_parts x).0 ++ (servers_print (later_parts x).1.0 ++ names_print (later_parts x).1.1)
 
-Version2Fits : Version → Version2Fields → Type 0
-Version2Fits One x = x ≡ no_version2_fields
-Version2Fits Later x = LinkFits (version2_parts x).0 × (ServersFit (version2_parts x).1.0 × NamesFit (version2_parts x).1.1)
+LaterFits : Version → LaterFields → Type 0
+LaterFits One x = x ≡ no_later_fields
+LaterFits Later x = LinkFits (later_parts x).0 × (ServersFit (later_parts x).1.0 × NamesFit (later_parts x).1.1)
 
-codec_version2 : (version : Version) → IsCodec (version2_print version) (Version2Fits version) (version2_fields_at version)
-unfolding version2_fields_at version2_parts version2_print Version2Fits
-codec_version2 One = record {
-  sound = λ text x rest h. let parts = same_read no_version2_fields x text rest h in (parts.1, sym parts.0);
-  complete = λ x rest fits. ap (λ (fields : Version2Fields). Some (fields, rest)) (sym fits);
+codec_later : (version : Version) → IsCodec (later_print version) (LaterFits version) (later_fields_at version)
+unfolding later_fields_at later_parts later_print LaterFits
+codec_later One = record {
+  sound = λ text x rest h. let parts = same_read no_later_fields x text rest h in (parts.1, sym parts.0);
+  complete = λ x rest fits. ap (λ (fields : LaterFields). Some (fields, rest)) (sym fits);
 }
-codec_version2 Later = IsCodec-made_of (IsCodec-both codec_link (IsCodec-both codec_servers codec_names)) version2_fields_of version2_parts (λ x. refl) (λ y. refl)
+codec_later Later = IsCodec-made_of (IsCodec-both codec_link (IsCodec-both codec_servers codec_names)) later_fields_of later_parts (λ x. refl) (λ y. refl)
 
 -- what a lease has of them
-version2_in : Lease4 → Version2Fields
-version2_in lease = record {
+later_in : Lease4 → LaterFields
+later_in lease = record {
   subnet_mask = lease.subnet_mask;
   broadcast_addr = lease.broadcast_addr;
   mtu = lease.mtu;
@@ -175,10 +175,10 @@ version2_in lease = record {
   classless_routes = lease.classless_routes;
 }
 
-lease_parts : Lease4 → (Ipv4Addr × Ipv4Addr × Ipv4Addr) × ((ℕ × ℕ × ℕ) × Version2Fields)
+lease_parts : Lease4 → (Ipv4Addr × Ipv4Addr × Ipv4Addr) × ((ℕ × ℕ × ℕ) × LaterFields)
 lease_parts lease = (
   (lease.yiaddr, lease.siaddr, lease.srv_id),
-  ((lease.t1_sec, lease.t2_sec, lease.lease_time_sec), version2_in lease),
+  ((lease.t1_sec, lease.t2_sec, lease.lease_time_sec), later_in lease),
 )
 
 -- an MTU of 16 bits, either way
@@ -193,10 +193,10 @@ mtu_from (Some n) fits = omega arith
 -- the line of a lease, by its parts
 lease_line : (version : Version) (lease : Lease4) → List ℕ
 lease_line version lease =
-    addresses_print (lease_parts lease).0 ++ (times_print version (lease_parts lease).1.0 ++ version2_print version (version2_in lease))
+    addresses_print (lease_parts lease).0 ++ (times_print version (lease_parts lease).1.0 ++ later_print version (later_in lease))
 
 lease_line-is : (version : Version) (lease : Lease4) → lease_line version lease ≡ versioned_lease_text version lease ++ 10 ∷ []
-unfolding lease_line lease_text lease_parts version2_in version2_parts addresses_print times_print version2_print link_print servers_print names_print
+unfolding lease_line lease_text lease_parts later_in later_parts addresses_print times_print later_print link_print servers_print names_print
 lease_line-is One lease = simp append_assoc
 lease_line-is Later lease = simp append_assoc
 
@@ -242,12 +242,12 @@ first_alone-fits lease fits = record {
 }
 
 PartsFit : Version → Lease4 → Type 0
-PartsFit version lease = AddressesFit (lease_parts lease).0 × (TimesFit (lease_parts lease).1.0 × Version2Fits version (version2_in lease))
+PartsFit version lease = AddressesFit (lease_parts lease).0 × (TimesFit (lease_parts lease).1.0 × LaterFits version (later_in lease))
 
 fits_to : (version : Version) (lease : Lease4) → PartsFit version lease → HasLeaseText version lease
-unfolding PartsFit FirstFits Version2Fits lease_parts version2_in version2_parts AddressesFit TimesFit LinkFits ServersFit NamesFit empty_lease
+unfolding PartsFit FirstFits LaterFits lease_parts later_in later_parts AddressesFit TimesFit LinkFits ServersFit NamesFit empty_lease
 fits_to One lease fits =
-    let same : lease ≡ first_alone lease = ap (λ (fields : Version2Fields). lease4_of ((lease_parts lease).0, ((lease_parts lease).1.0, fields))) fits.1.1 in
+    let same : lease ≡ first_alone lease = ap (λ (fields : LaterFields). lease4_of ((lease_parts lease).0, ((lease_parts lease).1.0, fields))) fits.1.1 in
     (subst (λ (l : Lease4). IsLease4 l) (sym same) (first_alone-fits lease (fits.0, fits.1.0)), same)
 fits_to Later lease fits = record {
   yiaddr = fits.0.0;
@@ -268,8 +268,8 @@ fits_to Later lease fits = record {
 }
 
 fits_from : (version : Version) (lease : Lease4) → HasLeaseText version lease → PartsFit version lease
-unfolding PartsFit FirstFits Version2Fits version2_in version2_parts LinkFits ServersFit NamesFit empty_lease
-fits_from One lease fits = let first = first_from lease fits.0 in (first.0, (first.1, ap version2_in fits.1))
+unfolding PartsFit FirstFits LaterFits later_in later_parts LinkFits ServersFit NamesFit empty_lease
+fits_from One lease fits = let first = first_from lease fits.0 in (first.0, (first.1, ap later_in fits.1))
 fits_from Later lease fits =
     let first = first_from lease fits in (
       first.0,
@@ -284,9 +284,9 @@ fits_from Later lease fits =
 
 -- the line of a lease
 pub IsCodec-lease : (version : Version) → IsCodec (λ lease. versioned_lease_text version lease ++ 10 ∷ []) (HasLeaseText version) (lease4_at version)
-unfolding lease4_at lease_parts version2_in lease_line PartsFit
+unfolding lease4_at lease_parts later_in lease_line PartsFit
 IsCodec-lease version =
-    IsCodec-as (IsCodec-made_of (IsCodec-both codec_addresses (IsCodec-both (codec_times version) (codec_version2 version))) lease4_of lease_parts (λ x. refl) (λ y. refl))
+    IsCodec-as (IsCodec-made_of (IsCodec-both codec_addresses (IsCodec-both (codec_times version) (codec_later version))) lease4_of lease_parts (λ x. refl) (λ y. refl))
     (lease_line-is version) (fits_to version) (fits_from version)
 
 -- a lease that has a text is one

@@ -19,12 +19,12 @@ use Rattle.dhcp6_msg.specs.declared.mode.DhcpV6IaType.{DhcpV6IaType}
 use Rattle.dhcp6_msg.specs.declared.mode.DhcpV6IaType.TheVariants.{NonTemporaryAddresses, TemporaryAddresses, PrefixDelegation}
 use Rattle.dhcp_script.specs.Field.{unless_none}
 use Rattle.dhcp_script.specs.declared.lease6.Lease6.{Lease6}
-use Rattle.dhcp_script.specs.declared.lease6.reader.Version2Fields.{Version2Fields}
+use Rattle.dhcp_script.specs.declared.lease6.reader.LaterFields.{LaterFields}
 use Rattle.dhcp_script.specs.declared.version.Version.{Version}
 use Rattle.dhcp_script.specs.declared.version.Version.TheVariants.{One, Later}
 use Rattle.dhcp_script.specs.FieldReader.{held_at, three_at}
 use Rattle.dhcp_script.specs.Lease6.{HasLeaseText, IsLease6, first_alone, ia_type_text, lease_text, versioned_lease_text}
-use Rattle.dhcp_script.specs.Lease6Reader.{association_at, ia_type_in, lease6_at, lease6_of, no_version2_fields, server_at, times_at, version2_fields_at, version2_fields_of}
+use Rattle.dhcp_script.specs.Lease6Reader.{association_at, ia_type_in, lease6_at, lease6_of, no_later_fields, server_at, times_at, later_fields_at, later_fields_of}
 use Rattle.dhcp_script.specs.Version.{end_of_times}
 use Rattle.dhcp_script.proofs.Clear.{HasNo-decimal, HasNo-encode_lower, HasNo-hex_text}
 use Rattle.dhcp_script.proofs.HeldLaws.{BeginsOtherwise, IsCodec-held}
@@ -118,35 +118,35 @@ codec_times version =
     let spaced = u32_field 32 (omega arith) in
     IsCodec-both (IsCodec-triple spaced spaced spaced) (u32_field (end_of_times version) (end_of_times-below version))
 
-version2_parts : Version2Fields → ℕ × (List ℕ × Ipv6Addr)
-version2_parts x = (x.xid, (x.cli_duid, x.srv_ip))
+later_parts : LaterFields → ℕ × (List ℕ × Ipv6Addr)
+later_parts x = (x.xid, (x.cli_duid, x.srv_ip))
 
-version2_print : Version → Version2Fields → List ℕ
-version2_print One x = []
-version2_print Later x = (decimal x.xid ++ 32 ∷ []) ++ ((hex_text x.cli_duid ++ 32 ∷ []) ++ (address6_text x.srv_ip ++ 10 ∷ []))
+later_print : Version → LaterFields → List ℕ
+later_print One x = []
+later_print Later x = (decimal x.xid ++ 32 ∷ []) ++ ((hex_text x.cli_duid ++ 32 ∷ []) ++ (address6_text x.srv_ip ++ 10 ∷ []))
 
-Version2Fits : Version → Version2Fields → Type 0
-Version2Fits One x = x ≡ no_version2_fields
-Version2Fits Later x = (x.xid ≤ 4294967295) × (IsBytes x.cli_duid × IsIpv6Addr x.srv_ip)
+LaterFits : Version → LaterFields → Type 0
+LaterFits One x = x ≡ no_later_fields
+LaterFits Later x = (x.xid ≤ 4294967295) × (IsBytes x.cli_duid × IsIpv6Addr x.srv_ip)
 
-codec_version2 : (version : Version) → IsCodec (version2_print version) (Version2Fits version) (version2_fields_at version)
-unfolding version2_fields_at version2_parts version2_print Version2Fits
-codec_version2 One = record {
-  sound = λ text x rest h. let parts = same_read no_version2_fields x text rest h in (parts.1, sym parts.0);
-  complete = λ x rest fits. ap (λ (fields : Version2Fields). Some (fields, rest)) (sym fits);
+codec_later : (version : Version) → IsCodec (later_print version) (LaterFits version) (later_fields_at version)
+unfolding later_fields_at later_parts later_print LaterFits
+codec_later One = record {
+  sound = λ text x rest h. let parts = same_read no_later_fields x text rest h in (parts.1, sym parts.0);
+  complete = λ x rest fits. ap (λ (fields : LaterFields). Some (fields, rest)) (sym fits);
 }
-codec_version2 Later = IsCodec-made_of (IsCodec-both (u32_field 32 (omega arith)) (IsCodec-both hex_field (address6_field 10 (omega arith)))) version2_fields_of version2_parts (λ x. refl) (λ y. refl)
+codec_later Later = IsCodec-made_of (IsCodec-both (u32_field 32 (omega arith)) (IsCodec-both hex_field (address6_field 10 (omega arith)))) later_fields_of later_parts (λ x. refl) (λ y. refl)
 
 -- what a lease has of them
-version2_in : Lease6 → Version2Fields
-version2_in lease = record { xid = lease.xid; cli_duid = lease.cli_duid; srv_ip = lease.srv_ip }
+later_in : Lease6 → LaterFields
+later_in lease = record { xid = lease.xid; cli_duid = lease.cli_duid; srv_ip = lease.srv_ip }
 
-lease_parts : Lease6 → (DhcpV6IaType × ℕ × Ipv6Addr) × ((ℕ × List ℕ) × (((ℕ × ℕ × ℕ) × ℕ) × Version2Fields))
+lease_parts : Lease6 → (DhcpV6IaType × ℕ × Ipv6Addr) × ((ℕ × List ℕ) × (((ℕ × ℕ × ℕ) × ℕ) × LaterFields))
 lease_parts lease = (
   (lease.ia_type, lease.iaid, lease.address),
   (
     (lease.prefix_len, lease.srv_duid),
-    (((lease.t1_sec, lease.t2_sec, lease.preferred_time_sec), lease.valid_time_sec), version2_in lease),
+    (((lease.t1_sec, lease.t2_sec, lease.preferred_time_sec), lease.valid_time_sec), later_in lease),
   ),
 )
 
@@ -154,10 +154,10 @@ lease_parts lease = (
 lease_line : (version : Version) (lease : Lease6) → List ℕ
 lease_line version lease =
     association_print (lease_parts lease).0
-    ++ (server_print (lease_parts lease).1.0 ++ (times_print version (lease_parts lease).1.1.0 ++ version2_print version (version2_in lease)))
+    ++ (server_print (lease_parts lease).1.0 ++ (times_print version (lease_parts lease).1.1.0 ++ later_print version (later_in lease)))
 
 lease_line-is : (version : Version) (lease : Lease6) → lease_line version lease ≡ versioned_lease_text version lease ++ 10 ∷ []
-unfolding lease_line lease_text lease_parts version2_in association_print server_print times_print version2_print
+unfolding lease_line lease_text lease_parts later_in association_print server_print times_print later_print
 lease_line-is One lease = simp append_assoc
 lease_line-is Later lease = simp append_assoc
 
@@ -186,7 +186,7 @@ FirstFits lease = AssociationFits (lease_parts lease).0 × (ServerFits (lease_pa
 PartsFit : Version → Lease6 → Type 0
 PartsFit version lease =
     AssociationFits (lease_parts lease).0
-    × (ServerFits (lease_parts lease).1.0 × (TimesFit (lease_parts lease).1.1.0 × Version2Fits version (version2_in lease)))
+    × (ServerFits (lease_parts lease).1.0 × (TimesFit (lease_parts lease).1.1.0 × LaterFits version (later_in lease)))
 
 -- a lease whose last fields fit too
 made_fit : (lease : Lease6) → FirstFits lease → lease.xid < 2 ^ 32 → IsBytes lease.cli_duid → IsIpv6Addr lease.srv_ip → IsLease6 lease
@@ -206,9 +206,9 @@ made_fit lease first xid cli_duid srv_ip = record {
 }
 
 fits_to : (version : Version) (lease : Lease6) → PartsFit version lease → HasLeaseText version lease
-unfolding PartsFit FirstFits Version2Fits lease_parts version2_in empty_lease written_duid
+unfolding PartsFit FirstFits LaterFits lease_parts later_in empty_lease written_duid
 fits_to One lease fits =
-    let same : lease ≡ first_alone lease = ap (λ (fields : Version2Fields). lease6_of ((lease_parts lease).0, ((lease_parts lease).1.0, ((lease_parts lease).1.1.0, fields)))) fits.1.1.1 in
+    let same : lease ≡ first_alone lease = ap (λ (fields : LaterFields). lease6_of ((lease_parts lease).0, ((lease_parts lease).1.0, ((lease_parts lease).1.1.0, fields)))) fits.1.1.1 in
     (subst (λ (l : Lease6). IsLease6 l) (sym same) (made_fit (first_alone lease) (fits.0, (fits.1.0, fits.1.1.0)) (omega arith) none-fits unspecified-fits), same)
 fits_to Later lease fits =
     made_fit lease (fits.0, (fits.1.0, fits.1.1.0)) (let small = fits.1.1.1.0 in omega arith) fits.1.1.1.1.0 fits.1.1.1.1.1
@@ -227,19 +227,19 @@ first_from lease fits = (
 )
 
 fits_from : (version : Version) (lease : Lease6) → HasLeaseText version lease → PartsFit version lease
-unfolding PartsFit FirstFits Version2Fits version2_in empty_lease written_duid
+unfolding PartsFit FirstFits LaterFits later_in empty_lease written_duid
 fits_from One lease fits =
-    let first = first_from lease fits.0 in (first.0, (first.1.0, (first.1.1, ap version2_in fits.1)))
+    let first = first_from lease fits.0 in (first.0, (first.1.0, (first.1.1, ap later_in fits.1)))
 fits_from Later lease fits =
     let first = first_from lease fits in
     (first.0, (first.1.0, (first.1.1, ((let small = fits.xid in omega arith), (fits.cli_duid, fits.srv_ip)))))
 
 -- the line of a lease
 pub IsCodec-lease : (version : Version) → IsCodec (λ lease. versioned_lease_text version lease ++ 10 ∷ []) (HasLeaseText version) (lease6_at version)
-unfolding lease6_at lease_parts version2_in lease_line PartsFit
+unfolding lease6_at lease_parts later_in lease_line PartsFit
 IsCodec-lease version =
     IsCodec-as
-    (IsCodec-made_of (IsCodec-both codec_association (IsCodec-both codec_server (IsCodec-both (codec_times version) (codec_version2 version)))) lease6_of lease_parts (λ x. refl) (λ y. refl))
+    (IsCodec-made_of (IsCodec-both codec_association (IsCodec-both codec_server (IsCodec-both (codec_times version) (codec_later version)))) lease6_of lease_parts (λ x. refl) (λ y. refl))
     (lease_line-is version) (fits_to version) (fits_from version)
 
 -- the text of a lease begins with the type of its association

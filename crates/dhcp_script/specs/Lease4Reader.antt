@@ -6,7 +6,7 @@ use Rattle.dhcp_stream.specs.TextReader.{address_in, both, hex_utf8_in, made_of,
 use Rattle.dhcp4_msg.specs.Message.{no_address}
 use Rattle.dhcp4_msg.specs.declared.route.DhcpV4ClasslessRoute.{DhcpV4ClasslessRoute}
 use Rattle.dhcp_script.specs.declared.lease4.Lease4.{Lease4}
-use Rattle.dhcp_script.specs.declared.lease4.reader.Version2Fields.{Version2Fields}
+use Rattle.dhcp_script.specs.declared.lease4.reader.LaterFields.{LaterFields}
 use Rattle.dhcp_script.specs.declared.version.Version.{Version}
 use Rattle.dhcp_script.specs.declared.version.Version.TheVariants.{One, Later}
 use Rattle.dhcp_script.specs.FieldReader.{list_in, route_in, three_at, u32_in, word_or}
@@ -33,10 +33,10 @@ abbrev pub names_at : List ℕ
 names_at text =
     three_at (optional hex_utf8_in) (optional hex_utf8_in) (optional (list_in route_in)) 10 text
 
-abbrev pub version2_fields_of : (Ipv4Addr × Option Ipv4Addr × Option ℕ)
+abbrev pub later_fields_of : (Ipv4Addr × Option Ipv4Addr × Option ℕ)
     × ((Option (List Ipv4Addr) × Option (List Ipv4Addr) × Option (List Ipv4Addr))
-    × (Option (List ℕ) × Option (List ℕ) × Option (List DhcpV4ClasslessRoute))) → Version2Fields
-version2_fields_of parts = record {
+    × (Option (List ℕ) × Option (List ℕ) × Option (List DhcpV4ClasslessRoute))) → LaterFields
+later_fields_of parts = record {
   subnet_mask = parts.0.0;
   broadcast_addr = parts.0.1;
   mtu = parts.0.2;
@@ -49,8 +49,8 @@ version2_fields_of parts = record {
 }
 
 -- what the empty lease has of them
-abbrev pub no_version2_fields : Version2Fields
-no_version2_fields = record {
+abbrev pub no_later_fields : LaterFields
+no_later_fields = record {
   subnet_mask = no_address;
   broadcast_addr = None;
   mtu = None;
@@ -62,13 +62,13 @@ no_version2_fields = record {
   classless_routes = None;
 }
 
--- the fields that version 2 alone has
-unfoldable pub version2_fields_at : Version → List ℕ → Read Version2Fields
-version2_fields_at One text = Some (no_version2_fields, text)
-version2_fields_at Later text =
-    made_of version2_fields_of (both link_at (both servers_at names_at)) text
+-- the fields that the later versions alone have
+unfoldable pub later_fields_at : Version → List ℕ → Read LaterFields
+later_fields_at One text = Some (no_later_fields, text)
+later_fields_at Later text =
+    made_of later_fields_of (both link_at (both servers_at names_at)) text
 
-abbrev pub lease4_of : (Ipv4Addr × Ipv4Addr × Ipv4Addr) × ((ℕ × ℕ × ℕ) × Version2Fields) → Lease4
+abbrev pub lease4_of : (Ipv4Addr × Ipv4Addr × Ipv4Addr) × ((ℕ × ℕ × ℕ) × LaterFields) → Lease4
 lease4_of parts = record {
   yiaddr = parts.0.0;
   siaddr = parts.0.1;
@@ -88,9 +88,9 @@ lease4_of parts = record {
 }
 
 -- the fields of a lease, to the end of the line: the address that is leased, the next server and
--- the server identifier, T1, T2 and the end, and in version 2 the others
+-- the server identifier, T1, T2 and the end, and in the later versions the others
 unfoldable pub lease4_at : Version → List ℕ → Read Lease4
 lease4_at version text =
     made_of lease4_of
     (both (three_at address_in address_in address_in 32)
-    (both (three_at u32_in u32_in u32_in (end_of_times version)) (version2_fields_at version))) text
+    (both (three_at u32_in u32_in u32_in (end_of_times version)) (later_fields_at version))) text

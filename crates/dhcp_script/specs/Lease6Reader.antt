@@ -8,7 +8,7 @@ use Rattle.dhcp6_opt.specs.Ia.{unspecified}
 use Rattle.dhcp6_msg.specs.declared.mode.DhcpV6IaType.{DhcpV6IaType}
 use Rattle.dhcp6_msg.specs.declared.mode.DhcpV6IaType.TheVariants.{NonTemporaryAddresses, TemporaryAddresses, PrefixDelegation}
 use Rattle.dhcp_script.specs.declared.lease6.Lease6.{Lease6}
-use Rattle.dhcp_script.specs.declared.lease6.reader.Version2Fields.{Version2Fields}
+use Rattle.dhcp_script.specs.declared.lease6.reader.LaterFields.{LaterFields}
 use Rattle.dhcp_script.specs.declared.version.Version.{Version}
 use Rattle.dhcp_script.specs.declared.version.Version.TheVariants.{One, Later}
 use Rattle.dhcp_script.specs.FieldReader.{three_at, u32_at, u32_in}
@@ -22,18 +22,18 @@ ia_type_in field =
     else if bytes_eq field (codes "pd") then Some PrefixDelegation
     else None
 
-abbrev pub version2_fields_of : ℕ × (List ℕ × Ipv6Addr) → Version2Fields
-version2_fields_of parts = record { xid = parts.0; cli_duid = parts.1.0; srv_ip = parts.1.1 }
+abbrev pub later_fields_of : ℕ × (List ℕ × Ipv6Addr) → LaterFields
+later_fields_of parts = record { xid = parts.0; cli_duid = parts.1.0; srv_ip = parts.1.1 }
 
 -- what the empty lease has of them
-abbrev pub no_version2_fields : Version2Fields
-no_version2_fields = record { xid = 0; cli_duid = []; srv_ip = unspecified }
+abbrev pub no_later_fields : LaterFields
+no_later_fields = record { xid = 0; cli_duid = []; srv_ip = unspecified }
 
--- the fields that version 2 alone has
-unfoldable pub version2_fields_at : Version → List ℕ → Read Version2Fields
-version2_fields_at One text = Some (no_version2_fields, text)
-version2_fields_at Later text =
-    made_of version2_fields_of
+-- the fields that the later versions alone have
+unfoldable pub later_fields_at : Version → List ℕ → Read LaterFields
+later_fields_at One text = Some (no_later_fields, text)
+later_fields_at Later text =
+    made_of later_fields_of
     (both (u32_at 32) (both (in_field hex_in 32) (in_field address6_in 10))) text
 
 -- the type and the IAID of the identity association, and the address
@@ -50,7 +50,7 @@ times_at version text =
     both (three_at u32_in u32_in u32_in 32) (u32_at (end_of_times version)) text
 
 abbrev pub lease6_of : (DhcpV6IaType × ℕ × Ipv6Addr)
-    × ((ℕ × List ℕ) × (((ℕ × ℕ × ℕ) × ℕ) × Version2Fields)) → Lease6
+    × ((ℕ × List ℕ) × (((ℕ × ℕ × ℕ) × ℕ) × LaterFields)) → Lease6
 lease6_of parts = record {
   ia_type = parts.0.0;
   iaid = parts.0.1;
@@ -70,4 +70,4 @@ lease6_of parts = record {
 unfoldable pub lease6_at : Version → List ℕ → Read Lease6
 lease6_at version text =
     made_of lease6_of (both association_at (both server_at
-    (both (times_at version) (version2_fields_at version)))) text
+    (both (times_at version) (later_fields_at version)))) text

@@ -4,7 +4,7 @@ ghost use Rattle.std.specs.Prelude.{◌≡◌, length};
 ghost use Rattle.std.specs.List.{list_all};
 ghost use Rattle.dhcp_script.specs.Event as limits;
 
-use dhcp_wire::{Bytes, Sequence};
+use dhcp_wire::Bytes;
 
 /// How many events a script has at most.
 pub const MAX_EVENTS: usize = 20_000;

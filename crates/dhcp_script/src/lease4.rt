@@ -3,7 +3,7 @@
 pub mod printer;
 pub mod reader;
 
-ghost use Rattle.std.specs.Prelude.{◌≡◌, option_copied};
+ghost use Rattle.std.specs.Prelude.{◌≡◌};
 ghost use Rattle.dhcp_wire.specs.Outcome.{Makes};
 ghost use Rattle.dhcp_script.specs.Lease4 as leases;
 ghost use Rattle.dhcp_script.specs.Puts.{Puts};

@@ -21,7 +21,7 @@ is_lower_digit byte = (nat_le 48 byte && nat_le byte 57) || (nat_le 97 byte && n
 abbrev pub AreOctets : ℕ → List ℕ → Type 0
 AreOctets n octets = (length octets ≡ n) × IsBytes octets
 
--- the six bytes of an MAC address
+-- the six bytes of a MAC address
 abbrev pub IsMac : List ℕ → Type 0
 IsMac mac = AreOctets 6 mac
 

@@ -27,18 +27,18 @@ Takes (Ok x) left expected = expected ≡ Some (x, left)
 Takes (Err Malformed) left expected = expected ≡ None
 Takes (Err OutOfMemory) left expected = Unit {0}
 
--- What skipping returns, and the bytes before and after it, against the definition: true only if
--- this leaves those after it, and false only if it gives none, and then nothing is skipped.
-abbrev pub Skips : Bool → List ℕ → List ℕ → Read (Unit {0}) → Type 0
-Skips true old new expected = expected ≡ Some (tt, new)
-Skips false old new expected = (expected ≡ None) × (new ≡ old)
-
 -- The same of a reading that gives a part of the text, and is never out of memory: Malformed if and
 -- only if the definition gives none.
 abbrev pub TakesField : Result (Bor (List ℕ)) ReadError → List ℕ → Read (List ℕ) → Type 0
 TakesField (Ok field) left expected = expected ≡ Some (field.now, left)
 TakesField (Err Malformed) left expected = expected ≡ None
 TakesField (Err OutOfMemory) left expected = ⊥
+
+-- What skipping returns, and the bytes before and after it, against the definition: true only if
+-- this leaves those after it, and false only if it gives none, and then nothing is skipped.
+abbrev pub Skips : Bool → List ℕ → List ℕ → Read (Unit {0}) → Type 0
+Skips true old new expected = expected ≡ Some (tt, new)
+Skips false old new expected = (expected ≡ None) × (new ≡ old)
 
 -- The answer for what a field gave, where that may need memory: none is Malformed, and each error
 -- is out of memory.

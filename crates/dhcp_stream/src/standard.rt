@@ -1,5 +1,5 @@
-//! Sources and sinks over the readers and writers of std, such as standard input and output. As
-//! those of a `Source` and a `Sink` their bytes are not known. The clauses `bytes` say what std
+//! Sources and sinks over the readers and writers of std, such as standard input and output. Seen
+//! as a `Source` and a `Sink` their bytes are not known. The clauses `bytes` say what std
 //! promises of the bytes that the reader has left and the writer holds, where std knows them, which
 //! it does not of standard input and output. Std does not say which calls fail; each answer
 //! `Failed` is counted.

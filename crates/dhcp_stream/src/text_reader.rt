@@ -20,10 +20,10 @@ ghost use Rattle.std.specs.Prelude.{
 };
 ghost use Rattle.std.specs.List.{list_any, position_or_len};
 ghost use Rattle.dhcp_stream.specs.TextReader as values;
-ghost use Rattle.dhcp_stream.specs.TextReader.{field_at, in_field, tag_at, Finds, Takes};
+ghost use Rattle.dhcp_stream.specs.TextReader.{field_at, in_field, tag_at, Takes};
 
 use crate::{hex_field, ipv4_field, mac_field, number_field, words_field};
-use dhcp_wire::{Bytes, DhcpError, Sequence, Text};
+use dhcp_wire::{Bytes, DhcpError, Sequence};
 use std::alloc::{AllocError, AllocFailed, Global};
 use std::marker::Model;
 use std::net::Ipv4Addr;

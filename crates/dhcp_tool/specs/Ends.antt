@@ -16,7 +16,7 @@ pub record Writes (text : List ℕ) (status : ℕ) (taken taken_after : Option (
   pub either : (status ≡ 0) ⊎ ((status ≡ 4) × Rose faults faults_after)
 
 -- what moved in a run: the bytes left in the source and those that the sink took, where they are
--- told, and the counts of faults of both, before and after
+-- known, and the counts of faults of both, before and after
 pub record Moved : Type 0 where
   pub left : Option (List ℕ)
   pub left_after : Option (List ℕ)

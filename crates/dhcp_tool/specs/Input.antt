@@ -7,13 +7,14 @@ use Rattle.dhcp_tool.specs.Texts.{Texts, IsNoText, IsJudged, IsPrintedFor, HasIn
 use Rattle.dhcp_tool.specs.declared.status.Status.{Status}
 use Rattle.dhcp_tool.specs.declared.status.Status.TheVariants.{Done, WrongWords, NoScript, ReadFault, WriteFault, NoMemory, TooLong, Invalid}
 
--- The source was read to its end, where it tells its bytes: there were at most as many as are read,
--- and they are so.
+-- The source was read to its end, where its bytes are known: there were at most as many as are
+-- read, and they are so.
 abbrev pub HasRead : Option (List ℕ) → Option (List ℕ) → (List ℕ → Type 0) → Type 0
 HasRead before after AreSo =
     IfSome before (λ bytes. (length bytes ≤ most_bytes) × AreSo bytes) × NoneLeft after
 
--- More bytes were read than are taken, where the source tells its bytes, and reading stopped there.
+-- More bytes were read than are taken, where the source's bytes are known, and reading stopped
+-- there.
 abbrev pub HasReadTooMany : Option (List ℕ) → Option (List ℕ) → Type 0
 HasReadTooMany before after =
     IfSome before (λ bytes. most_bytes < length bytes)

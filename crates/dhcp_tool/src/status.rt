@@ -17,7 +17,8 @@ pub enum Status {
     Done = 0,
     /// The words ask for nothing that the program does.
     WrongWords = 1,
-    /// The bytes are the text of no script, or not what else the program reads.
+    /// The bytes are the text of no script; of a program that reads something else, they are not
+    /// that.
     NoScript = 2,
     /// The source failed.
     ReadFault = 3,
@@ -27,7 +28,8 @@ pub enum Status {
     NoMemory = 5,
     /// There are more than 16,777,216 bytes.
     TooLong = 6,
-    /// The script is not within its limits, or what else was read asks for what is refused.
+    /// The script is not within its limits; of a program that reads something else, what that asks
+    /// for is refused.
     Invalid = 7,
 }
 

@@ -28,7 +28,8 @@ pub enum PacketVerdict<T> {
     /// It refuses a request, as a Nack does (RFC 2131, section 3.1), but of another server than the
     /// one that was asked.
     OtherServer,
-    /// Its message is of the awaited type, but grants no lease; its reading gives an error of this
+    /// Its message is of the awaited type, but grants no lease, or in IPv4 grants one only with
+    /// some of the random words that T1 and T2 are drawn from; its reading gives an error of this
     /// kind.
     NoLease(ErrorKind),
 }

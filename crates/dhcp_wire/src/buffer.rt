@@ -190,12 +190,7 @@ impl<'a> Buffer<'a> {
         ensures { ReadsField (λ text. text.now) result self.old self.new fix_size
             (terminated_text_at fix_size self.old) }
     {
-        if self.left.len() < fix_size {
-            return Err(DhcpError::invalid_message(FixedText::Short));
-        }
-        let (field, left) = self.left.split_at(fix_size);
-        self.left = left;
-        match utf8_of(before_zero(field)) {
+        match utf8_of(before_zero(self.get_bytes(fix_size)?)) {
             Some(text) => Ok(text),
             None => Err(DhcpError::invalid_message(FixedText::NotUtf8)),
         }
@@ -243,12 +238,7 @@ impl<'a> Buffer<'a> {
         ensures { ReadsField (λ text. text.now) result self.old self.new size
             (text_at size self.old) }
     {
-        if self.left.len() < size {
-            return Err(DhcpError::invalid_message(FixedText::Short));
-        }
-        let (field, left) = self.left.split_at(size);
-        self.left = left;
-        match utf8_of(field) {
+        match utf8_of(self.get_bytes(size)?) {
             Some(text) => Ok(text),
             None => Err(DhcpError::invalid_message(FixedText::NotUtf8)),
         }

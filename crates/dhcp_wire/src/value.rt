@@ -1,7 +1,7 @@
 //! Readings of an option's value: one for each kind of value that several options have. A value of
 //! fixed size may be longer; what is beyond is ignored.
 
-ghost use Rattle.std.specs.Prelude.{◌≡◌, ok_or};
+ghost use Rattle.std.specs.Prelude.{ok_or};
 ghost use Rattle.std.specs.Int.{w8, w16, w32};
 ghost use Rattle.dhcp_wire.specs.Field.{text_of};
 ghost use Rattle.dhcp_wire.specs.Outcome.{Answers, Gives, Makes};

@@ -10,7 +10,7 @@ ghost use Rattle.dhcp4_lease.specs.Config.{is_within_limits};
 ghost use Rattle.dhcp4_lease.specs.MessageTable.{discover, table_message};
 ghost use Rattle.uses.specs.Configs.{named_config4};
 
-use dhcp_wire::{BufferMut, Bytes, DhcpError};
+use dhcp_wire::{Bytes, DhcpError};
 use dhcp4_lease::{DhcpV4Config, DhcpV4MessageForms, new_discovery};
 use dhcp4_msg::DhcpV4Message;
 use dhcp4_msg::laws::message_reads_back;
@@ -49,9 +49,7 @@ pub fn discover_payload(
     if !config.is_within_limits() {
         return Ok(None);
     }
-    let mut payload = BufferMut::new(alloc);
-    new_discovery(alloc, xid, config)?.emit(&mut payload)?;
-    Ok(Some(payload.into_bytes()))
+    new_discovery(alloc, xid, config)?.to_bytes(alloc).map(Some)
 }
 
 /// Writes a message and reads it again: it is the same, with End added to its options.
@@ -60,9 +58,8 @@ pub fn read_again(alloc: Global, message: &DhcpV4Message) -> Result<DhcpV4Messag
     ensures { Makes (λ read. read) result (read_back message.now) }
 {
     message_reads_back(message);
-    let mut payload = BufferMut::new(alloc);
-    message.emit(&mut payload)?;
-    DhcpV4Message::parse(alloc, payload.bytes())
+    let payload = message.to_bytes(alloc)?;
+    DhcpV4Message::parse(alloc, payload.as_slice())
 }
 
 /// Whether a message has no option 53.

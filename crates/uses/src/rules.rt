@@ -80,8 +80,6 @@ impl Rules for Repeater {
     }
 
     fn is_last_attempt(&self, state: &Option<u64>, exchange: u32) -> bool {
-        let _state = state;
-        let _count = exchange;
         false
     }
 
@@ -90,9 +88,6 @@ impl Rules for Repeater {
     }
 
     fn pause<W: Words>(&self, state: &Option<u64>, exchange: u32, words: &mut W) -> u64 {
-        let _state = state;
-        let _count = exchange;
-        let _words = words;
         0
     }
 
@@ -103,8 +98,6 @@ impl Rules for Repeater {
         start: AttemptStart,
         words: &mut W,
     ) -> Result<NewAttempt<u32, Handed>, AllocError> {
-        let _state = state;
-        let _start = start;
         let word = words.next_word();
         let message = message(self.alloc, 1)?;
         Ok(NewAttempt {
@@ -121,9 +114,6 @@ impl Rules for Repeater {
         packet: Packet,
         words: &mut W,
     ) -> Result<Option<u8>, AllocError> {
-        let _count = exchange;
-        let _packet = packet;
-        let _words = words;
         if state.is_none() {
             Ok(Some(7))
         } else {
@@ -138,20 +128,16 @@ impl Rules for Repeater {
         now: u64,
         exchange: &mut u32,
     ) -> Result<bool, AllocError> {
-        let _answer = answer;
-        let _count = exchange;
         *state = Some(now + 5000);
         Ok(true)
     }
 
     fn after_end(&self, state: &mut Option<u64>, exchange: &mut u32) -> bool {
-        let _count = exchange;
         *state = None;
         false
     }
 
     fn after_clean_up(&self, state: &mut Option<u64>, exchange: &mut u32) {
-        let _count = exchange;
         *state = None;
     }
 
@@ -160,7 +146,6 @@ impl Rules for Repeater {
         state: &Option<u64>,
         exchange: u32,
     ) -> Result<Option<Handed>, AllocError> {
-        let _count = exchange;
         match state {
             None => Ok(None),
             Some(_) => Ok(Some(message(self.alloc, 2)?)),

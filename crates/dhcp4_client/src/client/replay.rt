@@ -14,9 +14,9 @@ impl DhcpV4Client {
 
     /// Plays the events of a script over a link in memory: at each event what it asks for, a
     /// release or a clean-up, and then polls until nothing changes any more. Returns what the
-    /// events report, in order. If the words are known and the client begins as a script says that
-    /// has these events, it is what the history of that script reports. Out of memory is the only
-    /// error.
+    /// events report, in order. If the words are known, and the client stands as one does that has
+    /// just begun by a script with these events, it is what the history of that script reports. Out
+    /// of memory is the only error.
     pub fn replay<W: Words>(
         &mut self,
         words: &mut W,

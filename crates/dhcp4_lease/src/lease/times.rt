@@ -1,6 +1,6 @@
 //! The times of a lease, RFC 2131 section 4.4.5.
 
-ghost use Rattle.std.specs.Prelude.{◌≡◌, ◌≤◌, ◌<◌, ◌-◌, ◌*◌, ◌/◌, ◌^◌, IfSome, IsTrue};
+ghost use Rattle.std.specs.Prelude.{◌≡◌, ◌<◌, ◌-◌, ◌*◌, ◌/◌, ◌^◌, IfSome, IsTrue};
 ghost use Rattle.dhcp4_lease.specs.Lease as leases;
 ghost use Rattle.dhcp_clock.specs.Words.{Draws, DrawsBy};
 

@@ -1,7 +1,7 @@
 //! What the identity associations of a message grant: RFC 8415 sections 21.4 to 21.6, 21.21 and
 //! 21.22.
 
-ghost use Rattle.std.specs.Prelude.{◌≡◌, ◌+◌, ◌/◌, option_copied};
+ghost use Rattle.std.specs.Prelude.{◌≡◌, ◌+◌, ◌/◌};
 ghost use Rattle.dhcp6_msg.specs.Lease as leases;
 ghost use Rattle.dhcp6_msg.specs.Lease.{na_said, pd_said, said_by, ta_said};
 

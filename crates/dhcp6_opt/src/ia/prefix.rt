@@ -18,7 +18,7 @@ pub struct DhcpV6OptionIaPrefix {
     pub preferred_time_sec: u32,
     /// For how many seconds it is valid.
     pub valid_time_sec: u32,
-    /// Its length, in bits.
+    /// Its length, in bits. That it is at most 128 is not tested.
     pub prefix_len: u8,
     /// Its address.
     pub prefix: Ipv6Addr,

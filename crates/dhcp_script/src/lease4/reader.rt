@@ -4,8 +4,8 @@ ghost use Rattle.std.specs.Prelude.{◌≡◌};
 ghost use Rattle.dhcp_stream.specs.TextReader.{Takes};
 ghost use Rattle.dhcp_script.specs.Lease4Reader.{
   lease4_at,
-  no_version2_fields,
-  version2_fields_at,
+  no_later_fields,
+  later_fields_at,
 };
 
 use crate::Lease4;
@@ -17,9 +17,9 @@ use dhcp4_msg::DhcpV4ClasslessRoute;
 use std::alloc::Global;
 use std::net::Ipv4Addr;
 
-// The fields of a lease that version 2 alone has; the MTU is in bytes.
+// The fields of a lease that the later versions alone have; the MTU is in bytes.
 #[derive(Drop)]
-struct Version2Fields {
+struct LaterFields {
     subnet_mask: Ipv4Addr,
     broadcast_addr: Option<Ipv4Addr>,
     mtu: Option<u16>,
@@ -31,12 +31,12 @@ struct Version2Fields {
     classless_routes: Option<Sequence<DhcpV4ClasslessRoute>>,
 }
 
-impl Version2Fields {
+impl LaterFields {
     // Those of the empty lease.
     fn none() -> Self
-        ensures { result ≡ no_version2_fields }
+        ensures { result ≡ no_later_fields }
     {
-        Version2Fields {
+        LaterFields {
             subnet_mask: Ipv4Addr::UNSPECIFIED,
             broadcast_addr: None,
             mtu: None,
@@ -50,17 +50,17 @@ impl Version2Fields {
     }
 
     // Reads them in a version; in version 1 they are those of the empty lease.
-    #[tactic(auto, unfolding(crate::specs::Lease4Reader::version2_fields_at))]
+    #[tactic(auto, unfolding(crate::specs::Lease4Reader::later_fields_at))]
     fn read(alloc: Global, version: Version, text: &mut TextReader) -> Result<Self, ReadError>
-        ensures { Takes result text.new (version2_fields_at version text.old) }
+        ensures { Takes result text.new (later_fields_at version text.old) }
     {
         if version == Version::One {
-            return Ok(Version2Fields::none());
+            return Ok(LaterFields::none());
         }
         let (subnet_mask, broadcast_addr, mtu) = read_three(alloc, text, b' ')?;
         let (dns_srvs, gateways, ntp_srvs) = read_three(alloc, text, b' ')?;
         let (host_name, domain_name, classless_routes) = read_three(alloc, text, b'\n')?;
-        Ok(Version2Fields {
+        Ok(LaterFields {
             subnet_mask,
             broadcast_addr,
             mtu,
@@ -86,7 +86,7 @@ pub fn read_lease(
 {
     let (yiaddr, siaddr, srv_id) = read_three(alloc, text, b' ')?;
     let (t1_sec, t2_sec, lease_time_sec) = read_three(alloc, text, version.end_of_times())?;
-    let later = Version2Fields::read(alloc, version, text)?;
+    let later = LaterFields::read(alloc, version, text)?;
     Ok(Lease4 {
         yiaddr,
         siaddr,

@@ -4,8 +4,8 @@ ghost use Rattle.std.specs.Prelude.{◌≡◌};
 ghost use Rattle.dhcp_stream.specs.TextReader.{Takes};
 ghost use Rattle.dhcp_script.specs.Lease6Reader.{
   lease6_at,
-  no_version2_fields,
-  version2_fields_at,
+  no_later_fields,
+  later_fields_at,
 };
 
 use crate::Lease6;
@@ -16,20 +16,20 @@ use dhcp_wire::Bytes;
 use std::alloc::Global;
 use std::net::Ipv6Addr;
 
-// The fields of a lease that version 2 alone has.
+// The fields of a lease that the later versions alone have.
 #[derive(Drop)]
-struct Version2Fields {
+struct LaterFields {
     xid: u32,
     cli_duid: Bytes,
     srv_ip: Ipv6Addr,
 }
 
-impl Version2Fields {
+impl LaterFields {
     // Those of the empty lease.
     fn none(alloc: Global) -> Self
-        ensures { result ≡ no_version2_fields }
+        ensures { result ≡ no_later_fields }
     {
-        Version2Fields {
+        LaterFields {
             xid: 0,
             cli_duid: Bytes::new(alloc),
             srv_ip: Ipv6Addr::UNSPECIFIED,
@@ -37,13 +37,13 @@ impl Version2Fields {
     }
 
     // Reads them in a version; in version 1 they are those of the empty lease.
-    #[tactic(auto, unfolding(crate::specs::Lease6Reader::version2_fields_at))]
+    #[tactic(auto, unfolding(crate::specs::Lease6Reader::later_fields_at))]
     fn read(alloc: Global, version: Version, text: &mut TextReader) -> Result<Self, ReadError>
-        ensures { Takes result text.new (version2_fields_at version text.old) }
+        ensures { Takes result text.new (later_fields_at version text.old) }
     {
         match version {
-            Version::One => Ok(Version2Fields::none(alloc)),
-            Version::Later => Ok(Version2Fields {
+            Version::One => Ok(LaterFields::none(alloc)),
+            Version::Later => Ok(LaterFields {
                 xid: read_field(alloc, text, b' ')?,
                 cli_duid: text.hex(alloc, b' ')?,
                 srv_ip: read_field(alloc, text, b'\n')?,
@@ -67,7 +67,7 @@ pub fn read_lease(
     let srv_duid = text.hex(alloc, b' ')?;
     let (t1_sec, t2_sec, preferred_time_sec) = read_three(alloc, text, b' ')?;
     let valid_time_sec = read_field(alloc, text, version.end_of_times())?;
-    let later = Version2Fields::read(alloc, version, text)?;
+    let later = LaterFields::read(alloc, version, text)?;
     Ok(Lease6 {
         ia_type,
         iaid,

@@ -10,7 +10,7 @@ returns-then-time-mrt-clause-drawn g c =
 
 pub returns-else-time-mrt-clause-drawn : goal.returns-else-time-mrt-clause-drawn
 returns-else-time-mrt-clause-drawn g c =
-    rw c.first_time.ensures.value
+    rw c.randomized_time.ensures.value
     (retransmit_drawn _ _ _ c.args.previous c.args.irt c.args.mrt c.next_word.result c.next_time-time.result _ c.next_word.ensures.next c.next_time-time.ensures.value
     (bounded_above _ _ c.args.mrt c.next_time-time.result c.next_word-else-time-mrt.result c.if-time-mrt.false c.next_word-else-time-mrt.ensures.next))
 
@@ -21,6 +21,6 @@ returns-then-time-mrt-clause-taken g c =
 
 pub returns-else-time-mrt-clause-taken : goal.returns-else-time-mrt-clause-taken
 returns-else-time-mrt-clause-taken g c =
-    rw c.first_time.ensures.value
+    rw c.randomized_time.ensures.value
     (retransmit_taken g.W.Words.gives _ _ _ c.args.previous c.args.irt c.args.mrt c.next_word.result c.next_time-time.result _ c.next_word.ensures.given c.next_time-time.ensures.value
     (taken_above g.W.Words.gives _ _ c.args.mrt c.next_time-time.result c.next_word-else-time-mrt.result c.if-time-mrt.false c.next_word-else-time-mrt.ensures.given))

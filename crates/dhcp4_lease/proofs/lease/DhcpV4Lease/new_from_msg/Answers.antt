@@ -9,7 +9,7 @@ returns-in-Some-clause-reads g c =
 
 pub returns-in-None-clause-reads : goal.returns-in-None-clause-reads
 returns-in-None-clause-reads g c =
-    reads_none _ _ c.out_of_order.result c.args.msg.now c.read_times.result c.in-None.is c.read_times.ensures.drawn c.out_of_order.ensures
+    reads_none _ _ c.no_grant.result c.args.msg.now c.read_times.result c.in-None.is c.read_times.ensures.drawn c.no_grant.ensures
 
 pub returns-in-Some-clause-taken : goal.returns-in-Some-clause-taken
 returns-in-Some-clause-taken g c =
@@ -17,4 +17,4 @@ returns-in-Some-clause-taken g c =
 
 pub returns-in-None-clause-taken : goal.returns-in-None-clause-taken
 returns-in-None-clause-taken g c =
-    reads_none_by g.W.Words.gives _ _ c.out_of_order.result c.args.msg.now c.read_times.result c.in-None.is c.read_times.ensures.taken c.out_of_order.ensures
+    reads_none_by g.W.Words.gives _ _ c.no_grant.result c.args.msg.now c.read_times.result c.in-None.is c.read_times.ensures.taken c.no_grant.ensures
