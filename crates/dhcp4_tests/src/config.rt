@@ -116,7 +116,8 @@ fn the_message_forms_are_those_of_mozim_unless_set(rt: HostRuntime) {
     assert!(rt; config.message_forms() == DhcpV4MessageForms::Rfc2131);
 }
 
-// A configuration whose MAC address is set from a text, and a copy of it.
+// Whether a configuration whose MAC address was set from a text, with the forms of RFC 2131, is
+// equal to its copy.
 fn is_copied(alloc: Global) -> Result<bool, DhcpError> {
     let mut config = DhcpV4Config::empty(alloc)?;
     config.set_iface_mac(alloc, "02:00:00:00:00:01")?;
@@ -124,7 +125,7 @@ fn is_copied(alloc: Global) -> Result<bool, DhcpError> {
     is_equal_to_copy(alloc, &config)
 }
 
-// Whether a configuration is equal to its copy.
+// Whether a configuration is equal to its copy, which has that MAC address and those forms.
 fn is_equal_to_copy(alloc: Global, config: &DhcpV4Config) -> Result<bool, DhcpError> {
     let copy = config.try_clone(alloc)?;
     let has_forms = copy.message_forms() == DhcpV4MessageForms::Rfc2131;

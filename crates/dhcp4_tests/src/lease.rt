@@ -222,4 +222,7 @@ fn the_prefix_of_a_mask_is_its_one_bits(rt: HostRuntime) {
     assert!(rt; lease.prefix_length() == 0);
     lease.subnet_mask = Ipv4Addr::new(255, 255, 255, 224);
     assert!(rt; lease.prefix_length() == 27);
+    // The one bits count wherever they stand.
+    lease.subnet_mask = Ipv4Addr::new(255, 0, 255, 0);
+    assert!(rt; lease.prefix_length() == 16);
 }

@@ -58,7 +58,7 @@ fn an_offer_reads(rt: HostRuntime) {
 }
 
 #[test]
-fn a_message_is_written_as_it_was_read(rt: HostRuntime) {
+fn a_message_reads_back_as_it_was_read(rt: HostRuntime) {
     let payload = offer(rt.alloc()).expect(&rt, "memory");
     let message = read(rt.alloc(), payload.as_slice()).expect(&rt, "answer");
     let mut written = BufferMut::new(rt.alloc());

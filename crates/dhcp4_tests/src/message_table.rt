@@ -37,13 +37,6 @@ fn payload(alloc: Global, ciaddr: [u8; 4], options: &[u8]) -> Result<Bytes, Dhcp
     Ok(bytes.into_bytes())
 }
 
-// What a message is written as.
-fn written(alloc: Global, message: &DhcpV4Message) -> Result<Bytes, DhcpError> {
-    let mut bytes = BufferMut::new(alloc);
-    message.emit(&mut bytes)?;
-    Ok(bytes.into_bytes())
-}
-
 // The six messages.
 #[derive(Clone, Copy)]
 enum Sent {
@@ -84,8 +77,7 @@ fn bytes_of(
     if !config.is_within_limits() {
         return Err(DhcpError::new_fixed(ErrorKind::Bug, FixedText::Config));
     }
-    let message = message(alloc, config, lease, sent)?;
-    written(alloc, &message)
+    message(alloc, config, lease, sent)?.to_bytes(alloc)
 }
 
 // The bytes of one of the six messages, of a configuration that this step has changed and of this

@@ -5,7 +5,7 @@ ghost use Rattle.std.specs.FinMap as map;
 ghost use Rattle.dhcp4_msg.specs.Value.{fits};
 
 use dhcp_wire::{Buffer, BufferMut, Bytes, DhcpError, ErrorKind, Sequence, Text};
-use dhcp4_msg::{DhcpV4Option, DhcpV4OptionCode, DhcpV4Options};
+use dhcp4_msg::{DhcpV4MessageType, DhcpV4Option, DhcpV4OptionCode, DhcpV4Options};
 use std::alloc::Global;
 use std::net::Ipv4Addr;
 
@@ -116,7 +116,7 @@ fn a_refused_option_is_skipped_and_a_truncated_one_is_not(rt: HostRuntime) {
 }
 
 // The bytes of an option of every kind.
-const KINDS: [&[u8]; 20] = [
+const KINDS: [&[u8]; 21] = [
     &[0],
     &[1, 4, 255, 255, 255, 0],
     &[3, 8, 192, 0, 2, 1, 192, 0, 2, 2],
@@ -137,6 +137,7 @@ const KINDS: [&[u8]; 20] = [
     &[61, 7, 1, 2, 0, 0, 0, 0, 1],
     &[121, 8, 0x18, 0xcb, 0, 0x71, 0xc0, 0, 2, 0x28],
     &[249, 2, 1, 2],
+    &[255],
 ];
 
 // A copy of the option that these bytes read as, as it is written.
@@ -183,9 +184,15 @@ fn every_kind(alloc: Global) -> Result<DhcpV4Options, DhcpError> {
     Ok(options)
 }
 
+// The message type that options say.
+fn message_type(options: &DhcpV4Options) -> Option<DhcpV4MessageType> {
+    options.get(DhcpV4OptionCode::MessageType)?.message_type()
+}
+
 #[test]
 fn each_kind_says_its_value(rt: HostRuntime) {
     let options = every_kind(rt.alloc()).expect(&rt, "memory");
+    assert!(rt; message_type(&options) == Some(DhcpV4MessageType::Ack));
     let address = options.address(DhcpV4OptionCode::ServerIdentifier);
     assert!(rt; address == Some(Ipv4Addr::new(192, 0, 2, 1)));
     assert!(rt;

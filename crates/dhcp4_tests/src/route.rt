@@ -5,7 +5,7 @@ use dhcp4_msg::{DhcpV4ClasslessRoute, DhcpV4Options};
 use std::net::Ipv4Addr;
 
 #[test]
-fn routes_are_those_of_121_or_else_of_249(rt: HostRuntime) {
+fn without_option_121_the_routes_are_those_of_249(rt: HostRuntime) {
     let bytes = [0xf9, 8, 0x18, 0xcb, 0, 0x71, 0xc0, 0, 2, 0x28, 255];
     let options = DhcpV4Options::parse(rt.alloc(), &bytes).expect(&rt, "answer");
     let routes = options
@@ -27,6 +27,19 @@ fn route(destination: [u8; 4], prefix_length: u8) -> DhcpV4ClasslessRoute {
         prefix_length,
         router: Ipv4Addr::new(192, 0, 2, 1),
     }
+}
+
+#[test]
+fn routes_of_249_do_not_count_beside_those_of_121(rt: HostRuntime) {
+    let bytes = [
+        0x79, 6, 8, 10, 192, 0, 2, 1, 0xf9, 8, 24, 203, 0, 113, 192, 0, 2, 1, 255,
+    ];
+    let options = DhcpV4Options::parse(rt.alloc(), &bytes).expect(&rt, "answer");
+    let routes = options
+        .classless_routes(rt.alloc())
+        .expect(&rt, "answer")
+        .expect(&rt, "none");
+    assert!(rt; routes.as_slice() == [route([10, 0, 0, 0], 8)].as_slice());
 }
 
 #[test]

@@ -46,15 +46,18 @@ fn has_first(alloc: Global, bytes: &[u8], code: u16) -> Result<bool, DhcpError> 
     Ok(options.get_first(DhcpV6OptionCode::from(code)).is_some())
 }
 
-// Lists in which no option reads: a dot in a label of a domain list, an address of a time server
-// cut short, and associations with a truncated inner option, an inner option of another association
-// and a truncated address.
+// A preference of 5.
+const PREFERENCE: [u8; 5] = [0, 7, 0, 1, 5];
+
+// Lists of an option that does not read and that preference behind it: a dot in a label of a domain
+// list, an address of a time server cut short, and associations with a truncated inner option, an
+// inner option of another association and a truncated address.
 const UNREADABLE: [&[u8]; 5] = [
-    b"\x00\x18\x00\x05\x03a.b\x00",
-    b"\x00\x38\x00\x04\x00\x01\x00\x00",
-    b"\x00\x03\x00\x10\0\0\0\0\0\0\0\x32\0\0\0\x50\x00\x0d\x00\x02",
-    b"\x00\x03\x00\x10\0\0\0\0\0\0\0\0\0\0\0\0\x00\x1a\x00\x00",
-    b"\x00\x03\x00\x10\0\0\0\0\0\0\0\0\0\0\0\0\x00\x05\x00\x00",
+    b"\x00\x18\x00\x05\x03a.b\x00\x00\x07\x00\x01\x05",
+    b"\x00\x38\x00\x04\x00\x01\x00\x00\x00\x07\x00\x01\x05",
+    b"\x00\x03\x00\x10\0\0\0\0\0\0\0\x32\0\0\0\x50\x00\x0d\x00\x02\x00\x07\x00\x01\x05",
+    b"\x00\x03\x00\x10\0\0\0\0\0\0\0\0\0\0\0\0\x00\x1a\x00\x00\x00\x07\x00\x01\x05",
+    b"\x00\x03\x00\x10\0\0\0\0\0\0\0\0\0\0\0\0\x00\x05\x00\x00\x00\x07\x00\x01\x05",
 ];
 
 #[test]
@@ -63,7 +66,8 @@ fn what_does_not_read_is_skipped(rt: HostRuntime) {
         assert!(rt;
             list_again(rt.alloc(), bytes)
                 .expect(&rt, "memory")
-                .is_empty()
+                .as_slice()
+                == PREFERENCE.as_slice()
         );
     }
 }
@@ -158,6 +162,33 @@ fn the_options_of_a_code_are_handed_out_as_bytes(rt: HostRuntime) {
             .expect(&rt, "memory")
             .is_none()
     );
+}
+
+// What the last option of a code is handed out as, if there is one.
+fn last_raw(
+    alloc: Global,
+    options: &DhcpV6Options,
+    code: u16,
+) -> Result<Option<Vec<u8>>, DhcpError> {
+    match options.get_data_raw(alloc, code)? {
+        Some(mut written) => Ok(written.pop()),
+        None => Ok(None),
+    }
+}
+
+// The same of a list of bytes.
+fn last_raw_in(alloc: Global, bytes: &[u8], code: u16) -> Result<Option<Vec<u8>>, DhcpError> {
+    let options = DhcpV6Options::parse(alloc, bytes)?;
+    last_raw(alloc, &options, code)
+}
+
+#[test]
+fn the_last_option_of_a_code_is_handed_out_last(rt: HostRuntime) {
+    let bytes = [0, 7, 0, 1, 5, 0, 7, 0, 1, 6, 0, 8, 0, 2, 0, 9];
+    let last = last_raw_in(rt.alloc(), &bytes, 7)
+        .expect(&rt, "memory")
+        .expect(&rt, "none");
+    assert!(rt; last.as_slice() == [0, 7, 0, 1, 6].as_slice());
 }
 
 // Writes a label of so many letters, at most 64.

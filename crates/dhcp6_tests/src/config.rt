@@ -7,6 +7,7 @@ use dhcp_wire::{BufferMut, Bytes, DhcpError};
 use dhcp6_msg::DhcpV6Config;
 use dhcp6_opt::DhcpV6Duid;
 use std::alloc::Global;
+use std::net::Ipv6Addr;
 
 // A configuration that asks for these codes alone.
 fn asking_alone(alloc: Global, codes: &[u16]) -> Result<DhcpV6Config, DhcpError> {
@@ -174,10 +175,12 @@ fn an_identifier_that_is_set_stays(rt: HostRuntime) {
 fn numbers_and_addresses_are_set_in_a_chain(rt: HostRuntime) {
     let empty = DhcpV6Config::empty(rt.alloc());
     let mut config = boxed(rt.alloc(), empty).expect(&rt, "memory");
-    config.set_iface_index(3).set_timeout_sec(60);
-    assert!(rt;
-        config.iface_index == 3 && config.timeout_sec == 60 && config.src_ip.is_unspecified()
-    );
+    let address = Ipv6Addr::new(0xfe80, 0, 0, 0, 0, 0, 0, 1);
+    config
+        .set_iface_index(3)
+        .set_timeout_sec(60)
+        .set_link_local_ip(address);
+    assert!(rt; config.iface_index == 3 && config.timeout_sec == 60 && config.src_ip == address);
 }
 
 #[test]

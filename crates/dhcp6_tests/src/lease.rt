@@ -61,7 +61,9 @@ fn a_time_of_zero_is_left_to_the_client(rt: HostRuntime) {
 }
 
 #[test]
-fn a_message_without_server_status_or_order_gives_no_lease(rt: HostRuntime) {
+fn a_message_without_server_or_association_or_with_a_failure_or_a_late_t1_gives_no_lease(
+    rt: HostRuntime,
+) {
     let invalid = Some(ErrorKind::InvalidDhcpMessage);
     let failed = [0, 13, 0, 2, 0, 2];
     let late_t1 = [0, 3, 0, 40, 0, 0, 0, 9, 0, 0, 0, 81, 0, 0, 0, 80];

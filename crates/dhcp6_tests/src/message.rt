@@ -5,8 +5,7 @@ use crate::reply::{
 };
 use dhcp_wire::{Bytes, DhcpError, ErrorKind, FixedText};
 use dhcp6_msg::{
-    DhcpV6Config, DhcpV6IaType, DhcpV6Lease, DhcpV6Message, DhcpV6MessageType, DhcpV6Mode,
-    DhcpV6View,
+    DhcpV6IaType, DhcpV6Lease, DhcpV6Message, DhcpV6MessageType, DhcpV6Mode, DhcpV6View,
 };
 use dhcp6_opt::{DhcpV6Duid, DhcpV6OptionCode};
 use std::alloc::Global;

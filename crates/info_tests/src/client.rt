@@ -114,7 +114,7 @@ fn is_refused(alloc: Global, config: DhcpV6Config) -> Result<bool, DhcpError> {
 }
 
 #[test]
-fn a_client_begins_with_an_interface_an_address_and_room_for_its_codes(rt: HostRuntime) {
+fn a_client_begins_with_an_interface_and_an_address(rt: HostRuntime) {
     let alloc = rt.alloc();
     let mut without_interface = config(alloc, &[23], 0).expect(&rt, "memory");
     without_interface.iface_index = 0;

@@ -1,4 +1,5 @@
-//! The call behind the program: its script, its words, its statuses, and what it writes.
+//! Tests of dhcp6_info_play, which has the call behind the program: its script, its words, its
+//! statuses, and what it writes.
 
 use dhcp_stream::{MemSink, MemSource};
 use dhcp_wire::DhcpError;

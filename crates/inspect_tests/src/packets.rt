@@ -3,21 +3,25 @@
 use dhcp_wire::DhcpError;
 use std::alloc::Global;
 
-// The headers of a frame of 251 bytes from a client to all.
+// The headers of a frame with a payload of 251 bytes: from a client to all, port 68 to port 67.
 const CLIENT_HEADERS: &str =
     "ffffffffffff020000000001080045000117000040008011f9d600000000ffffffff0044004301035c8d";
 
-// The headers of a frame of 256 bytes from a server to a relay, port 67 to port 67.
+// The headers of a frame with a payload of 256 bytes: from the server 192.0.2.1 to the relay
+// 192.0.2.9, port 67 to port 67.
 const RELAY_HEADERS: &str =
     "ffffffffffff02000000000208004500011c0000000040110000c0000201c00002090043004301080000";
 
-// A Solicit in a frame, from a link-local address to all servers and relays.
+// A Solicit in a frame, from the link-local address fe80::1 to all servers and relays, port 546 to
+// port 547: the transaction id abcdef, the identifier of the client, an association without an
+// address, the code of name servers, and the elapsed time 0.
 const SOLICIT: &str = "\
      33330001000202000000000186dd6000000000361101fe800000000000000000000000000001ff0200000000\
      00000000000000010002022202230036000001abcdef0001000a000300010200000000010003000c00000000\
      0000000000000000000600020017000800020000";
 
-// The same Solicit in a Relay-forward, from a relay to a server, port 547 to port 547.
+// The same Solicit in a Relay-forward, from the relay 2001:db8::1 to the server 2001:db8::2, port
+// 547 to port 547.
 const RELAY_FORWARD: &str = "\
      33330001000202000000000186dd60000000005c110120010db800000000000000000000000120010db80000\
      0000000000000000000202230223005c00000c0020010db8000000000000000000000001fe80000000000000\
@@ -52,7 +56,7 @@ fn frame4(
     Ok(frame)
 }
 
-/// A Discover of a client in a frame, 293 bytes.
+/// A Discover of a client in a frame, 293 bytes, with the transaction id 12345678.
 pub fn discover(alloc: Global) -> Result<Vec<u8>, DhcpError> {
     frame4(
         alloc,
@@ -63,7 +67,7 @@ pub fn discover(alloc: Global) -> Result<Vec<u8>, DhcpError> {
     )
 }
 
-/// The same message without its type.
+/// The same message, 293 bytes, with an option 54 of one byte in place of its type.
 pub fn untyped(alloc: Global) -> Result<Vec<u8>, DhcpError> {
     frame4(
         alloc,
@@ -74,7 +78,7 @@ pub fn untyped(alloc: Global) -> Result<Vec<u8>, DhcpError> {
     )
 }
 
-/// An Ack of a server to a relay in a frame, 298 bytes.
+/// An Ack of 192.0.2.10 for 100 seconds in a frame, 298 bytes, from a server to a relay.
 pub fn relayed_ack(alloc: Global) -> Result<Vec<u8>, DhcpError> {
     frame4(
         alloc,
@@ -85,12 +89,12 @@ pub fn relayed_ack(alloc: Global) -> Result<Vec<u8>, DhcpError> {
     )
 }
 
-/// A Solicit of a client in a frame, 108 bytes.
+/// A Solicit of a client in a frame, 108 bytes, with the transaction id abcdef.
 pub fn solicit(alloc: Global) -> Vec<u8> {
     octets(alloc, SOLICIT)
 }
 
-/// A Relay-forward of a relay in a frame, 146 bytes.
+/// A Relay-forward with that Solicit in a frame, 146 bytes, from a relay to a server.
 pub fn relay_forward(alloc: Global) -> Vec<u8> {
     octets(alloc, RELAY_FORWARD)
 }

@@ -120,7 +120,7 @@ ok
 ";
 
 #[test]
-fn every_layout_gives_the_same_lines(rt: HostRuntime) {
+fn each_layout_gives_the_lines_of_its_unit(rt: HostRuntime) {
     for (layout, expected) in [
         (BIG, MICROSECONDS),
         (LITTLE, MICROSECONDS),

@@ -102,9 +102,11 @@ fn a_released_address_is_kept_until_its_lease_and_the_bound_are_over(rt: HostRun
 }
 
 // Both clients go through the same: their first Discover is lost, and so is the first Ack. The one
-// with mozim's forms waits 15 seconds for it, since its attempts count on from the Discover; the
-// one with those of RFC 2131 waits three (section 4.1). Both renewals are payloads that the server
-// acknowledges, the second by `ciaddr` alone, and the server takes a Release without an answer.
+// with mozim's forms waits seven seconds for it, since its attempts count on from the second
+// Discover: at 9999 it sends nothing, and at 10000 its request again. The one with those of RFC
+// 2131 counts anew from its request, and waits three (section 4.1). Both renewals are payloads that
+// the server acknowledges, that of RFC 2131 by `ciaddr` alone, and the server takes a Release
+// without an answer.
 #[test]
 fn each_client_has_its_own_message_forms(rt: HostRuntime) {
     let alloc = rt.alloc();
@@ -112,18 +114,18 @@ fn each_client_has_its_own_message_forms(rt: HostRuntime) {
     let events = "at 0 client 0 ok none\nat 0 client 1 ok none\nat 3000 client 0 ok none\n\
          at 3000 client 1 ok none\nat 3000 server deliver 2\nat 3000 client 0 ok deliver 4\n\
          at 3000 server deliver 5\nat 3000 server deliver 3\nat 3000 client 1 ok deliver 7\n\
-         at 3000 server deliver 8\nat 6000 client 0 ok none\nat 6000 client 1 ok none\n\
-         at 6000 server deliver 10\nat 6000 client 1 ok deliver 11\nat 18000 client 0 ok none\n\
-         at 18000 server deliver 12\nat 18000 client 0 ok deliver 13\n";
+         at 3000 server deliver 8\nat 6000 client 1 ok none\nat 6000 server deliver 10\n\
+         at 6000 client 1 ok deliver 11\nat 9999 client 0 ok none\nat 10000 client 0 ok none\n\
+         at 10000 server deliver 12\nat 10000 client 0 ok deliver 13\n";
     let more = "at 56000 client 1 ok none\nat 56000 server deliver 14\n\
          at 56000 client 1 ok deliver 15\nat 68000 client 0 ok none\nat 68000 server deliver 16\n\
          at 68000 client 0 ok deliver 17\nat 68000 client 1 ok release\n\
          at 68000 server deliver 18\nend\n";
     let input = format!(in alloc; "{head}{events}{more}").expect(&rt, "memory");
     let output = "1 sent 0\n2 sent 1\n3 sent 2\n4 sent 3\n5 sent 4\n6 sent 5\n7 sent 6\n\
-         8 sent 7\n9 sent 8\n10 sent 9\n12 sent 10\n13 sent 11\n\
-         14 hold 1 192.0.2.11 6000 106000\n15 sent 12\n16 sent 13\n\
-         17 hold 0 192.0.2.10 18000 118000\n18 sent 14\n19 sent 15\n\
+         8 sent 7\n9 sent 8\n10 sent 9\n11 sent 10\n12 sent 11\n\
+         13 hold 1 192.0.2.11 6000 106000\n15 sent 12\n16 sent 13\n\
+         17 hold 0 192.0.2.10 10000 110000\n18 sent 14\n19 sent 15\n\
          20 hold 1 192.0.2.11 56000 156000\n21 sent 16\n22 sent 17\n\
          23 hold 0 192.0.2.10 68000 168000\n24 sent 18\n24 sent 19\n";
     assert!(rt; prints(alloc, input.as_str(), output).expect(&rt, "memory"));

@@ -1,10 +1,11 @@
 //! Sessions: what is said besides the outputs, and how they end.
 
-use crate::program::live;
+use crate::program::{Broken, hold, live};
 use crate::scripts::{IPV4, USUAL, script};
 use crate::words::push_line;
 use dhcp_wire::DhcpError;
 use std::alloc::{AllocError, Global};
+use std::io::Cursor;
 
 // Random words, the second of which draws a pause of five milliseconds; further ones are added.
 const HEAD: &str = "
@@ -18,11 +19,14 @@ const HEAD: &str = "
     start 0
 ";
 
+// The first Discover draws its wait from the word 0: at 3005 that is over. The second draws it from
+// the word 7, which was left when the word 9 was added, and waits 7007 milliseconds.
 const TOLD: &str = "
     at 0 ok none
     words 0000000000000007
     at 5 ok none
-    at 3004 ok none
+    words 00000009
+    at 3005 ok none
     end
 ";
 
@@ -30,7 +34,8 @@ const SAID: &str = "
     next 5 deaf 0
     2 handed frame DISCOVER
     next 3005 listening 1
-    next 3005 listening 1
+    3 handed frame DISCOVER
+    next 10012 listening 1
     ok
 ";
 
@@ -160,7 +165,7 @@ fn ends_with(alloc: Global, line: &str, events: &str, status: u8) -> Result<bool
 }
 
 #[test]
-fn each_status_has_its_cause(rt: HostRuntime) {
+fn a_session_without_a_script_or_with_an_invalid_event_is_refused(rt: HostRuntime) {
     const CASES: [(&str, &str, u8); 6] = [
         (USUAL, "", 0),
         (USUAL, "at 5 ok none\nat 4 ok none", 7),
@@ -173,6 +178,33 @@ fn each_status_has_its_cause(rt: HostRuntime) {
         let ends = ends_with(rt.alloc(), line, events, status).expect(&rt, "memory");
         assert!(rt; ends, "{line} {events}");
     }
+}
+
+// The status of a session over a reader that fails.
+fn status_unheard(alloc: Global) -> Result<u8, DhcpError> {
+    let mut said = Vec::new(alloc);
+    hold(alloc, Broken, &mut said)
+}
+
+// The status of a session with an event, over a writer that fails.
+fn status_unsaid(alloc: Global) -> Result<u8, DhcpError> {
+    let told = lines(alloc, &[HEAD, "at 0 ok none"])?;
+    hold(alloc, Cursor::new(told.as_bytes()), Broken)
+}
+
+#[test]
+fn a_session_that_is_not_heard_or_not_said_has_its_status(rt: HostRuntime) {
+    assert!(rt; status_unheard(rt.alloc()).expect(&rt, "memory") == 3);
+    assert!(rt; status_unsaid(rt.alloc()).expect(&rt, "memory") == 4);
+}
+
+#[test]
+fn a_line_past_the_limit_is_too_long(rt: HostRuntime) {
+    let bytes = vec![in rt.alloc(); b'a'; 16_777_217].expect(&rt, "memory");
+    let ended = live(rt.alloc(), bytes.as_slice()).expect(&rt, "memory");
+    assert!(rt; ended.is_empty(6));
+    let ended = live(rt.alloc(), &bytes.as_slice()[1..]).expect(&rt, "memory");
+    assert!(rt; ended.is_empty(2));
 }
 
 #[test]

@@ -6,7 +6,7 @@ use dhcp_replay::replay_tool;
 use dhcp_stream::{MemSink, MemSource};
 use dhcp_wire::DhcpError;
 use std::alloc::{AllocError, Global};
-use std::io::Cursor;
+use std::io::{self, Cursor, ErrorKind, Read, Write};
 
 // The exit status of a run that is out of memory.
 const NO_MEMORY: u8 = 5;
@@ -78,14 +78,38 @@ pub fn run_with_faults(
 /// A session over these bytes, which are heard line by line.
 pub fn live(alloc: Global, input: &[u8]) -> Result<Ended, DhcpError> {
     let mut said = Vec::with_capacity(alloc, ROOM)?;
-    let status = hold(alloc, input, &mut said)?;
+    let status = hold(alloc, Cursor::new(input), &mut said)?;
     Ended::new(alloc, status, said.as_slice())
 }
 
-// Holds it, and returns its status.
-fn hold(alloc: Global, input: &[u8], said: &mut Vec<u8>) -> Result<u8, DhcpError> {
-    let mut dialogue = StdDialogue::new(alloc, Cursor::new(input), said)?;
+/// The status of a session over a reader and a writer.
+pub fn hold<R: Read + Drop, W: Write + Drop>(
+    alloc: Global,
+    reader: R,
+    writer: W,
+) -> Result<u8, DhcpError> {
+    let mut dialogue = StdDialogue::new(alloc, reader, writer)?;
     Ok(live_tool(alloc, &mut dialogue))
+}
+
+/// A reader and a writer of which every call fails.
+#[derive(Drop)]
+pub struct Broken;
+
+impl Read for Broken {
+    fn read(&mut self, _buf: &mut [u8]) -> io::Result<usize> {
+        Err(io::Error::from(ErrorKind::Other))
+    }
+}
+
+impl Write for Broken {
+    fn write(&mut self, _buf: &[u8]) -> io::Result<usize> {
+        Err(io::Error::from(ErrorKind::Other))
+    }
+
+    fn flush(&mut self) -> io::Result<()> {
+        Ok(())
+    }
 }
 
 // The words as the program is given them.

@@ -4,7 +4,7 @@ ghost use Rattle.std.specs.Prelude.{◌<◌, ◌^◌};
 
 use dhcp_clock::{Packet, PacketKind};
 use dhcp_frame::{Frame, MOST_PAYLOAD, write_frame};
-use dhcp_wire::{BROADCAST_MAC_ADDRESS, BufferMut, Bytes, DhcpError, ErrorKind, FixedText};
+use dhcp_wire::{BROADCAST_MAC_ADDRESS, Bytes, DhcpError, ErrorKind, FixedText};
 use dhcp4_msg::{DhcpV4Message, DhcpV4MessageType, DhcpV4Option, DhcpV4OptionCode, DhcpV4Options};
 use dhcp4_server::{DhcpV4Server, ServerAnswer, ServerConfig};
 use std::alloc::Global;
@@ -42,16 +42,9 @@ fn message(alloc: Global, xid: u32, kind: DhcpV4MessageType) -> Result<DhcpV4Mes
     Ok(message)
 }
 
-// The bytes of a message.
-fn written(alloc: Global, message: &DhcpV4Message) -> Result<Bytes, DhcpError> {
-    let mut buffer = BufferMut::new(alloc);
-    message.emit(&mut buffer)?;
-    Ok(buffer.into_bytes())
-}
-
 /// A Discover.
 pub fn discover(alloc: Global, xid: u32) -> Result<Bytes, DhcpError> {
-    written(alloc, &message(alloc, xid, DhcpV4MessageType::Discovery)?)
+    message(alloc, xid, DhcpV4MessageType::Discovery)?.to_bytes(alloc)
 }
 
 /// A Request for an address to the server of this address.
@@ -63,7 +56,7 @@ pub fn request(
 ) -> Result<Bytes, DhcpError> {
     let mut message = message(alloc, xid, DhcpV4MessageType::Request)?;
     ask(&mut message.options, server, address)?;
-    written(alloc, &message)
+    message.to_bytes(alloc)
 }
 
 // Adds the address that a Request asks for, and the server that it is for.
@@ -77,7 +70,7 @@ fn ask(options: &mut DhcpV4Options, server: Ipv4Addr, address: Ipv4Addr) -> Resu
 
 /// A Release.
 pub fn release(alloc: Global, xid: u32) -> Result<Bytes, DhcpError> {
-    written(alloc, &message(alloc, xid, DhcpV4MessageType::Release)?)
+    message(alloc, xid, DhcpV4MessageType::Release)?.to_bytes(alloc)
 }
 
 /// A payload in a frame to this port. `Bug` if it is too long for one.

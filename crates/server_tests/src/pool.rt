@@ -57,6 +57,8 @@ fn is_answered(
     answered: Answered,
 ) -> Result<bool, DhcpError> {
     let payload = payload_of(alloc, xid, sends)?;
+    // This changes no moment of these tests. By it the proof knows that the moment is below 2^60,
+    // as `answer` requires.
     let now = moment % 1_000_000;
     Ok(answer(alloc, server, now, xid, payload)? == answered)
 }
@@ -101,14 +103,20 @@ fn each_client_has_an_address_of_its_own(rt: HostRuntime) {
 }
 
 #[test]
-fn what_is_not_for_the_server_is_not_answered(rt: HostRuntime) {
+fn a_request_to_another_server_and_a_release_are_not_answered(rt: HostRuntime) {
     let first = pool_ip(0);
-    let outside = Ipv4Addr::new(192, 0, 2, 9);
     let steps = [
         (0, ONE, Sends::RequestToAnother(first), Answered::Silent),
-        (0, ONE, Sends::Request(outside), Answered::Nack),
         (0, ONE, Sends::Release, Answered::Silent),
     ];
+    let differs = differs_at(rt.alloc(), 1, steps.as_slice()).expect(&rt, "memory");
+    assert!(rt; differs.is_none(), "{differs:?}");
+}
+
+#[test]
+fn a_request_of_an_address_outside_the_pool_is_refused(rt: HostRuntime) {
+    let outside = Ipv4Addr::new(192, 0, 2, 9);
+    let steps = [(0, ONE, Sends::Request(outside), Answered::Nack)];
     let differs = differs_at(rt.alloc(), 1, steps.as_slice()).expect(&rt, "memory");
     assert!(rt; differs.is_none(), "{differs:?}");
 }

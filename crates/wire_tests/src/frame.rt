@@ -142,12 +142,13 @@ fn options_of_the_header_are_no_payload(rt: HostRuntime) {
 
 #[test]
 fn one_wrong_field_refuses_a_frame(rt: HostRuntime) {
-    const EDITS: [(usize, u8, &str); 13] = [
+    const EDITS: [(usize, u8, &str); 14] = [
         (12, 0x81, "another type"),
         (13, 0x06, "a type of ARP"),
         (14, 0x65, "version 6"),
         (14, 0x44, "a header of 16 bytes"),
-        (14, 0x47, "a header past the packet"),
+        (14, 0x47, "a header with two bytes behind it"),
+        (14, 0x48, "a header past the packet"),
         (17, 0x1b, "no room for a UDP header"),
         (17, 0x2f, "a total length past the bytes"),
         (20, 0x20, "more fragments"),

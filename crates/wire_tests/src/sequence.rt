@@ -18,14 +18,14 @@ enum Entry {
     Listed(Bytes),
 }
 
-// A row with one entry of each kind.
-fn row_named(alloc: Global, name: &str) -> Result<Row, DhcpError> {
+// A row with this name, these numbers, and one entry of each kind.
+fn row_of(alloc: Global, name: &str, numbers: &[u16]) -> Result<Row, DhcpError> {
     let mut entries = Sequence::new(alloc);
     entries.push(Entry::Named(Text::from_str(alloc, name)?))?;
     entries.push(Entry::Listed(Bytes::from_slice(alloc, &[1, 2])?))?;
     Ok(Row {
         name: Text::from_str(alloc, name)?,
-        numbers: Sequence::from_slice(alloc, &[4, 5])?,
+        numbers: Sequence::from_slice(alloc, numbers)?,
         entries,
     })
 }
@@ -34,10 +34,16 @@ fn row_named(alloc: Global, name: &str) -> Result<Row, DhcpError> {
 fn derived_comparisons_compare_the_lists(rt: HostRuntime) {
     let alloc = rt.alloc();
     assert!(rt;
-        row_named(alloc, "a").expect(&rt, "memory") == row_named(alloc, "a").expect(&rt, "memory")
+        row_of(alloc, "a", &[4, 5]).expect(&rt, "memory")
+            == row_of(alloc, "a", &[4, 5]).expect(&rt, "memory")
     );
     assert!(rt;
-        row_named(alloc, "ab").expect(&rt, "memory") < row_named(alloc, "b").expect(&rt, "memory")
+        row_of(alloc, "a", &[4, 5]).expect(&rt, "memory")
+            < row_of(alloc, "a", &[4, 6]).expect(&rt, "memory")
+    );
+    assert!(rt;
+        row_of(alloc, "ab", &[4, 6]).expect(&rt, "memory")
+            < row_of(alloc, "b", &[4, 5]).expect(&rt, "memory")
     );
 }
 

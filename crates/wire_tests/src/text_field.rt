@@ -11,8 +11,8 @@ fn hex_is_read_in_lower_case_pairs(rt: HostRuntime) {
     const CASES: [(&[u8], &[u8]); 3] = [(b"-", b""), (b"00", b"\0"), (b"09afff", b"\x09\xaf\xff")];
     for &(field, want) in &CASES {
         let bytes = hex_field(rt.alloc(), field)
-            .expect(&rt, "reads")
-            .expect(&rt, "memory");
+            .expect(&rt, "memory")
+            .expect(&rt, "reads");
         assert!(rt; bytes.as_slice() == want);
     }
 }
@@ -23,7 +23,7 @@ fn other_texts_are_no_hex(rt: HostRuntime) {
     for field in &FIELDS {
         assert!(rt;
             hex_field(rt.alloc(), field.as_bytes())
-                .expect(&rt, "reads")
+                .expect(&rt, "memory")
                 .is_none(),
             "{field}"
         );
@@ -60,13 +60,13 @@ fn a_mac_address_is_six_bytes_in_hex(rt: HostRuntime) {
 #[test]
 fn words_are_read_from_eight_digits_each(rt: HostRuntime) {
     let words = words_field(rt.alloc(), b"12345678ffffffff")
-        .expect(&rt, "reads")
-        .expect(&rt, "memory");
+        .expect(&rt, "memory")
+        .expect(&rt, "reads");
     assert!(rt; words.as_slice() == [0x12345678u32, 0xffffffff].as_slice());
     for field in ["1234567", "123456"] {
         assert!(rt;
             words_field(rt.alloc(), field.as_bytes())
-                .expect(&rt, "reads")
+                .expect(&rt, "memory")
                 .is_none(),
             "{field}"
         );
@@ -76,12 +76,12 @@ fn words_are_read_from_eight_digits_each(rt: HostRuntime) {
 #[test]
 fn codes_are_read_from_four_digits_each(rt: HostRuntime) {
     let codes = codes_field(rt.alloc(), b"0017ffff")
-        .expect(&rt, "reads")
-        .expect(&rt, "memory");
+        .expect(&rt, "memory")
+        .expect(&rt, "reads");
     assert!(rt; codes.as_slice() == [0x17u16, 0xffff].as_slice());
     assert!(rt;
         codes_field(rt.alloc(), b"001700")
-            .expect(&rt, "reads")
+            .expect(&rt, "memory")
             .is_none()
     );
 }

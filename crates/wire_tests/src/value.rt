@@ -28,7 +28,7 @@ fn other_texts_are_no_mac_address(rt: HostRuntime) {
     for &text in &TABLE {
         assert!(rt;
             none_if_refused(parse_mac(rt.alloc(), text))
-                .expect(&rt, "reads")
+                .expect(&rt, "memory")
                 .is_none(),
             "at {text}"
         );
