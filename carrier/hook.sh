@@ -13,11 +13,13 @@ set_address() {
         valid_lft "$lasts" preferred_lft "$preferred"
 }
 
-# The routes of option 121 take the place of the routers (RFC 3442).
+# The routes of option 121 take the place of the routers (RFC 3442). With a mask of 32 bits a router
+# is reached on the link, although no prefix covers it.
 set_routes() {
     set -- ${staticroutes:-${router:+0.0.0.0/0 ${router%% *}}}
     while [ $# -ge 2 ]; do
         via="via $2"
+        [ "$mask" = 32 ] && via="$via onlink"
         [ "$2" = 0.0.0.0 ] && via=
         ip -4 route replace "$1" $via dev "$interface" proto dhcp metric "$metric"
         shift 2
@@ -43,7 +45,7 @@ case $1 in
         [ -z "$dns" ] || set_name_servers
         ;;
     deconfig)
-        ip -4 route flush dev "$interface" proto dhcp
+        [ "$family" = -6 ] || ip -4 route flush dev "$interface" proto dhcp
         ip "$family" addr del "$address/$mask" dev "$interface" 2>/dev/null
         ;;
 esac

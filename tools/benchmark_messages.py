@@ -58,8 +58,8 @@ REPLY = (
 )
 
 TASKS4 = ("read", "message", "written", "lease", "moved", "kept")
-# Those that take long enough on a message with one option of 54 KB.
-TASKS4_OF_ONE_LONG_OPTION = ("read", "message", "lease", "moved")
+# Those that take long enough on a message of which two options are kept, the last of each code.
+TASKS4_OF_TWO_KEPT_OPTIONS = ("read", "message", "lease", "moved")
 TASKS6 = ("reply6", "message6", "written6", "lease6", "moved6", "kept6")
 POOLS = ("serve256", "serve65536")
 
@@ -152,7 +152,7 @@ def rows_of_messages4():
     whole = message(UNKNOWN_AND_TIME, 65776)
     yield from (row("ack_of_302_bytes", it, 20000, ack()) for it in TASKS4)
     yield from (row("message_with_239_options", it, 1000, many_options()) for it in TASKS4)
-    yield from (row("options_of_64_KiB", it, 100, whole) for it in TASKS4_OF_ONE_LONG_OPTION)
+    yield from (row("options_of_64_KiB", it, 100, whole) for it in TASKS4_OF_TWO_KEPT_OPTIONS)
     yield row("options_of_128_KiB", "message", 50, message(UNKNOWN_AND_TIME, 131312))
     yield row("discover_built_and_written", "discover", 50000, ack())
     yield row("frame_of_342_bytes", "frame", 100000, frame(342))

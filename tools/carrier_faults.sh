@@ -1,10 +1,10 @@
 #!/bin/bash
 # carrier_faults.sh [CARRIER]: what the carrier does with a program that is dead, hangs or says what
-# it should not, in about twenty seconds and without any privilege. Stand-ins for the program grant
-# a lease by themselves, and then fail, each in its way: the carrier must end with status 1 in time,
-# say why, and take the address off. Two do not fail: one says what it dropped, and one is to hear a
-# packet as long as one may be. It needs unshare (util-linux), ip, and a kernel that lets users make
-# namespaces.
+# it should not, in about 25 seconds and without any privilege. Stand-ins for the program grant a
+# lease by themselves, and then fail, each in its way: the carrier must end with status 1 in time,
+# say why, and take the address off. Three do not fail: one says what it dropped, one has a lease
+# without a mask, and one is to hear a packet as long as one may be. It needs unshare (util-linux),
+# ip, and a kernel that lets users make namespaces.
 set -uo pipefail
 PATH=$PATH:/usr/sbin:/sbin
 
@@ -34,15 +34,17 @@ nsenter --net="/proc/$other/ns/net" ip addr add 192.0.2.1/24 dev srv0
 nsenter --net="/proc/$other/ns/net" ip link set srv0 up
 ip link set cli0 up
 
-# stand_in NAME: a program that reads up to the first event and answers it with a lease, and with a
-# next event that is due at once; what it does then is read from standard input.
+# stand_in NAME [MASK ROUTER]: a program that reads up to the first event and answers it with a
+# lease that has this subnet mask, else 255.255.255.0, and this router, else none; what it does then
+# is read from standard input.
 stand_in() {
+    local lease="192.0.2.50 0.0.0.0 192.0.2.1 60 105 120 ${2-255.255.255.0} none none none"
+    lease+=" ${3-none} none none none none"
     {
         echo '#!/bin/bash'
         echo 'echo $$ >"$0.pid"'
         echo 'until read -r line && [ "${line%% *}" = at ]; do :; done'
-        printf 'echo "1 state done %s"\n' "192.0.2.50 0.0.0.0 192.0.2.1 60 105 120 255.255.255.0 \
-none none none none none none none none"
+        printf 'echo "1 state done %s"\n' "$lease"
         cat
     } >"$work/$1"
     chmod +x "$work/$1"
@@ -77,7 +79,11 @@ echo "next never listening 1024"
 until read -r line && [ "$line" = end ]; do echo "next never deaf 1024"; done
 echo ok
 FAULT
-
+stand_in has_no_mask 0.0.0.0 192.0.2.1 <<'FAULT'
+echo "next never deaf 1024"
+until read -r line && [ "$line" = end ]; do echo "next never deaf 1024"; done
+echo ok
+FAULT
 stand_in hears <<'FAULT'
 echo "next never listening 1024"
 until read -r line && [ "$line" = end ]; do
@@ -87,16 +93,20 @@ done
 echo ok
 FAULT
 
-# try NAME STATUS SECONDS PATTERN: runs the carrier over a stand-in. It must end with this status,
-# within so many seconds, with a line of the pattern in its log and the address off the interface.
+# The addresses and routes of the interface, on one line.
+interface_has() { echo $(ip -4 addr show dev cli0; ip -4 route show dev cli0); }
+
+# try NAME STATUS SECONDS PATTERN [SET]: runs the carrier over a stand-in. It must end with this
+# status, within so many seconds, with a line of the pattern in its log; the interface must have got
+# what the pattern SET says, else the address with 24 bits, and have no address or router after it.
 try() {
-    local begun=$SECONDS status=0 address=no
+    local begun=$SECONDS status=0 address=no set=${5-'inet 192\.0\.2\.50/24 '}
     timeout --foreground 30 "$work/carrier" --foreground --program "$work/$1" \
         --transcript "$work/transcript" cli0 2>"$work/log" &
     local carrier=$!
     for _ in 1 2 3 4 5; do
         sleep 0.1
-        ip -4 addr show dev cli0 | grep -q 'inet 192\.0\.2\.50/24' && address=yes
+        grep -q "$set" <<<"$(interface_has)" && address=yes
     done
     [ "$2" = 0 ] && sleep 1 && kill "$carrier"
     wait "$carrier" || status=$?
@@ -105,7 +115,7 @@ try() {
     [ "$address" = yes ] || wrong+=" [address on]"
     [ "$status" = "$2" ] || wrong+=" [status $status]"
     [ "$took" -le "$3" ] || wrong+=" [$took seconds]"
-    ip -4 addr show dev cli0 | grep -q inet && wrong+=" [address off]"
+    grep -q -e inet -e via <<<"$(interface_has)" && wrong+=" [address off]"
     kill -0 "$(cat "$work/$1.pid")" 2>/dev/null && wrong+=" [the program goes on]"
     echo "$1: status $status after $took s: $said${wrong:+; WRONG:$wrong}"
     [ -z "$wrong" ] || { failed=1; cut -c1-160 "$work/log"; }
@@ -119,6 +129,9 @@ try ends 1 3 'the program ended with exit status: 3; the last lines were'
 try says_nonsense 1 4 'no line of an answer: 2 dances; the last lines were'
 try says_what_it_dropped 0 5 'cli0: dropped 7 wrong_id'
 grep -q '^dropped' "$work/transcript" && { echo "in the transcript, which is a script"; failed=1; }
+# The default hook gets a mask of 32, and reaches the router on the link.
+try has_no_mask 0 5 'cli0: done 192\.0\.2\.50/32' \
+    'inet 192\.0\.2\.50/32 .*default via 192\.0\.2\.1 .*onlink'
 
 # A packet of 1,500 bytes, with headers of 42: both sockets have it, each as an event.
 (sleep 0.3 && nsenter --net="/proc/$other/ns/net" bash -c \

@@ -4,8 +4,8 @@
     tools/compare_examples.py      at the repository's top
 
 Each fenced block of Rust in README.md and docs/USING.md has to stand, line for line but for its
-indentation, in a source file of the two crates. Prints those that don't; the status is then 1, and also
-if there is no such block at all.
+indentation, in a source file of the two crates. Prints those that don't; the status is then 1, and
+also if there is no such block at all.
 """
 import re
 import sys

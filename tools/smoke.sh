@@ -7,6 +7,10 @@
 set -euo pipefail
 PATH=$PATH:/usr/sbin:/sbin
 
+if [ $# = 0 ]; then
+    echo "usage: tools/smoke.sh PROGRAM [CARRIER]" >&2
+    exit 2
+fi
 if [ "$1" != --inside ]; then
     tools=$(cd "$(dirname "$0")" && pwd)
     program=$(realpath "$1")

@@ -24,7 +24,9 @@ pub fn lease_of(words: &str) -> Option<Lease> {
     let values = values.filter_map(|(name, word)| Some((name, value(name, word)?)));
     let mut lease: Lease = values.chain([("words", words.into())]).collect();
     if let Some(mask) = lease.get("subnet").and_then(|mask| mask.parse::<Ipv4Addr>().ok()) {
-        lease.insert("mask", u32::from(mask).leading_ones().to_string());
+        // 0.0.0.0: the server sent no mask
+        let length = if mask.is_unspecified() { 32 } else { u32::from(mask).leading_ones() };
+        lease.insert("mask", length.to_string());
     }
     let address = lease.get("ip").or(lease.get("ipv6"))?;
     lease.insert("address", format!("{address}/{}", lease.get("mask")?));
@@ -73,13 +75,17 @@ impl Carrier {
         fs::rename(format!("{file}.new"), file)
     }
 
-    /// Runs the hook with a lease, if there is one, for `bound`, `renew` or `deconfig`.
+    /// Runs the hook with a lease, if there is one, for `bound`, `renew` or `deconfig`. A variable
+    /// that the lease does not have is not set, whatever the carrier's own environment has.
     pub fn set(&self, event: &str) {
         let Some(lease) = &self.lease else { return };
         let hook = self.options.get("--hook");
         let mut command = Command::new(hook.map_or("sh", String::as_str));
         if hook.is_none() {
             command.args(["-c", include_str!("../hook.sh"), "hook.sh"]);
+        }
+        for name in [WORDS_4, WORDS_6].iter().flat_map(|names| names.split(' ')) {
+            command.env_remove(name);
         }
         command.arg(event).env("interface", &self.options["interface"]).envs(lease);
         let status = command.stdin(Stdio::null()).stdout(stderr()).status();

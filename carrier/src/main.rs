@@ -26,17 +26,28 @@ fn main() {
     }
 }
 
+// What the words of the command line ask for; an error if one of them is wrong or missing.
 fn options() -> Result<Options> {
     let (mut options, mut words) = (Options::new(), args().skip(1));
+    let wrong = |what| Err(Error::other(what));
     while let Some(word) = words.next() {
         let (name, value) = match word.as_str() {
             "-4" | "-6" | "--once" | "--foreground" | "--help" => (word, String::new()),
             "--prefix" | "--forms" | "--host" | "--timeout" | "--program" | "--lease"
-            | "--hook" | "--transcript" => (word, words.next().unwrap_or_default()),
-            name if name.starts_with('-') => return Err(Error::other(format!("what is {name}?"))),
+            | "--hook" | "--transcript" => match words.next() {
+                Some(value) => (word, value),
+                None => return wrong(format!("{word} has no value")),
+            },
+            name if name.starts_with('-') => return wrong(format!("what is {name}?")),
+            _ if options.contains_key("interface") => {
+                return wrong(format!("{word} is a second interface"));
+            }
             _ => ("interface".into(), word),
         };
         options.insert(name, value);
+    }
+    if !options.contains_key("interface") && !options.contains_key("--help") {
+        return wrong("no interface is named; --help says how to".into());
     }
     Ok(options)
 }
@@ -44,7 +55,7 @@ fn options() -> Result<Options> {
 // Prints the help, or runs the carrier, here or, by starting it anew, in the background.
 fn run(options: Options) -> Result<()> {
     let has = |name| options.contains_key(name);
-    if has("--help") || !has("interface") {
+    if has("--help") {
         print!("{}", include_str!("../help.txt"));
     } else if has("--once") || has("--foreground") {
         return Carrier::start(options)?.run();

@@ -17,6 +17,8 @@ const SO_BINDTODEVICE: i32 = 25;
 const SO_ATTACH_FILTER: i32 = 26;
 const ETH_P_IP: u16 = 0x800;
 const POLLIN: i16 = 1;
+// The longest that a call waits, in milliseconds.
+const MOST_WAIT: u64 = 10_000;
 
 unsafe extern "C" {
     fn socket(family: i32, kind: i32, protocol: i32) -> i32;
@@ -80,12 +82,15 @@ impl Sockets {
     }
 
     /// Waits until one of the other files can be read, so many milliseconds are over, or a packet
-    /// is there, if one is listened for. Returns whether the first of those files can be read.
+    /// is there, if one is listened for; ten seconds at most, also where no limit is given. poll(2)
+    /// does not count the time in which the machine sleeps: a longer wait would end late after it,
+    /// so the caller looks at the clock and waits again. Returns whether the first of those files
+    /// can be read.
     pub fn wait(&self, others: [RawFd; 2], milliseconds: Option<u64>, is_listening: bool) -> bool {
         let sockets = self.frames.iter().chain([&self.payloads]).filter(|_| is_listening);
         let files = others.into_iter().chain(sockets.map(UdpSocket::as_raw_fd));
         let mut files: Vec<_> = files.map(|file| PollFile(file, POLLIN, 0)).collect();
-        let limit = milliseconds.map_or(-1, |left| left.min(i32::MAX as u64) as i32);
+        let limit = milliseconds.map_or(MOST_WAIT, |left| left.min(MOST_WAIT)) as i32;
         unsafe { poll(files.as_mut_ptr(), files.len() as u64, limit) > 0 && files[0].2 != 0 }
     }
 }
