@@ -1,5 +1,5 @@
 -- A lease, as it is read from a message: RFC 2131 sections 2 and 4.4.5, RFC 2132, RFC 3442.
-use Rattle.std.specs.Prelude.{◌≡◌, ℕ, ◌+◌, ◌-◌, ◌*◌, ◌/◌, ◌%◌, ◌&&◌, nat_lt, nat_le, Bool, List, drop, Option, Some, None, option_map, unwrap_or, replicate, Result, ok_or, if◌then◌else◌}
+use Rattle.std.specs.Prelude.{◌≡◌, ℕ, ◌+◌, ◌-◌, ◌%◌, ◌&&◌, nat_lt, nat_le, Bool, List, drop, Option, Some, None, option_map, unwrap_or, replicate, Result, ok_or, if◌then◌else◌}
 use Rattle.std.specs.FinMap as map
 use Rattle.std.specs.declared.net.Ipv4Addr.{Ipv4Addr}
 use Rattle.dhcp_wire.specs.Error.{ErrorParts}
@@ -9,6 +9,7 @@ use Rattle.dhcp_clock.specs.Words.{next_of, Drawn, Draws, DrawsBy}
 use Rattle.dhcp4_msg.specs.declared.message.DhcpV4Message.{DhcpV4Message}
 use Rattle.dhcp4_msg.specs.declared.route.DhcpV4ClasslessRoute.{DhcpV4ClasslessRoute}
 use Rattle.dhcp4_lease.specs.declared.lease.times.LeaseTimes.{LeaseTimes}
+use Rattle.dhcp4_msg.specs.LeaseTime.{default_rebinding_time, default_renewal_time}
 use Rattle.dhcp4_msg.specs.Message.{no_address}
 use Rattle.dhcp4_msg.specs.Options.{OptionMap, said_by, classless_routes}
 use Rattle.dhcp4_msg.specs.Value.{address_said, addresses_said, seconds_said, size_said, text_said}
@@ -47,12 +48,14 @@ unfoldable pub said_or_drawn : Option ℕ → ℕ → List ℕ → Drawn ℕ
 said_or_drawn (Some seconds) base words = record { value = seconds; left = words }
 said_or_drawn None base words = drawn_about base words
 
--- the times of a lease that lasts so long: T1 is option 58, or about half of it; T2 is option 59,
--- or about seven eighths of it
+-- the times of a lease that lasts so long: T1 is option 58, and T2 option 59, or each is about its
+-- default
 unfoldable pub times_of : OptionMap → ℕ → List ℕ → Drawn LeaseTimes
 times_of options lease_time words =
-    let t1 = said_or_drawn (said_by seconds_said options 58) (lease_time / 2) words in
-    let t2 = said_or_drawn (said_by seconds_said options 59) (7 * lease_time / 8) t1.left in
+    let renewal = said_by seconds_said options 58 in
+    let t1 = said_or_drawn renewal (default_renewal_time lease_time) words in
+    let rebinding = said_by seconds_said options 59 in
+    let t2 = said_or_drawn rebinding (default_rebinding_time lease_time) t1.left in
     record {
       value = record { t1_sec = t1.value; t2_sec = t2.value; lease_time_sec = lease_time };
       left = t2.left;

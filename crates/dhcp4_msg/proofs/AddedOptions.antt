@@ -23,7 +23,7 @@ abbrev pub Stands : DhcpV4Option → Type 0
 Stands option = ReadsBackUnder (option_number option) option
 
 -- one more option
-pub one_more : (kept : OptionMap) (option : DhcpV4Option) → OptionsReadBack kept → Stands option → OptionsReadBack (insert kept (option_number option) option)
+one_more : (kept : OptionMap) (option : DhcpV4Option) → OptionsReadBack kept → Stands option → OptionsReadBack (insert kept (option_number option) option)
 one_more kept option back stands q found is =
     elim (eq_by_cmp nat_cmp q (option_number option)) as (λ b. eq_by_cmp nat_cmp q (option_number option) ≡ b → cond b (Some option) (get kept q) ≡ Some found → ReadsBackUnder q found) [
       | true ↦ λ tied is.
@@ -49,11 +49,11 @@ abbrev pub total : List DhcpV4Option → ℕ
 total [] = 0
 total (option ∷ options) = length (written_option option) + total options
 
-pub size_of-first : (number : ℕ) (option : DhcpV4Option) (es : List (ℕ × DhcpV4Option)) → size_of ((number, option) ∷ es) ≡ length (written_option option) + size_of es
+size_of-first : (number : ℕ) (option : DhcpV4Option) (es : List (ℕ × DhcpV4Option)) → size_of ((number, option) ∷ es) ≡ length (written_option option) + size_of es
 size_of-first number option es = length-append (written_option option) (flat_map written_option (values_of es))
 
 -- one more entry adds its own bytes at most
-pub size_of-put : (number : ℕ) (option : DhcpV4Option) (es : List (ℕ × DhcpV4Option)) → size_of (put nat_cmp number option es) ≤ size_of es + length (written_option option)
+size_of-put : (number : ℕ) (option : DhcpV4Option) (es : List (ℕ × DhcpV4Option)) → size_of (put nat_cmp number option es) ≤ size_of es + length (written_option option)
 size_of-put number option [] = omega (arith, size_of-first number option [])
 size_of-put number option (e ∷ es) =
     elim (nat_cmp number e.0) as (λ order. size_of (map.Entries.by_order order ((number, option) ∷ e ∷ es) ((e.0, option) ∷ es) (e ∷ put nat_cmp number option es)) ≤ size_of (e ∷ es) + length (written_option option)) [
@@ -71,11 +71,11 @@ size_of-with_options (option ∷ options) kept =
     omega (arith, added, size_of-with_options options (insert kept (option_number option) option))
 
 -- End adds a byte at most
-pub length-end : (found : Bool) → length {A = ℕ} (if found then [] else 255 ∷ []) ≤ 1
+length-end : (found : Bool) → length {A = ℕ} (if found then [] else 255 ∷ []) ≤ 1
 length-end true = lit≤ tt
 length-end false = lit≤ tt
 
-pub length-added_end : (options : OptionMap) → length (added_end options) ≤ 1
+length-added_end : (options : OptionMap) → length (added_end options) ≤ 1
 length-added_end options = length-end (map.contains_key options 255)
 
 pub length-written_options : (options : OptionMap) → length (written_options options) ≤ size_of (entries options) + 1
@@ -99,7 +99,7 @@ length-numbers message =
     )
 
 -- a map without entries takes none
-pub size_of-none : (es : List (ℕ × DhcpV4Option)) → length es ≡ 0 → size_of es ≡ 0
+size_of-none : (es : List (ℕ × DhcpV4Option)) → length es ≡ 0 → size_of es ≡ 0
 size_of-none [] none = refl
 size_of-none (e ∷ es) none = absurd (omega (arith, none))
 

@@ -1,4 +1,5 @@
 pub mod Laws
+pub mod LeaseTime
 pub mod Message
 pub mod MessageType
 pub mod OptionCode

@@ -2,6 +2,7 @@
 #![tactic(auto)]
 
 pub mod laws;
+mod lease_time;
 mod message;
 mod message_type;
 mod option;
@@ -12,6 +13,7 @@ mod route;
 mod value;
 mod view;
 
+pub use lease_time::{default_rebinding_time, default_renewal_time};
 pub use message::DhcpV4Message;
 pub use message_type::DhcpV4MessageType;
 pub use option::{DhcpV4Option, DhcpV4OptionUnknown};

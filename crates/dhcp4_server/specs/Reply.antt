@@ -1,5 +1,5 @@
 -- The replies of a server, RFC 2131 section 4.3.1 and table 3.
-use Rattle.std.specs.Prelude.{◌≡◌, ℕ, ◌*◌, ◌/◌, List, [], ◌∷◌, replicate, Option, Some, None}
+use Rattle.std.specs.Prelude.{◌≡◌, ℕ, List, [], ◌∷◌, replicate, Option, Some, None}
 use Rattle.std.specs.FinMap as map
 use Rattle.std.specs.Int.{w32, to_be_bytes}
 use Rattle.std.specs.declared.net.Ipv4Addr.{Ipv4Addr}
@@ -15,6 +15,7 @@ use Rattle.dhcp4_msg.specs.declared.message_type.DhcpV4MessageType.{DhcpV4Messag
 use Rattle.dhcp4_msg.specs.declared.message_type.DhcpV4MessageType.TheVariants as types
 use Rattle.dhcp4_msg.specs.declared.option.DhcpV4Option.{DhcpV4Option}
 use Rattle.dhcp4_msg.specs.declared.option.DhcpV4Option.TheVariants.{SubnetMask, IpAddressLeaseTime, MessageType, ServerIdentifier, RenewalTime, RebindingTime}
+use Rattle.dhcp4_msg.specs.LeaseTime.{default_rebinding_time, default_renewal_time}
 use Rattle.dhcp4_msg.specs.Message.{no_address, written_message}
 use Rattle.dhcp4_msg.specs.Options.{with_options}
 use Rattle.dhcp4_server.specs.declared.config.ServerConfig.{ServerConfig}
@@ -25,13 +26,13 @@ use Rattle.dhcp4_server.specs.declared.decision.Decision.TheVariants as decision
 abbrev pub address_of_bits : ℕ → Ipv4Addr
 address_of_bits bits = address_of (to_be_bytes w32 bits)
 
--- The options of an Offer and of an Ack: subnet mask, lease time, type, server identifier, T1 of
--- half the lease time and T2 of seven eighths, RFC 2131 section 4.4.5, both rounded down.
+-- The options of an Offer and of an Ack: subnet mask, lease time, type, server identifier, and the
+-- defaults of T1 and T2.
 abbrev pub granting_options : ServerConfig → DhcpV4MessageType → List DhcpV4Option
 granting_options config kind =
     SubnetMask config.mask ∷ IpAddressLeaseTime config.lease_sec ∷ MessageType kind
-    ∷ ServerIdentifier config.ip ∷ RenewalTime (config.lease_sec / 2)
-    ∷ RebindingTime (7 * config.lease_sec / 8) ∷ []
+    ∷ ServerIdentifier config.ip ∷ RenewalTime (default_renewal_time config.lease_sec)
+    ∷ RebindingTime (default_rebinding_time config.lease_sec) ∷ []
 
 -- the options of a Nack: type and server identifier
 abbrev pub refusing_options : ServerConfig → List DhcpV4Option

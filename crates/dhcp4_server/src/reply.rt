@@ -1,6 +1,6 @@
 //! The replies of a server, RFC 2131 section 4.3.1 and table 3.
 
-ghost use Rattle.std.specs.Prelude.{◌≡◌, ◌≤◌, ◌/◌, ◌*◌, [], length};
+ghost use Rattle.std.specs.Prelude.{◌≡◌, ◌≤◌, [], length};
 ghost use Rattle.dhcp_wire.specs.Outcome.{Makes};
 ghost use Rattle.dhcp_frame.specs.Write.{frame_bytes};
 ghost use Rattle.dhcp4_msg.specs.Message.{written_message};
@@ -13,7 +13,10 @@ use crate::request::SERVER_PORT;
 use dhcp_clock::{Packet, PacketKind};
 use dhcp_frame::{Frame, write_frame};
 use dhcp_wire::{BROADCAST_MAC_ADDRESS, Bytes, DhcpError};
-use dhcp4_msg::{DhcpV4Message, DhcpV4MessageType, DhcpV4Option, DhcpV4Options};
+use dhcp4_msg::{
+    DhcpV4Message, DhcpV4MessageType, DhcpV4Option, DhcpV4Options, default_rebinding_time,
+    default_renewal_time,
+};
 use std::alloc::Global;
 use std::net::Ipv4Addr;
 
@@ -126,15 +129,8 @@ fn add_granting(
     options.insert(DhcpV4Option::IpAddressLeaseTime(lease))?;
     options.insert(DhcpV4Option::MessageType(kind))?;
     options.insert(DhcpV4Option::ServerIdentifier(ip))?;
-    options.insert(DhcpV4Option::RenewalTime(lease / 2))?;
-    options.insert(DhcpV4Option::RebindingTime(seven_eighths(lease)))
-}
-
-// Seven eighths, rounded down.
-fn seven_eighths(seconds: u32) -> u32
-    ensures { result ≡ 7 * seconds / 8 }
-{
-    (7 * u64::from(seconds) / 8) as u32
+    options.insert(DhcpV4Option::RenewalTime(default_renewal_time(lease)))?;
+    options.insert(DhcpV4Option::RebindingTime(default_rebinding_time(lease)))
 }
 
 // Adds the options of a Nack.

@@ -1,11 +1,11 @@
 //! The times of a lease, RFC 2131 section 4.4.5.
 
-ghost use Rattle.std.specs.Prelude.{◌≡◌, ◌<◌, ◌-◌, ◌*◌, ◌/◌, ◌^◌, IfSome, IsTrue};
+ghost use Rattle.std.specs.Prelude.{◌≡◌, ◌<◌, ◌-◌, ◌^◌, IfSome, IsTrue};
 ghost use Rattle.dhcp4_lease.specs.Lease as leases;
 ghost use Rattle.dhcp_clock.specs.Words.{Draws, DrawsBy};
 
 use dhcp_clock::Words;
-use dhcp4_msg::{DhcpV4OptionCode, DhcpV4Options};
+use dhcp4_msg::{DhcpV4OptionCode, DhcpV4Options, default_rebinding_time, default_renewal_time};
 
 /// The times of a lease, in seconds.
 #[derive(Clone, Copy)]
@@ -55,21 +55,14 @@ fn times_of<W: Words>(options: &DhcpV4Options, lease_time_sec: u32, words: &mut 
         words.old result words.new }
 {
     let renewal = options.seconds(DhcpV4OptionCode::RenewalTime);
-    let t1_sec = said_or_drawn(renewal, lease_time_sec / 2, words);
+    let t1_sec = said_or_drawn(renewal, default_renewal_time(lease_time_sec), words);
     let rebinding = options.seconds(DhcpV4OptionCode::RebindingTime);
-    let t2_sec = said_or_drawn(rebinding, seven_eighths(lease_time_sec), words);
+    let t2_sec = said_or_drawn(rebinding, default_rebinding_time(lease_time_sec), words);
     LeaseTimes {
         t1_sec,
         t2_sec,
         lease_time_sec,
     }
-}
-
-// Seven eighths of this time, rounded down.
-fn seven_eighths(seconds: u32) -> u32
-    ensures { result ≡ 7 * seconds / 8 }
-{
-    (7 * u64::from(seconds) / 8) as u32
 }
 
 // The time that an option says, or else one about this long.
