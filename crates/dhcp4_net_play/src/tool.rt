@@ -1,8 +1,8 @@
 //! The program: the script of a network comes in, and what the network reports goes out.
 
 ghost use Rattle.std.specs.Prelude.{◌≡◌, ◌≢◌, ◌≤◌, ◌⊎◌, ◌↔◌, Some, length, map, string_bytes, true};
+ghost use Rattle.std.specs.Io.KnownBytes.{Appends};
 ghost use Rattle.dhcp_wire.specs.Fault.{Rose};
-ghost use Rattle.dhcp_stream.specs.Stream.{behind};
 ghost use Rattle.dhcp_stream.specs.Whole.{most_bytes};
 ghost use Rattle.dhcp_tool.specs.Ends.{EndsReading};
 ghost use Rattle.dhcp_tool.specs.Texts.{AnswersScript, AnswersText};
@@ -44,7 +44,7 @@ pub fn net_tool<S: Source, K: Sink>(
         → ¬ (Rose (S.faults source.old) (S.faults source.new))
         → ¬ (Rose (K.faults sink.old) (K.faults sink.new))
         → (result ≡ 5)
-        ⊎ ((result ≡ 0) × (K.taken sink.new ≡ behind (K.taken sink.old) (printed script))) }
+        ⊎ ((result ≡ 0) × Appends (K.taken sink.old) (K.taken sink.new) (printed script)) }
     // In a network that was run no address has two holders at one moment.
     ensures one_address { (script : NetScript) → result ≡ 0
         → IsNetScript script

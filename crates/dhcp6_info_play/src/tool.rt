@@ -1,9 +1,9 @@
 //! The program: a script comes in, and what is reported of its client goes out.
 
 ghost use Rattle.std.specs.Prelude.{◌≡◌, ◌≢◌, ◌≤◌, ◌⊎◌, ◌↔◌, Some, OnOk, length, map, string_bytes, true};
+ghost use Rattle.std.specs.Io.KnownBytes.{Appends};
 ghost use Rattle.dhcp_wire.specs.Outcome.{Makes};
 ghost use Rattle.dhcp_wire.specs.Fault.{Rose};
-ghost use Rattle.dhcp_stream.specs.Stream.{behind};
 ghost use Rattle.dhcp_stream.specs.Whole.{most_bytes};
 ghost use Rattle.dhcp_tool.specs.Ends.{EndsReading};
 ghost use Rattle.dhcp_tool.specs.Texts.{AnswersScript, AnswersText};
@@ -41,7 +41,7 @@ pub fn info_tool<S: Source, K: Sink>(
         → ¬ (Rose (S.faults source.old) (S.faults source.new))
         → ¬ (Rose (K.faults sink.old) (K.faults sink.new))
         → (result ≡ 5)
-        ⊎ ((result ≡ 0) × (K.taken sink.new ≡ behind (K.taken sink.old) (printed script))) }
+        ⊎ ((result ≡ 0) × Appends (K.taken sink.old) (K.taken sink.new) (printed script)) }
 
     // What each status says, and which answers are owed.
     ensures ends { AsksForRun (map string_bytes words.now) →

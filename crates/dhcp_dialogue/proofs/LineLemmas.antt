@@ -9,7 +9,8 @@ use Rattle.std.proofs.lemmas.List.Elements.{All-append, All-cons, All-nil}
 use Rattle.dhcp_stream.specs.Line.{line}
 use Rattle.dhcp_stream.specs.TextReader.{field_at}
 use Rattle.dhcp_stream.proofs.CodecLaws.{HasNo, field_at-complete, field_at-sound}
-use Rattle.dhcp_dialogue.specs.Dialogue.{IsLine, MovesLine}
+use Rattle.dhcp_dialogue.specs.Dialogue.{IsLine}
+use Rattle.dhcp_dialogue.specs.Standard.{MovesLine}
 
 -- what is no field has no such byte
 none-clear : (end : ℕ) (text : List ℕ) → field_at end text ≡ None → HasNo end text

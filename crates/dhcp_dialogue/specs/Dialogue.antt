@@ -1,7 +1,5 @@
 -- What a program hears and says, turn by turn.
-use Rattle.std.specs.Prelude.{◌≡◌, ℕ, Bool, true, false, List, [], ◌++◌, Some, None, Result, Ok, Err}
-use Rattle.dhcp_stream.specs.Line.{line}
-use Rattle.dhcp_stream.specs.Standard.{StdSinkView, StdSourceView}
+use Rattle.std.specs.Prelude.{◌≡◌, ℕ, Bool, List, [], Some, Result, Ok, Err}
 use Rattle.dhcp_stream.specs.TextReader.{field_at}
 use Rattle.dhcp_tool.specs.declared.status.Status.{Status}
 use Rattle.dhcp_tool.specs.declared.status.Status.TheVariants as statuses
@@ -34,18 +32,3 @@ most_line_bytes = 16777216
 -- a line: bytes before the first line feed, that line feed, and nothing behind it
 abbrev pub IsLine : List ℕ → Type 0
 IsLine text = (before : List ℕ) × (field_at 10 text ≡ Some (before, []))
-
--- what contracts see of a dialogue over a reader and a writer: the bytes that were read and not
--- heard yet, and its source and its sink
-pub record StdDialogueView : Type 0 where
-  pub ahead : List ℕ
-  pub source : StdSourceView
-  pub sink : StdSinkView
-
--- What was read is moved to the end of a line: up to and with the first line feed, if there is one;
--- else all of it.
-abbrev pub MovesLine : Bool → List ℕ → List ℕ → List ℕ → List ℕ → Type 0
-MovesLine true ahead ahead' text text' = (before : List ℕ)
-    × ((field_at 10 ahead ≡ Some (before, ahead')) × (text' ≡ text ++ line before))
-MovesLine false ahead ahead' text text' =
-    (field_at 10 ahead ≡ None) × ((text' ≡ text ++ ahead) × (ahead' ≡ []))

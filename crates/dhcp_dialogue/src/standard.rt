@@ -1,9 +1,11 @@
 //! A dialogue over a reader and a writer of std, such as standard input and output.
 
-ghost use Rattle.std.specs.Prelude.{◌≡◌, ◌<◌, ◌≤◌, [], IfErr, IfOk, OnOk, length};
-ghost use Rattle.dhcp_wire.specs.Error.{no_memory};
+ghost use Rattle.std.specs.Prelude.{◌≡◌, ◌<◌, ◌≤◌, ℕ, List, [], IfErr, IfOk, OnErr, OnOk, length};
+ghost use Rattle.std.specs.Io.KnownBytes.{Keeps};
 ghost use Rattle.dhcp_wire.specs.Fault.{HasCause};
-ghost use Rattle.dhcp_dialogue.specs.Dialogue.{MovesLine, most_line_bytes};
+ghost use Rattle.dhcp_wire.specs.Outcome.{Makes};
+ghost use Rattle.dhcp_dialogue.specs.Dialogue.{most_line_bytes};
+ghost use Rattle.dhcp_dialogue.specs.Standard.{IsWhy, MovesLine, piece_bytes, to_hear};
 ghost use Rattle.dhcp_dialogue.specs.declared.dialogue.Unheard.TheVariants.{Failed, TooLong};
 
 use crate::{Dialogue, MAX_LINE, Unheard};
@@ -17,7 +19,9 @@ use std::marker::Model;
 const PIECE: usize = 8_192;
 
 /// A dialogue over a reader and a writer. Contracts see the bytes that were read and not heard yet,
-/// and the reader and the writer as a source and a sink.
+/// and the reader and the writer as a source and a sink. Where std knows the bytes of these, which
+/// it does not of standard input and output, a line that is heard is the front of those that were
+/// still to be heard, and a text that is said is added to those that the writer holds.
 #[derive(Drop)]
 pub struct StdDialogue<R: Read + Drop, W: Write + Drop> {
     source: StdSource<R>,
@@ -28,8 +32,8 @@ pub struct StdDialogue<R: Read + Drop, W: Write + Drop> {
 }
 
 impl<R: Read + Drop, W: Write + Drop> Model for StdDialogue<R, W> {
-    ghost use Rattle.std.specs.Prelude.{◌-◌, ◌<◌, ◌≤◌, drop, take, vec_len};
-    ghost use Rattle.dhcp_dialogue.specs.Dialogue.{StdDialogueView};
+    ghost use Rattle.std.specs.Prelude.{◌≡◌, ◌-◌, ◌≤◌, drop, take, vec_len};
+    ghost use Rattle.dhcp_dialogue.specs.Standard.{StdDialogueView, piece_bytes};
 
     ghost Value = { StdDialogueView };
 
@@ -40,14 +44,17 @@ impl<R: Read + Drop, W: Write + Drop> Model for StdDialogue<R, W> {
     } };
 
     ghost invariant = { λ dialogue. (dialogue.start ≤ dialogue.end)
-        × ((dialogue.end ≤ vec_len dialogue.piece) × (0 < vec_len dialogue.piece)) };
+        × ((dialogue.end ≤ vec_len dialogue.piece) × (vec_len dialogue.piece ≡ piece_bytes)) };
 }
 
 impl<R: Read + Drop, W: Write + Drop> StdDialogue<R, W> {
     /// A dialogue of which nothing was heard or said yet. Out of memory is the only error.
     pub fn new(alloc: Global, reader: R, writer: W) -> Result<Self, DhcpError>
-        ensures begun { IfOk result (λ dialogue. dialogue.ahead ≡ []) }
-        ensures error { IfErr result (λ error. error ≡ no_memory) }
+        ensures { Makes (λ dialogue. dialogue) result (record {
+          ahead = [];
+          source = record { remaining = R.remaining reader; faults = 0 };
+          sink = record { contents = W.contents writer; faults = 0 };
+        }) }
     {
         Ok(StdDialogue {
             source: StdSource::new(reader),
@@ -59,10 +66,11 @@ impl<R: Read + Drop, W: Write + Drop> StdDialogue<R, W> {
     }
 
     // Moves what was read to the end of a line, up to and with the first line feed, and returns
-    // whether there was one.
+    // whether there was one. Out of memory nothing is moved.
     fn move_line(&mut self, line: &mut Vec<u8>) -> Result<bool, AllocError>
         ensures moved { IfOk result (λ whole. MovesLine whole self.old.ahead self.new.ahead
             line.old.items line.new.items) }
+        ensures kept { OnErr result (self.new.ahead ≡ self.old.ahead) }
         ensures source { self.new.source ≡ self.old.source }
         ensures sink { self.new.sink ≡ self.old.sink }
     {
@@ -85,6 +93,10 @@ impl<R: Read + Drop, W: Write + Drop> StdDialogue<R, W> {
     // Reads some bytes, if all that was read is heard. `End` and `Failed` are the only errors.
     fn read_ahead(&mut self) -> Result<(), Unheard>
         ensures some { OnOk result (0 < length self.new.ahead) }
+        ensures few { OnOk result (length self.new.ahead ≤ piece_bytes) }
+        ensures bytes { Keeps (to_hear self.old) (to_hear self.new) }
+        ensures why { IfErr result (λ why. (gone : List ℕ) →
+            length gone ≤ most_line_bytes → IsWhy why gone (to_hear self.new)) }
         ensures fault { IfErr result (λ why. HasCause (why ≡ Failed)
             self.old.source.faults self.new.source.faults) }
         ensures later { self.old.source.faults ≤ self.new.source.faults }
@@ -106,9 +118,13 @@ impl<R: Read + Drop, W: Write + Drop> StdDialogue<R, W> {
 }
 
 impl<R: Read + Drop, W: Write + Drop> Dialogue for StdDialogue<R, W> {
+    ghost use Rattle.dhcp_dialogue.specs.Standard.{MovesBytes};
+
     ghost hear_faults = { λ dialogue. dialogue.source.faults };
 
     ghost say_faults = { λ dialogue. dialogue.sink.faults };
+
+    ghost moves = { MovesBytes };
 
     fn hear(&mut self, line: &mut Vec<u8>) -> Result<(), Unheard> {
         line.clear();

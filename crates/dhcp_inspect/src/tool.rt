@@ -1,8 +1,8 @@
 //! The program: a capture file comes in, and the report on it goes out.
 
 ghost use Rattle.std.specs.Prelude.{◌≡◌, ◌≢◌, ◌≤◌, ◌⊎◌, ◌↔◌, ℕ, List, Some, length, map, string_bytes};
+ghost use Rattle.std.specs.Io.KnownBytes.{Appends};
 ghost use Rattle.dhcp_wire.specs.Fault.{Rose};
-ghost use Rattle.dhcp_stream.specs.Stream.{behind};
 ghost use Rattle.dhcp_stream.specs.Whole.{most_bytes};
 ghost use Rattle.dhcp_tool.specs.Ends.{EndsReading};
 ghost use Rattle.dhcp_inspect.specs.Header.{IsCapture};
@@ -31,7 +31,7 @@ pub fn inspect_tool<S: Source, K: Sink>(
         → ¬ (Rose (S.faults source.old) (S.faults source.new))
         → ¬ (Rose (K.faults sink.old) (K.faults sink.new))
         → (result ≡ 5)
-        ⊎ ((result ≡ 0) × (K.taken sink.new ≡ behind (K.taken sink.old) (report file))) }
+        ⊎ ((result ≡ 0) × Appends (K.taken sink.old) (K.taken sink.new) (report file)) }
 
     // Every other file of at most 16 MiB is refused by status 2, unless out of memory or the source
     // fails.

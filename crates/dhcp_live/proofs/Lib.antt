@@ -2,6 +2,7 @@ pub mod AnswerLemmas
 pub mod BeginLemmas
 pub mod DroppedLemmas
 pub mod HeadLemmas
+pub mod RunBytesLemmas
 pub mod Script4Lemmas
 pub mod Script6Lemmas
 pub mod ScriptLemmas

@@ -37,7 +37,7 @@ use Rattle.dhcp_live.proofs.ScriptLemmas.{events_text-cons}
 use Rattle.dhcp_live.proofs.WordsLemmas.{AreWords-append, event_alike}
 
 -- a session that ends because no line is heard is not done
-missed_undone : (why : Unheard) → status_of why ≡ Done → ⊥
+pub missed_undone : (why : Unheard) → status_of why ≡ Done → ⊥
 missed_undone unheard.End is = cc is
 missed_undone unheard.TooLong is = cc is
 missed_undone unheard.Failed is = cc is

@@ -72,6 +72,13 @@ heard_in (Hears text ∷ turns) = text ++ heard_in turns
 heard_in (Misses why ∷ turns) = heard_in turns
 heard_in (Says text whole ∷ turns) = heard_in turns
 
+-- the texts that were said, in a row
+abbrev pub said_in : List Turn → List ℕ
+said_in [] = []
+said_in (Hears text ∷ turns) = said_in turns
+said_in (Misses why ∷ turns) = said_in turns
+said_in (Says text whole ∷ turns) = text ++ said_in turns
+
 -- a line with further random words
 abbrev pub IsWordsLine : List ℕ → Type 0
 IsWordsLine text = (words : List ℕ) × (AreWords words × (words_line words ≡ text))

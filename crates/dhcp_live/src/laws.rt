@@ -2,9 +2,11 @@
 
 ghost use Rattle.std.specs.Prelude.{ℕ, List};
 ghost use Rattle.dhcp_dialogue.specs.Dialogue.{Turn};
+ghost use Rattle.dhcp_dialogue.specs.Standard.{MovesBytes, StdDialogueView};
 ghost use Rattle.dhcp_script.specs.declared.script.Script.{Script};
 ghost use Rattle.dhcp_tool.specs.declared.status.Status.TheVariants.{Done};
-ghost use Rattle.dhcp_live.specs.Tool.{IsHead, IsSessionOf};
+ghost use Rattle.dhcp_live.specs.RunBytes.{HoldsSessionInBytes};
+ghost use Rattle.dhcp_live.specs.Tool.{IsHead, IsSessionOf, RunsLive};
 ghost use Rattle.dhcp_live.specs.Transcript.{IsTranscript};
 
 use dhcp_draws::laws as draws;
@@ -26,3 +28,11 @@ pub fn a_transcript_is_a_script()
     laws6::table_is_lawful();
     draws::eight_words_are_enough();
 }
+
+/// A run of the program with the status 0, over a reader and a writer of std, takes a head and the
+/// lines of a session from the front of what the reader had left, and adds just what was said in
+/// that session to what the writer held, where std knows the bytes of these.
+pub fn a_session_takes_and_writes_its_bytes()
+    ensures { (old new : StdDialogueView) → RunsLive MovesBytes 0 old new →
+        HoldsSessionInBytes old new }
+{}

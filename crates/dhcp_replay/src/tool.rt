@@ -2,9 +2,9 @@
 //! next version; or a demonstration is summed up.
 
 ghost use Rattle.std.specs.Prelude.{◌≡◌, ◌≢◌, ◌≤◌, ◌⊎◌, ◌↔◌, ℕ, [], Some, OnOk, length, map, string_bytes, true};
+ghost use Rattle.std.specs.Io.KnownBytes.{Appends};
 ghost use Rattle.dhcp_wire.specs.Outcome.{Makes};
 ghost use Rattle.dhcp_wire.specs.Fault.{Rose};
-ghost use Rattle.dhcp_stream.specs.Stream.{behind};
 ghost use Rattle.dhcp_stream.specs.Whole.{most_bytes};
 ghost use Rattle.dhcp_tool.specs.Job.{AnswersPrinting};
 ghost use Rattle.dhcp_tool.specs.Texts.{AnswersScript, AnswersText};
@@ -57,7 +57,7 @@ pub fn replay_tool<S: Source, K: Sink>(
         → ¬ (Rose (S.faults source.old) (S.faults source.new))
         → ¬ (Rose (K.faults sink.old) (K.faults sink.new))
         → (result ≡ 5)
-        ⊎ ((result ≡ 0) × (K.taken sink.new ≡ behind (K.taken sink.old) (printed script))) }
+        ⊎ ((result ≡ 0) × Appends (K.taken sink.old) (K.taken sink.new) (printed script)) }
 
     // What each status says, for each of the three requests, and which answers are owed.
     ensures ends { (request : Request) → AsksFor (map string_bytes words.now) request →

@@ -1,5 +1,5 @@
--- What moves through a source and a sink, whose bytes may be known or not.
-use Rattle.std.specs.Prelude.{◌≡◌, ℕ, ◌+◌, ◌-◌, ◌^◌, min, List, [], ◌++◌, Option, option_map, IfSome}
+-- How much moves through a source and a sink, and the counts of their faults.
+use Rattle.std.specs.Prelude.{ℕ, ◌+◌, ◌-◌, ◌^◌, min}
 use Rattle.dhcp_stream.specs.declared.stream.ReadOutcome.{ReadOutcome}
 use Rattle.dhcp_stream.specs.declared.stream.ReadOutcome.TheVariants as reads
 use Rattle.dhcp_stream.specs.declared.stream.WriteOutcome.{WriteOutcome}
@@ -14,18 +14,6 @@ read_count reads.Failed = 0
 abbrev pub write_count : WriteOutcome → ℕ
 write_count (writes.Wrote n) = n
 write_count writes.Failed = 0
-
--- these bytes before those that are left, where these are known
-unfoldable pub in_front : List ℕ → Option (List ℕ) → Option (List ℕ)
-in_front bytes left = option_map (λ rest. bytes ++ rest) left
-
--- these bytes after those that were taken, where these are known
-unfoldable pub behind : Option (List ℕ) → List ℕ → Option (List ℕ)
-behind taken bytes = option_map (λ front. front ++ bytes) taken
-
--- no byte is left, where this is known
-abbrev pub NoneLeft : Option (List ℕ) → Type 0
-NoneLeft left = IfSome left (λ rest. rest ≡ [])
 
 -- the count of faults after one more; from 18446744073709551615 on it stays
 abbrev pub one_fault_more : ℕ → ℕ

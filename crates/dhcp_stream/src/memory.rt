@@ -1,9 +1,10 @@
 //! A source and a sink in memory, which fail at chosen calls.
 
 ghost use Rattle.std.specs.Prelude.{◌≡◌, ◌≤◌, ◌<◌, Some, [], length, take};
+ghost use Rattle.std.specs.Io.KnownBytes.{Appends, Consumes, IsAtEnd};
 ghost use Rattle.dhcp_wire.specs.Fault.{HasCause};
 ghost use Rattle.dhcp_wire.specs.Outcome.{Makes};
-ghost use Rattle.dhcp_stream.specs.Stream.{read_count, write_count, in_front, behind, NoneLeft};
+ghost use Rattle.dhcp_stream.specs.Stream.{read_count, write_count};
 ghost use Rattle.dhcp_stream.specs.Memory.{after_read, after_write, read_answer, write_answer};
 ghost use Rattle.dhcp_stream.specs.Memory as Memory;
 
@@ -63,13 +64,12 @@ impl Source for MemSource {
     ghost faults = { λ source. source.faults };
 
     /// As the trait says, and exactly this.
-    #[tactic(auto, unfolding(crate::specs::Stream::in_front))]
     fn read(&mut self, into: &mut [u8]) -> ReadOutcome
         ensures within { read_count result ≤ length into.new }
-        ensures moved { Some self.old.left
-            ≡ in_front (take (read_count result) into.new) (Some self.new.left) }
+        ensures moved { Consumes (Some self.old.left) (Some self.new.left)
+            (take (read_count result) into.new) }
         ensures end { result ≡ ReadOutcome.Read 0 → 0 < length into.old
-            → NoneLeft (Some self.old.left) }
+            → IsAtEnd (Some self.new.left) }
         ensures fault { HasCause (result ≡ ReadOutcome.Failed) self.old.faults self.new.faults }
 
         ensures answer { result ≡ read_answer self.old (length into.old) }
@@ -149,11 +149,10 @@ impl Sink for MemSink {
     ghost faults = { λ sink. sink.faults };
 
     /// As the trait says, and exactly this.
-    #[tactic(auto, unfolding(crate::specs::Stream::behind))]
     fn write(&mut self, bytes: &[u8]) -> WriteOutcome
         ensures within { write_count result ≤ length bytes.now }
-        ensures took { Some self.new.taken
-            ≡ behind (Some self.old.taken) (take (write_count result) bytes.now) }
+        ensures took { Appends (Some self.old.taken) (Some self.new.taken)
+            (take (write_count result) bytes.now) }
         ensures some { result ≡ WriteOutcome.Wrote 0 → bytes.now ≡ [] }
         ensures fault { HasCause (result ≡ WriteOutcome.Failed) self.old.faults self.new.faults }
 

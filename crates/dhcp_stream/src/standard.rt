@@ -1,19 +1,14 @@
-//! Sources and sinks over the readers and writers of std, such as standard input and output. Seen
-//! as a `Source` and a `Sink` their bytes are not known. The clauses `bytes` say what std
-//! promises of the bytes that the reader has left and the writer holds, where std knows them, which
-//! it does not of standard input and output. Std does not say which calls fail; each answer
-//! `Failed` is counted.
+//! Sources and sinks over the readers and writers of std, such as standard input and output. Their
+//! bytes are those that the reader has left and the writer holds, and are known where std knows
+//! these: of a slice or a cursor it does, of standard input and output it does not. Std does not
+//! say which calls fail; each answer `Failed` is counted.
 
-ghost use Rattle.std.specs.Prelude.{◌≡◌, ◌≤◌, ◌<◌, [], None, false, length, take};
-ghost use Rattle.std.specs.Io.KnownBytes.{Keeps};
+ghost use Rattle.std.specs.Prelude.{◌≡◌, ◌≤◌, ◌<◌, [], false, length, take};
+ghost use Rattle.std.specs.Io.KnownBytes.{Appends, Consumes, IsAtEnd, Keeps};
 ghost use Rattle.dhcp_wire.specs.Fault.{HasCause};
-ghost use Rattle.dhcp_stream.specs.Standard.{ReadsFrom, WritesTo};
 ghost use Rattle.dhcp_stream.specs.Stream.{
-  NoneLeft,
-  behind,
   faults_after_read,
   faults_after_write,
-  in_front,
   read_count,
   write_count,
 };
@@ -98,23 +93,21 @@ impl<W: Write> StdSink<W> {
 }
 
 impl<R: Read> Source for StdSource<R> {
-    ghost left = { λ _. None };
+    ghost left = { λ source. source.remaining };
 
     ghost faults = { λ source. source.faults };
 
     /// As the trait says. The count of faults rises by one where this answers `Failed`, as it does
-    /// at an error of the reader, and stays at every other read. Where std knows the bytes that the
-    /// reader has left, those that are read are taken from their front, `Read(0)` into a slice that
-    /// is not empty is their end, and `Failed` takes none.
-    #[tactic(auto, unfolding(crate::specs::Stream::in_front))]
+    /// at an error of the reader, and stays at every other read.
     fn read(&mut self, into: &mut [u8]) -> ReadOutcome
         ensures within { read_count result ≤ length into.new }
-        ensures moved { None ≡ in_front (take (read_count result) into.new) None }
-        ensures end { result ≡ ReadOutcome.Read 0 → 0 < length into.old → NoneLeft None }
+        ensures moved { Consumes self.old.remaining self.new.remaining
+            (take (read_count result) into.new) }
+        ensures end { result ≡ ReadOutcome.Read 0 → 0 < length into.old
+            → IsAtEnd self.new.remaining }
         ensures fault { HasCause (result ≡ ReadOutcome.Failed) self.old.faults self.new.faults }
 
         ensures count { self.new.faults ≡ faults_after_read result self.old.faults }
-        ensures bytes { ReadsFrom self.old.remaining self.new.remaining result into.new }
     {
         match self.reader.read(into) {
             Ok(count) => ReadOutcome::Read(count),
@@ -127,23 +120,21 @@ impl<R: Read> Source for StdSource<R> {
 }
 
 impl<W: Write> Sink for StdSink<W> {
-    ghost taken = { λ _. None };
+    ghost taken = { λ sink. sink.contents };
 
     ghost faults = { λ sink. sink.faults };
 
     /// As the trait says. The count of faults rises by one where this answers `Failed`, as it does
     /// at an error of the writer and if it takes nothing of a piece that is not empty, and stays at
-    /// every other write. Where std knows the bytes that the writer holds, those that are written
-    /// are added to them, and `Failed` adds none.
-    #[tactic(auto, unfolding(crate::specs::Stream::behind))]
+    /// every other write.
     fn write(&mut self, bytes: &[u8]) -> WriteOutcome
         ensures within { write_count result ≤ length bytes.now }
-        ensures took { None ≡ behind None (take (write_count result) bytes.now) }
+        ensures took { Appends self.old.contents self.new.contents
+            (take (write_count result) bytes.now) }
         ensures some { result ≡ WriteOutcome.Wrote 0 → bytes.now ≡ [] }
         ensures fault { HasCause (result ≡ WriteOutcome.Failed) self.old.faults self.new.faults }
 
         ensures count { self.new.faults ≡ faults_after_write result self.old.faults }
-        ensures bytes { WritesTo self.old.contents self.new.contents result bytes.now }
     {
         match self.writer.write(bytes) {
             Ok(count) if count > 0 || bytes.is_empty() => WriteOutcome::Wrote(count),

@@ -1,8 +1,9 @@
 //! Sources and sinks of bytes.
 
 ghost use Rattle.std.specs.Prelude.{◌≡◌, ◌≤◌, ◌<◌, ℕ, List, [], Option, length, take};
+ghost use Rattle.std.specs.Io.KnownBytes.{Appends, Consumes, IsAtEnd};
 ghost use Rattle.dhcp_wire.specs.Fault.{HasCause};
-ghost use Rattle.dhcp_stream.specs.Stream.{read_count, write_count, in_front, behind, NoneLeft};
+ghost use Rattle.dhcp_stream.specs.Stream.{read_count, write_count};
 
 /// What a read did.
 #[derive(Clone, Copy, Debug, PartialEq, Eq)]
@@ -36,9 +37,9 @@ pub trait Source {
     /// no byte is read then.
     fn read(&mut self, into: &mut [u8]) -> ReadOutcome
         ensures within { read_count result ≤ length into.new }
-        ensures moved { left self.old
-            ≡ in_front (take (read_count result) into.new) (left self.new) }
-        ensures end { result ≡ ReadOutcome.Read 0 → 0 < length into.old → NoneLeft (left self.old) }
+        ensures moved { Consumes (left self.old) (left self.new)
+            (take (read_count result) into.new) }
+        ensures end { result ≡ ReadOutcome.Read 0 → 0 < length into.old → IsAtEnd (left self.new) }
         ensures fault { HasCause (result ≡ ReadOutcome.Failed)
             (faults self.old) (faults self.new) };
 }
@@ -55,8 +56,8 @@ pub trait Sink {
     /// only if the count of faults rose; no byte is written then.
     fn write(&mut self, bytes: &[u8]) -> WriteOutcome
         ensures within { write_count result ≤ length bytes.now }
-        ensures took { taken self.new
-            ≡ behind (taken self.old) (take (write_count result) bytes.now) }
+        ensures took { Appends (taken self.old) (taken self.new)
+            (take (write_count result) bytes.now) }
         ensures some { result ≡ WriteOutcome.Wrote 0 → bytes.now ≡ [] }
         ensures fault { HasCause (result ≡ WriteOutcome.Failed)
             (faults self.old) (faults self.new) };

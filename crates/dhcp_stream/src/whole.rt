@@ -1,8 +1,8 @@
 //! Reading a source to its end, and writing bytes whole.
 
 ghost use Rattle.std.specs.Prelude.{◌≡◌, ◌≤◌, ◌+◌, true, false};
+ghost use Rattle.std.specs.Io.KnownBytes.{Appends};
 ghost use Rattle.dhcp_wire.specs.Fault.{HasCause};
-ghost use Rattle.dhcp_stream.specs.Stream.{behind};
 ghost use Rattle.dhcp_stream.specs.Whole.{HasGone, ReadsWhole, TakesFront, most_bytes};
 
 use crate::{ReadOutcome, Sink, Source, WriteOutcome};
@@ -49,7 +49,7 @@ pub fn read_whole<S: Source>(alloc: Global, source: &mut S) -> Result<Whole, Dhc
 /// Writes all the bytes, and returns whether the sink took them. Does not allocate. `false` only if
 /// the sink's count of faults rose; a prefix of the bytes, but not all of them, was written then.
 pub fn write_whole<K: Sink>(sink: &mut K, bytes: &[u8]) -> bool
-    ensures done { result ≡ true → K.taken sink.new ≡ behind (K.taken sink.old) bytes.now }
+    ensures done { result ≡ true → Appends (K.taken sink.old) (K.taken sink.new) bytes.now }
     ensures fault { HasCause (result ≡ false) (K.faults sink.old) (K.faults sink.new) }
     ensures front { result ≡ false →
         TakesFront (K.taken sink.old) (K.taken sink.new) bytes.now }

@@ -1,10 +1,10 @@
 -- What the statuses of a program say.
-use Rattle.std.proofs.Common.{◌≡◌, ℕ, ◌<◌, ◌≤◌, true, false, List, length, Option, Some, None, Ok, Err, inl, inr, ◌⊎◌, refl, subst, sym, ap, ◌∙◌, arith}
+use Rattle.std.proofs.Common.{◌≡◌, ℕ, ◌<◌, ◌≤◌, true, false, List, length, length-append, Option, Some, None, Ok, Err, inl, inr, ◌⊎◌, refl, subst, sym, ap, ◌∙◌, arith}
+use Rattle.std.specs.Io.KnownBytes.{Appends}
 use Rattle.std.specs.Prelude.{IfSome, Result, if◌then◌else◌, nat_eq}
 use Rattle.std.proofs.lemmas.Bool.{false≢true}
 use Rattle.dhcp_wire.specs.Fault.{Rose}
-use Rattle.dhcp_stream.specs.Stream.{behind}
-use Rattle.dhcp_stream.specs.Whole.{TakesFront, most_bytes}
+use Rattle.dhcp_stream.specs.Whole.{HasReadTooMany, TakesFront, most_bytes}
 use Rattle.dhcp_tool.specs.Ends.{EndsReading, EndsPrinting, EndsJob, Moved, Writes}
 use Rattle.dhcp_tool.specs.Input.{HasRead, ReadsInput, AnswersSource}
 use Rattle.dhcp_tool.specs.Job.{Job, Reads, Prints, is_reading, AnswersBytes, AnswersJob}
@@ -21,12 +21,20 @@ EndsBy texts status bytes =
     ⊎ ((status ≡ Invalid) × (length bytes ≤ most_bytes) × IsJudged texts false bytes)
     ⊎ ((status ≡ TooLong) × (most_bytes < length bytes))
 
+-- more bytes than the most can be read only where there are more
+more_than_most : (bytes : List ℕ) (after : Option (List ℕ)) → HasReadTooMany (Some bytes) after → most_bytes < length bytes
+more_than_most bytes None long = absurd long.2
+more_than_most bytes (Some rest) long =
+    let parts = ap (λ (text : List ℕ). length text) long.2 ∙ length-append long.0 rest in
+    let many = long.1 in
+    omega (arith, parts, many)
+
 ends_by : {S : Type 0} (texts : Texts S) (status : Status) (bytes : List ℕ) (after : Option (List ℕ)) (faults faults_after : ℕ) →
     AnswersSource texts (Err status) (Some bytes) after faults faults_after → (Rose faults faults_after → ⊥) → EndsBy texts status bytes
 ends_by texts NoMemory bytes after faults faults_after answers kept = inl refl
 ends_by texts NoScript bytes after faults faults_after answers kept = inr (inl (refl, answers.0.0, answers.0.1))
 ends_by texts Invalid bytes after faults faults_after answers kept = inr (inr (inl (refl, answers.0.0.0, answers.0.0.1)))
-ends_by texts TooLong bytes after faults faults_after answers kept = inr (inr (inr (refl, answers.0)))
+ends_by texts TooLong bytes after faults faults_after answers kept = inr (inr (inr (refl, more_than_most bytes after answers)))
 ends_by texts ReadFault bytes after faults faults_after answers kept = absurd (kept answers.0)
 ends_by texts Done bytes after faults faults_after answers kept = absurd answers
 ends_by texts WrongWords bytes after faults faults_after answers kept = absurd answers
@@ -163,7 +171,7 @@ ends_written_texts : {S : Type 0} (texts : Texts S) (text : List ℕ) (status : 
     AnswersSource texts (Ok text) moved.left moved.left_after moved.faults moved.faults_after → Writes text status moved.taken moved.taken_after moved.sink_faults moved.sink_faults_after → EndsReading texts status moved
 ends_written_texts {S} texts text status moved answers writes = record {
   complete = λ script one valid left short kept sink_kept. complete script one left sink_kept writes.either;
-  done = λ is. answered (λ printed. moved.taken_after ≡ behind moved.taken printed) (writes.whole is);
+  done = λ is. answered (Appends moved.taken moved.taken_after) (writes.whole is);
   promises = λ is. both_if_some (λ bytes so. so.1.kept) moved.left answers.0;
   no_script = λ is. absurd (neither status 2 writes.either is (λ e. omega (arith, e)) (λ e. omega (arith, e)));
   read_fault = λ is. absurd (neither status 3 writes.either is (λ e. omega (arith, e)) (λ e. omega (arith, e)));
@@ -189,8 +197,8 @@ ends_written_texts {S} texts text status moved answers writes = record {
         so.1.each script (record { is_script = one; spells = refl })
 
     complete : (script : S) → texts.IsOne script → moved.left ≡ Some (texts.text script) → (Rose moved.sink_faults moved.sink_faults_after → ⊥) → (status ≡ 0) ⊎ ((status ≡ 4) × Rose moved.sink_faults moved.sink_faults_after) →
-        (status ≡ 5) ⊎ ((status ≡ 0) × (moved.taken_after ≡ behind moved.taken (texts.printed script)))
-    complete script one left sink_kept (inl is) = inr (is, writes.whole is ∙ ap (λ printed. behind moved.taken printed) (same_text script one left))
+        (status ≡ 5) ⊎ ((status ≡ 0) × Appends moved.taken moved.taken_after (texts.printed script))
+    complete script one left sink_kept (inl is) = inr (is, subst (Appends moved.taken moved.taken_after) (same_text script one left) (writes.whole is))
     complete script one left sink_kept (inr is) = absurd (sink_kept is.1)
 
 ends_written_printing : (text : List ℕ) (status : ℕ) (moved : Moved) → Writes text status moved.taken moved.taken_after moved.sink_faults moved.sink_faults_after → EndsPrinting text status moved

@@ -1,9 +1,9 @@
 -- What each exit status says of a run.
 use Rattle.std.specs.Prelude.{◌≡◌, ◌⊎◌, ℕ, ◌≤◌, ◌<◌, true, false, List, length, Option, Some, IfSome}
+use Rattle.std.specs.Io.KnownBytes.{Appends}
 use Rattle.dhcp_wire.specs.Fault.{Rose}
-use Rattle.dhcp_stream.specs.Stream.{behind}
-use Rattle.dhcp_stream.specs.Whole.{HasGone, TakesFront, most_bytes}
-use Rattle.dhcp_tool.specs.Input.{HasRead, HasReadTooMany}
+use Rattle.dhcp_stream.specs.Whole.{HasGone, HasReadTooMany, TakesFront, most_bytes}
+use Rattle.dhcp_tool.specs.Input.{HasRead}
 use Rattle.dhcp_tool.specs.Job.{Job, Reads, Prints}
 use Rattle.dhcp_tool.specs.Texts.{Texts, IsNoText, IsJudged, IsAnsweredBy, AreKept, HasInvalid}
 
@@ -11,7 +11,7 @@ use Rattle.dhcp_tool.specs.Texts.{Texts, IsNoText, IsJudged, IsAnsweredBy, AreKe
 -- known, and the counts of its faults.
 pub record Writes (text : List ℕ) (status : ℕ) (taken taken_after : Option (List ℕ))
     (faults faults_after : ℕ) : Type 0 where
-  pub whole : status ≡ 0 → taken_after ≡ behind taken text
+  pub whole : status ≡ 0 → Appends taken taken_after text
   pub front : status ≡ 4 → TakesFront taken taken_after text
   pub either : (status ≡ 0) ⊎ ((status ≡ 4) × Rose faults faults_after)
 
@@ -38,9 +38,9 @@ pub record EndsReading {S : Type 0} (texts : Texts S) (status : ℕ) (moved : Mo
       → ¬ (Rose moved.faults moved.faults_after)
       → ¬ (Rose moved.sink_faults moved.sink_faults_after)
       → (status ≡ 5)
-      ⊎ ((status ≡ 0) × (moved.taken_after ≡ behind moved.taken (texts.printed script)))
+      ⊎ ((status ≡ 0) × Appends moved.taken moved.taken_after (texts.printed script))
   pub done : status ≡ 0 → HasRead moved.left moved.left_after
-      (IsAnsweredBy texts (λ text. moved.taken_after ≡ behind moved.taken text))
+      (IsAnsweredBy texts (Appends moved.taken moved.taken_after))
   pub promises : status ≡ 0 → IfSome moved.left (AreKept texts)
   pub no_script : status ≡ 2 → HasRead moved.left moved.left_after (IsNoText texts)
   pub read_fault : status ≡ 3 →
@@ -66,7 +66,7 @@ pub record EndsReading {S : Type 0} (texts : Texts S) (status : ℕ) (moved : Mo
 pub record EndsPrinting (text : List ℕ) (status : ℕ) (moved : Moved) : Type 0 where
   pub complete : ¬ (Rose moved.sink_faults moved.sink_faults_after)
       → (status ≡ 5) ⊎ (status ≡ 0)
-  pub done : status ≡ 0 → moved.taken_after ≡ behind moved.taken text
+  pub done : status ≡ 0 → Appends moved.taken moved.taken_after text
   pub write_fault : status ≡ 4 → Rose moved.sink_faults moved.sink_faults_after
   pub front_written : status ≡ 4 → TakesFront moved.taken moved.taken_after text
   pub no_other : (status ≡ 0) ⊎ (status ≡ 4) ⊎ (status ≡ 5)

@@ -1,8 +1,8 @@
 -- What a program reads from its source, and what it makes of it.
-use Rattle.std.specs.Prelude.{◌≡◌, ℕ, ◌≤◌, ◌<◌, ◌+◌, false, List, length, drop, Option, option_map, IfSome, Result, Ok, Err}
+use Rattle.std.specs.Prelude.{◌≡◌, ℕ, ◌≤◌, false, List, length, Option, IfSome, Result, Ok, Err}
+use Rattle.std.specs.Io.KnownBytes.{IsAtEnd}
 use Rattle.dhcp_wire.specs.Fault.{Rose}
-use Rattle.dhcp_stream.specs.Stream.{NoneLeft}
-use Rattle.dhcp_stream.specs.Whole.{HasGone, most_bytes}
+use Rattle.dhcp_stream.specs.Whole.{HasGone, HasReadTooMany, most_bytes}
 use Rattle.dhcp_tool.specs.Texts.{Texts, IsNoText, IsJudged, IsPrintedFor, HasInvalid}
 use Rattle.dhcp_tool.specs.declared.status.Status.{Status}
 use Rattle.dhcp_tool.specs.declared.status.Status.TheVariants.{Done, WrongWords, NoScript, ReadFault, WriteFault, NoMemory, TooLong, Invalid}
@@ -11,21 +11,14 @@ use Rattle.dhcp_tool.specs.declared.status.Status.TheVariants.{Done, WrongWords,
 -- read, and they are so.
 abbrev pub HasRead : Option (List ℕ) → Option (List ℕ) → (List ℕ → Type 0) → Type 0
 HasRead before after AreSo =
-    IfSome before (λ bytes. (length bytes ≤ most_bytes) × AreSo bytes) × NoneLeft after
-
--- More bytes were read than are taken, where the source's bytes are known, and reading stopped
--- there.
-abbrev pub HasReadTooMany : Option (List ℕ) → Option (List ℕ) → Type 0
-HasReadTooMany before after =
-    IfSome before (λ bytes. most_bytes < length bytes)
-    × (after ≡ option_map (drop (most_bytes + 1)) before)
+    IfSome before (λ bytes. (length bytes ≤ most_bytes) × AreSo bytes) × IsAtEnd after
 
 -- what a program reads from a source, from the bytes left before and after and from the counts of
 -- faults
 abbrev pub ReadsInput : Result (List ℕ) Status →
     Option (List ℕ) → Option (List ℕ) → ℕ → ℕ → Type 0
 ReadsInput (Ok bytes) before after faults faults_after =
-    IfSome before (λ left. left ≡ bytes) × (length bytes ≤ most_bytes) × NoneLeft after
+    IfSome before (λ left. left ≡ bytes) × (length bytes ≤ most_bytes) × IsAtEnd after
 ReadsInput (Err ReadFault) before after faults faults_after =
     Rose faults faults_after × HasGone most_bytes before after
 ReadsInput (Err TooLong) before after faults faults_after = HasReadTooMany before after

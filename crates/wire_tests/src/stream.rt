@@ -41,6 +41,7 @@ impl Write for Broken {
     }
 
     fn flush(&mut self) -> io::Result<()> {
+        self.once()?;
         Ok(())
     }
 }
@@ -132,6 +133,13 @@ fn a_writer_of_std_takes_the_bytes(rt: HostRuntime) {
     let is_whole = write_whole(&mut StdSink::new(&mut written), b"text");
     assert!(rt; is_whole);
     assert!(rt; written.as_slice() == b"text".as_slice());
+}
+
+#[test]
+fn a_flush_reaches_the_writer(rt: HostRuntime) {
+    let mut sink = StdSink::new(Broken { was_used: false });
+    assert!(rt; !sink.flush(), "an error");
+    assert!(rt; sink.flush());
 }
 
 #[test]

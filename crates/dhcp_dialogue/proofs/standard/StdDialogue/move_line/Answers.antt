@@ -1,6 +1,6 @@
 -- The bytes up to and with the line feed are a part of those that were read.
 use Rattle.std.proofs.Common.{true, ◌+◌, ◌-◌, length, take, drop, subst, arith}
-use Rattle.dhcp_dialogue.specs.Dialogue.{MovesLine, StdDialogueView}
+use Rattle.dhcp_dialogue.specs.Standard.{MovesLine, StdDialogueView}
 use Rattle.dhcp_dialogue.proofs.LineLemmas.{field-fits, field-length, field-moves}
 use Rattle.dhcp_dialogue.proofs.standard.StdDialogue.move_line.Goals as goal
 
