@@ -65,6 +65,15 @@ impl<R: Read + Drop, W: Write + Drop> StdDialogue<R, W> {
         })
     }
 
+    /// The reader and the writer. Bytes that were read and not heard are dropped.
+    pub fn into_inner(self) -> (R, W)
+        ensures reader { R.remaining result.0 ≡ self.source.remaining }
+        ensures writer { W.contents result.1 ≡ self.sink.contents }
+    {
+        let StdDialogue { source, sink, .. } = self;
+        (source.into_inner(), sink.into_inner())
+    }
+
     // Moves what was read to the end of a line, up to and with the first line feed, and returns
     // whether there was one. Out of memory nothing is moved.
     fn move_line(&mut self, line: &mut Vec<u8>) -> Result<bool, AllocError>

@@ -65,6 +65,13 @@ impl<R: Read> StdSource<R> {
     {
         StdSource { reader, faults: 0 }
     }
+
+    /// The reader, with the bytes that it has left.
+    pub fn into_inner(self) -> R
+        ensures { R.remaining result ≡ self.remaining }
+    {
+        self.reader
+    }
 }
 
 impl<W: Write> StdSink<W> {
@@ -73,6 +80,13 @@ impl<W: Write> StdSink<W> {
         ensures { result ≡ record { contents = W.contents writer; faults = 0 } }
     {
         StdSink { writer, faults: 0 }
+    }
+
+    /// The writer, with the bytes that it holds.
+    pub fn into_inner(self) -> W
+        ensures { W.contents result ≡ self.contents }
+    {
+        self.writer
     }
 }
 

@@ -31,6 +31,8 @@ mod requests;
 #[cfg(test)]
 mod scripts;
 #[cfg(test)]
+mod session_bytes;
+#[cfg(test)]
 mod statuses;
 #[cfg(test)]
 mod words;

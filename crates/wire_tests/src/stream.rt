@@ -1,6 +1,6 @@
 //! Sources and sinks.
 
-ghost use Rattle.std.specs.Prelude.{◌≡◌, IfOk};
+ghost use Rattle.std.specs.Prelude.{◌≡◌, IfOk, IfSome};
 
 use dhcp_stream::{
     MemSink, MemSource, ReadOutcome, Sink, Source, StdSink, StdSource, Whole, WriteOutcome,
@@ -120,18 +120,45 @@ fn a_sink_takes_bytes_whole_or_a_prefix_of_them(rt: HostRuntime) {
     }
 }
 
+// What a slice gives as a reader, all of it, which the contracts alone say.
+fn read_from(alloc: Global, bytes: &[u8]) -> Option<Bytes>
+    ensures { IfSome result (λ read. read ≡ bytes.now) }
+{
+    match read_whole(alloc, &mut StdSource::new(bytes)) {
+        Ok(Whole::All(read)) => Some(read),
+        _ => None,
+    }
+}
+
+// What a vector holds to which bytes were written whole, which the contracts alone say.
+fn written(alloc: Global, bytes: &[u8]) -> Option<Vec<u8>>
+    ensures { IfSome result (λ written. written.items ≡ bytes.now) }
+{
+    let mut sink = StdSink::new(Vec::new(alloc));
+    if write_whole(&mut sink, bytes) {
+        Some(sink.into_inner())
+    } else {
+        None
+    }
+}
+
 #[test]
 fn a_reader_of_std_gives_its_bytes(rt: HostRuntime) {
+    let read = read_from(rt.alloc(), b"text").expect(&rt, "reads");
+    assert!(rt; read.as_slice() == b"text".as_slice());
     let mut source = StdSource::new(io::Cursor::new(b"text".as_slice()));
     let bytes = all_of(rt.alloc(), &mut source).expect(&rt, "reads");
     assert!(rt; bytes.as_slice() == b"text".as_slice());
+    let mut cursor = source.into_inner();
+    assert!(rt;
+        cursor.read(&mut [0; 4]).expect(&rt, "reads") == 0,
+        "it is at its end"
+    );
 }
 
 #[test]
 fn a_writer_of_std_takes_the_bytes(rt: HostRuntime) {
-    let mut written = Vec::with_capacity(rt.alloc(), 4).expect(&rt, "memory");
-    let is_whole = write_whole(&mut StdSink::new(&mut written), b"text");
-    assert!(rt; is_whole);
+    let written = written(rt.alloc(), b"text").expect(&rt, "writes");
     assert!(rt; written.as_slice() == b"text".as_slice());
 }
 
