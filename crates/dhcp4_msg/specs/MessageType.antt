@@ -14,7 +14,7 @@ type_number Nack = 6
 type_number Release = 7
 type_number Inform = 8
 
--- all types
+-- all types, by rising number
 abbrev pub all_types : List DhcpV4MessageType
 all_types = Discovery ∷ Offer ∷ Request ∷ Decline ∷ Ack ∷ Nack ∷ Release ∷ Inform ∷ []
 

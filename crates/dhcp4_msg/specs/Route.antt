@@ -2,6 +2,9 @@
 -- destination, the router.
 use Rattle.std.specs.Prelude.{ℕ, zero, suc, ◌+◌, ◌-◌, ◌/◌, min, List, [], ◌∷◌, ◌++◌, length, take, replicate, Option, Some, None}
 use Rattle.std.specs.Int.{w8}
+use Rattle.std.specs.Ordering.{nat_cmp, ordering_then}
+use Rattle.std.specs.contracts.net.ipv4_addr.Ipv4AddrOrd.TheImpl as addresses
+use Rattle.std.specs.declared.cmp.Ordering.{Ordering}
 use Rattle.std.specs.Net.Addr.{ipv4_octets}
 use Rattle.dhcp_wire.specs.Field.{Read, ◌>>=◌, bytes_at, number_at, address_of, address_at}
 use Rattle.dhcp4_msg.specs.declared.route.DhcpV4ClasslessRoute.{DhcpV4ClasslessRoute}
@@ -14,6 +17,13 @@ significant_octets width = min 4 ((width + 7) / 8)
 -- the address that begins with these octets; those not given are zero
 abbrev pub padded_octets : List ℕ → List ℕ
 padded_octets octets = octets ++ replicate (4 - length octets) 0
+
+-- how a route stands to another: by destination, then by the length of the prefix, then by router
+abbrev pub route_order : DhcpV4ClasslessRoute → DhcpV4ClasslessRoute → Ordering
+route_order first second =
+    ordering_then (addresses.ghosts.cmp first.destination second.destination)
+    (ordering_then (nat_cmp first.prefix_length second.prefix_length)
+    (addresses.ghosts.cmp first.router second.router))
 
 -- one route
 unfoldable pub route_at : List ℕ → Read DhcpV4ClasslessRoute

@@ -2,8 +2,11 @@
 
 ghost use Rattle.std.specs.Prelude.{[], ◌≡◌, ◌++◌, ℕ, List, Some, IsTrue};
 ghost use Rattle.std.specs.FinMap as map;
+ghost use Rattle.dhcp_wire.specs.Order.{IsRisingBy};
 ghost use Rattle.dhcp_wire.specs.RawOption.{raw_options};
 ghost use Rattle.dhcp_wire.specs.declared.raw_option.OptionFormat.TheVariants.{DhcpV4};
+ghost use Rattle.dhcp4_msg.specs.contracts.message_type.DhcpV4MessageTypeOrd.TheImpl as types;
+ghost use Rattle.dhcp4_msg.specs.contracts.route.DhcpV4ClasslessRouteOrd.TheImpl as routes;
 ghost use Rattle.dhcp4_msg.specs.declared.message.DhcpV4Message.{DhcpV4Message};
 ghost use Rattle.dhcp4_msg.specs.declared.option.DhcpV4Option.{DhcpV4Option};
 ghost use Rattle.dhcp4_msg.specs.declared.route.DhcpV4ClasslessRoute.{DhcpV4ClasslessRoute};
@@ -26,8 +29,9 @@ ghost use Rattle.dhcp4_msg.specs.Laws.{
 };
 ghost use Rattle.std.specs.List.{AllByRecursion};
 ghost use Rattle.dhcp4_msg.specs.Message.{IsAtOffsets, read_message, written_message};
+ghost use Rattle.dhcp4_msg.specs.MessageType.{all_types};
 ghost use Rattle.dhcp4_msg.specs.Options.{last_of, option_at, read_options, written_options};
-ghost use Rattle.dhcp4_msg.specs.Route.{route_at, written_route};
+ghost use Rattle.dhcp4_msg.specs.Route.{route_at, route_order, written_route};
 ghost use Rattle.dhcp4_msg.specs.Value.{fits, written_option};
 
 use crate::{DhcpV4ClasslessRoute, DhcpV4Message, DhcpV4Option, DhcpV4Options};
@@ -37,6 +41,17 @@ use std::net::Ipv4Addr;
 /// The number of the code of a number is that number.
 pub fn codes_read_back()
     ensures { (number : ℕ) → number_of (code_of number) ≡ number }
+{}
+
+/// Message types are ordered by number.
+pub fn message_types_are_ordered_by_number()
+    ensures { IsRisingBy types.ghosts.cmp all_types }
+{}
+
+/// Routes are ordered by destination, then by the length of the prefix, then by router.
+pub fn routes_are_ordered_by_destination()
+    ensures { (first second : DhcpV4ClasslessRoute)
+        → routes.ghosts.cmp first second ≡ route_order first second }
 {}
 
 /// A route whose addresses have four octets, and whose octets that its width does not cover are

@@ -2,9 +2,8 @@
 
 ghost use Rattle.std.specs.Prelude.{◌<◌, ◌^◌};
 
-use crate::boxed::boxed;
 use dhcp_clock::{Handed, MemLink, Sent, WordList};
-use dhcp_wire::{DhcpError, ErrorKind};
+use dhcp_wire::{DhcpError, ErrorKind, boxed};
 use dhcp4_client::{DhcpV4Client, DhcpV4State};
 use dhcp4_lease::{DhcpV4Config, DhcpV4Lease};
 use std::alloc::Global;

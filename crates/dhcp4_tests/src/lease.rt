@@ -1,8 +1,7 @@
 //! Leases, as they are read from messages.
 
-use crate::boxed::boxed;
 use dhcp_clock::{WordList, Words};
-use dhcp_wire::{DhcpError, ErrorKind, FixedText, Sequence, Text};
+use dhcp_wire::{DhcpError, ErrorKind, FixedText, Sequence, Text, boxed};
 use dhcp4_lease::DhcpV4Lease;
 use dhcp4_msg::{DhcpV4ClasslessRoute, DhcpV4Message, DhcpV4Options};
 use std::alloc::Global;

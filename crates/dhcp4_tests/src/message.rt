@@ -1,7 +1,6 @@
 //! Messages and views of their payloads.
 
-use crate::boxed::boxed;
-use dhcp_wire::{BufferMut, Bytes, DhcpError, ErrorKind};
+use dhcp_wire::{BufferMut, Bytes, DhcpError, ErrorKind, boxed};
 use dhcp4_msg::{DhcpV4Message, DhcpV4MessageType, DhcpV4Options, DhcpV4View};
 use std::alloc::Global;
 use std::net::Ipv4Addr;

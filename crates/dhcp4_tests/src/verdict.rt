@@ -2,9 +2,8 @@
 
 ghost use Rattle.std.specs.Prelude.{◌<◌, ◌^◌};
 
-use crate::boxed::boxed;
 use dhcp_clock::{MemLink, Packet, PacketKind, WordList};
-use dhcp_wire::{BufferMut, Bytes, DhcpError, ErrorKind};
+use dhcp_wire::{BufferMut, Bytes, DhcpError, ErrorKind, boxed};
 use dhcp4_client::{DhcpV4Client, PacketVerdict};
 use dhcp4_lease::{DhcpV4Config, DhcpV4MessageForms};
 use dhcp4_msg::DhcpV4MessageType;

@@ -19,7 +19,7 @@ type_number InformationRequest = 11
 type_number RelayForward = 12
 type_number RelayReply = 13
 
--- all types
+-- all types, by rising number
 abbrev pub all_types : List DhcpV6MessageType
 all_types =
     Solicit ∷ Advertise ∷ Request ∷ Confirm ∷ Renew ∷ Rebind ∷ Reply ∷ Release ∷ Decline

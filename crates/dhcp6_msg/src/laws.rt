@@ -1,7 +1,13 @@
 //! Laws of messages and of leases. A call does nothing.
 
 ghost use Rattle.std.specs.Prelude.{◌≡◌, ◌<◌, ◌^◌, ◌%◌, ℕ, List, Ok, Some, IsTrue, length};
+ghost use Rattle.std.specs.Ordering.{nat_cmp};
+ghost use Rattle.dhcp_wire.specs.Order.{IsRisingBy};
+ghost use Rattle.dhcp6_msg.specs.contracts.message_type.DhcpV6MessageTypeOrd.TheImpl as types;
+ghost use Rattle.dhcp6_msg.specs.contracts.mode.DhcpV6IaTypeOrd.TheImpl as associations;
+ghost use Rattle.dhcp6_msg.specs.contracts.mode.DhcpV6ModeOrd.TheImpl as modes;
 ghost use Rattle.dhcp6_msg.specs.declared.message.DhcpV6Message.{DhcpV6Message};
+ghost use Rattle.dhcp6_msg.specs.declared.mode.DhcpV6Mode.TheVariants.{PrefixDelegation};
 ghost use Rattle.dhcp6_msg.specs.Config.{Config};
 ghost use Rattle.dhcp6_msg.specs.Laws.{AreSendable, ReadsBackAs};
 ghost use Rattle.dhcp6_msg.specs.Lease.{Lease, is_duid, is_within_limits, read_lease};
@@ -13,9 +19,22 @@ ghost use Rattle.dhcp6_msg.specs.Message.{
 };
 ghost use Rattle.dhcp6_msg.specs.MessageTable as table;
 ghost use Rattle.dhcp6_msg.specs.MessageTable.{RowParts, table_message};
+ghost use Rattle.dhcp6_msg.specs.MessageType.{all_types};
+ghost use Rattle.dhcp6_msg.specs.Mode.{all_associations, modes_with};
 
 use crate::DhcpV6Message;
 use dhcp6_opt::laws::option_list_reads_back;
+
+/// Message types are ordered by number; types of associations and modes as they are declared, and
+/// modes that ask for a prefix by its length.
+pub fn variants_are_ordered_as_declared()
+    ensures types { IsRisingBy types.ghosts.cmp all_types }
+    ensures associations { IsRisingBy associations.ghosts.cmp all_associations }
+    ensures modes { (length : ℕ) → IsRisingBy modes.ghosts.cmp (modes_with length) }
+    ensures lengths { (first second : ℕ)
+        → modes.ghosts.cmp (PrefixDelegation first) (PrefixDelegation second)
+        ≡ nat_cmp first second }
+{}
 
 /// A message reads back as it is written: with its type, its transaction id of three bytes, and the
 /// options that its options are written as. So does each message of the table.

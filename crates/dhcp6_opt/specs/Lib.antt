@@ -20,4 +20,3 @@ pub use Rattle.dhcp6_opt.specs.NtpServer.{written_ntp_server}
 pub use Rattle.dhcp6_opt.specs.OptionCode.{code_of, number_of}
 pub use Rattle.dhcp6_opt.specs.OptionOrder.{fields_of}
 pub use Rattle.dhcp6_opt.specs.Value.{fits, written_option}
-pub use Rattle.dhcp6_opt.specs.VariantOrder.{IsRisingBy}

@@ -3,6 +3,7 @@
 ghost use Rattle.std.specs.Prelude.{[], ◌≡◌, ◌<◌, ◌^◌, ◌++◌, ℕ, List, Some, length, IsTrue};
 ghost use Rattle.std.specs.List.{AllByRecursion, filter, filter_map, flat_map, list_all};
 ghost use Rattle.std.specs.Str.{IsUtf8};
+ghost use Rattle.std.specs.declared.net.Ipv6Addr.{Ipv6Addr};
 ghost use Rattle.dhcp_wire.specs.RawOption.{raw_options};
 ghost use Rattle.dhcp_wire.specs.declared.raw_option.OptionFormat.TheVariants.{DhcpV6};
 ghost use Rattle.dhcp6_opt.specs.DomainName.{name_fits, names_in, written_name};
@@ -15,7 +16,7 @@ ghost use Rattle.dhcp6_opt.specs.OptionIndex.{has_number};
 ghost use Rattle.dhcp6_opt.specs.Options.{option_at, OptionLists, options_under, read_options, reading_of, with_options, written_options};
 ghost use Rattle.dhcp6_opt.specs.Status.{status_number, status_of};
 ghost use Rattle.dhcp6_opt.specs.Value.{fits, written_option};
-ghost use Rattle.dhcp6_opt.specs.VariantOrder.{DuidsRise, IsBeforeUnknown, StatusesRise};
+ghost use Rattle.dhcp6_opt.specs.VariantOrder.{DuidsRise, IsBeforeUnknown, StatusesRise, TimeServersRise};
 
 use crate::widths::{Widths, all_have};
 use crate::{
@@ -30,16 +31,18 @@ pub fn codes_read_back()
     ensures statuses { (number : ℕ) → status_number (status_of number) ≡ number }
 {}
 
-/// Status codes are ordered as RFC 8415, section 21.13 numbers them, and identifiers by the number
-/// of their type; those without a name are the greatest. Of options of one number, one that this
-/// library does not read is the greatest.
-#[tactic(auto, unfolding(crate::specs::IsRisingBy, crate::specs::fields_of))]
+/// Status codes are ordered as RFC 8415, section 21.13 numbers them, identifiers and time servers by
+/// the number of their type; those without a name are the greatest. Of options of one number, one
+/// that this library does not read is the greatest.
+#[tactic(auto, unfolding(crate::specs::fields_of))]
 pub fn variants_are_ordered_as_declared()
     ensures statuses { (number : ℕ) → StatusesRise number }
     ensures identifiers { (timed : DhcpV6DuidLinkLayerAddrPlusTime)
         (vendor : DhcpV6DuidEnterpriseNumber) (address : DhcpV6DuidLinkLayerAddr)
         (uuid : DhcpV6DuidUuid) (bytes : List ℕ)
         → DuidsRise timed vendor address uuid bytes }
+    ensures time_servers { (server group : Ipv6Addr) (name : List ℕ) (other : ℕ × List ℕ)
+        → TimeServersRise server group name other }
     ensures options { (option : DhcpV6Option) (unknown : DhcpV6OptionUnknown)
         → IsBeforeUnknown option unknown }
 {}

@@ -3,7 +3,7 @@
 mod equality;
 mod index;
 
-ghost use Rattle.std.specs.Prelude.{◌≡◌, ◌+◌, ◌-◌, ◌*◌, ◌^◌, ◌≤◌, [], ◌∷◌, ◌++◌, map, IfErr, IfOk, IfSome, IsTrue, OnOk, option_copied, option_map, vec_capacity, vec_items, vec_len};
+ghost use Rattle.std.specs.Prelude.{◌≡◌, ◌+◌, ◌-◌, ◌*◌, ◌^◌, ◌<◌, ◌≤◌, [], ◌∷◌, ◌++◌, map, IfErr, IfOk, IfSome, IsTrue, OnOk, option_copied, option_map, vec_capacity, vec_items, vec_len};
 ghost use Rattle.std.specs.List.{filter, flat_map, All, AllByRecursion};
 ghost use Rattle.std.specs.List.Sorted.{IsNonDecreasingBy};
 ghost use Rattle.std.specs.Cmp.{on_per, on_equiv, and_per, and_equiv, nat_eq_equiv, partial_equiv_from_equiv};
@@ -122,7 +122,7 @@ impl DhcpV6Options {
     }
 
     /// The same, with each comparison of codes counted as a step: with n codes kept and s steps,
-    /// 2^s is at most 2n + 1. Does not allocate.
+    /// 2^s is at most 2n + 1, and s is 1 or more unless n is 0. Does not allocate.
     pub fn get_first_counted<L: Ledger>(
         &self,
         code: DhcpV6OptionCode,
@@ -132,6 +132,7 @@ impl DhcpV6Options {
         ensures kept { IfSome result (λ option.
             (option_number option.now ≡ number_of code) × IsTrue (fits option.now)) }
         ensures cost { 2 ^ (steps.new - steps.old) ≤ 2 * map.len self.now + 1 }
+        ensures counted { 0 < map.len self.now → steps.old < steps.new }
     {
         self.first_counted(code, steps)
     }
@@ -146,6 +147,8 @@ impl DhcpV6Options {
         ensures kept { IfSome result (λ option.
             (option_number option.now ≡ number_of code) × IsTrue (fits option.now)) }
         ensures cost { 2 ^ (S.counted steps.new - S.counted steps.old) ≤ 2 * map.len self.now + 1 }
+        ensures counted { 0 < map.len self.now
+            → S.counted steps.old + S.least ≤ S.counted steps.new }
     {
         match entry_of(&self.index, u16::from(code), steps) {
             Ok(place) => Some(&self.kept[self.index[place].first]),

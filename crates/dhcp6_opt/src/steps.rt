@@ -43,13 +43,19 @@ pub(crate) trait StepCounter {
     // How many were counted.
     ghost counted: { Self → ℕ };
 
+    // How many a step counts at least.
+    ghost least: { ℕ };
+
     // Counts one step at most.
     fn step(&mut self)
-        ensures { counted self.new ≤ counted self.old + 1 };
+        ensures most { counted self.new ≤ counted self.old + 1 }
+        ensures least { counted self.old + least ≤ counted self.new };
 }
 
 impl<L: Ledger> StepCounter for Steps<L> {
     ghost counted = { λ steps. steps };
+
+    ghost least = { 1 };
 
     fn step(&mut self) {
         self.tick();
@@ -62,6 +68,8 @@ pub(crate) struct Uncounted;
 
 impl StepCounter for Uncounted {
     ghost counted = { λ _. 0 };
+
+    ghost least = { 0 };
 
     fn step(&mut self) {}
 }

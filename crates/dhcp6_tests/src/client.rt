@@ -1,10 +1,9 @@
 //! What no script says: leases that are given or released by hand, counters that begin anew, and
 //! how a client begins.
 
-use crate::boxed::boxed;
 use crate::reply::refusal;
 use dhcp_clock::{Handed, MemLink, Sent, WordList};
-use dhcp_wire::{Bytes, DhcpError, ErrorKind};
+use dhcp_wire::{Bytes, DhcpError, ErrorKind, boxed};
 use dhcp6_client::DhcpV6Client;
 use dhcp6_msg::{
     DhcpV6Config, DhcpV6IaType, DhcpV6Lease, DhcpV6Message, DhcpV6MessageType, DhcpV6Mode,

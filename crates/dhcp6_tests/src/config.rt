@@ -1,9 +1,8 @@
 //! Configurations.
 
-use crate::boxed::boxed;
 use crate::reply::{ELAPSED, MAC, joined, plain_config, solicit_of};
 use dhcp_clock::{WordList, Words};
-use dhcp_wire::{BufferMut, Bytes, DhcpError};
+use dhcp_wire::{BufferMut, Bytes, DhcpError, boxed};
 use dhcp6_msg::DhcpV6Config;
 use dhcp6_opt::DhcpV6Duid;
 use std::alloc::Global;

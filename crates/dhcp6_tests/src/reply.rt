@@ -1,7 +1,6 @@
 //! What several tests share: a Reply that grants an address, and configurations.
 
-use crate::boxed::boxed;
-use dhcp_wire::{BufferMut, Bytes, DhcpError, ErrorKind, FixedText};
+use dhcp_wire::{BufferMut, Bytes, DhcpError, ErrorKind, FixedText, boxed};
 use dhcp6_msg::{DhcpV6Config, DhcpV6Lease, DhcpV6Message, DhcpV6Mode, new_solicit_msg};
 use std::alloc::Global;
 

@@ -1,9 +1,8 @@
 //! What a packet is to a client.
 
-use crate::boxed::boxed;
 use crate::reply::{ASSOCIATION, CLIENT, SERVER, joined, plain_config};
 use dhcp_clock::{MemLink, Packet, PacketKind, WordList};
-use dhcp_wire::{DhcpError, ErrorKind};
+use dhcp_wire::{DhcpError, ErrorKind, boxed};
 use dhcp6_client::{DhcpV6Client, PacketVerdict};
 use dhcp6_msg::DhcpV6MessageType;
 use std::alloc::Global;

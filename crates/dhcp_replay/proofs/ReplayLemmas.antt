@@ -8,12 +8,13 @@ use Rattle.std.proofs.lemmas.List.Elements.{All-cons, All-head, All-nil, All-tai
 use Rattle.std.proofs.lemmas.List.Sums.{AllPass-from_list_all}
 use Rattle.std.proofs.lemmas.Bool.{false≢true, and_parts, leb-true, ltb-true}
 use Rattle.dhcp_wire.specs.Error.{ErrorParts, no_memory}
+use Rattle.dhcp_wire.specs.Outcome.{IsBoxError}
 use Rattle.dhcp_wire.specs.declared.error.ErrorKind.TheVariants.{InvalidArgument}
 use Rattle.dhcp_clock.specs.declared.link.Packet.{Packet}
 use Rattle.dhcp_history.specs.declared.script.NumberedEvent.{NumberedEvent}
 use Rattle.dhcp_script.specs.Event.{are_in_order, are_valid, is_within_limits, moment_limit, most_events, most_packet_bytes, packet_of}
 use Rattle.dhcp_script.specs.declared.event.Event.{Event}
-use Rattle.dhcp_replay.specs.Life.{CanPlay, IsBoxError, IsRefusal, numbered, numbered_event}
+use Rattle.dhcp_replay.specs.Life.{CanPlay, IsRefusal, numbered, numbered_event}
 
 numbered-append : (n : ℕ) (events : List Event) (event : Event) → numbered n (events ++ event ∷ []) ≡ numbered n events ++ numbered_event (n + length events) event ∷ []
 numbered-append n [] event = ap (λ m. numbered_event m event ∷ []) (omega arith)

@@ -31,12 +31,6 @@ abbrev pub IsRefusal : Bool → ErrorParts → Type 0
 IsRefusal true error = error ≡ no_memory
 IsRefusal false error = error.kind ≡ InvalidArgument
 
--- The error of a call that puts what another returned into a box: that of the other, or out of
--- memory.
-abbrev pub IsBoxError : {X : Type 0} → Result X ErrorParts → ErrorParts → Type 0
-IsBoxError (Ok x) error = error ≡ no_memory
-IsBoxError (Err e) error = error ≡ e
-
 -- 1. Events.
 
 -- what an event brings to the client

@@ -11,10 +11,9 @@ ghost use Rattle.dhcp_script.specs.Lease6 as lease6;
 ghost use Rattle.dhcp_script.specs.Script4 as v4;
 ghost use Rattle.dhcp_script.specs.Script6 as v6;
 
-use crate::family::boxed;
 use dhcp_clock::Words;
 use dhcp_script::{Script4, Script6};
-use dhcp_wire::{DhcpError, beside};
+use dhcp_wire::{DhcpError, beside, boxed};
 use dhcp4_client::DhcpV4Client;
 use dhcp6_client::DhcpV6Client;
 use std::alloc::Global;

@@ -1,9 +1,9 @@
 //! A client of any protocol, as a replay sees it: it plays events, whatever its protocol is.
 
-ghost use Rattle.std.specs.Prelude.{◌≡◌, IfErr, IfOk, Ok, map};
+ghost use Rattle.std.specs.Prelude.{◌≡◌, IfErr, IfOk, map};
 ghost use Rattle.dhcp_wire.specs.Error.{no_memory};
 ghost use Rattle.dhcp_output.specs.Output.{plain_output};
-ghost use Rattle.dhcp_replay.specs.Life.{CanPlay, IsBoxError, IsPlayed};
+ghost use Rattle.dhcp_replay.specs.Life.{CanPlay, IsPlayed};
 
 use crate::life::{FamilyState, numbered, outputs_of};
 use dhcp_clock::{Handed, Packet, Words};
@@ -245,13 +245,4 @@ pub fn play<C: FamilyClient, W: Words>(
 {
     let reported = client.play(words, numbered(alloc, events)?)?;
     Ok(outputs_of(alloc, reported)?)
-}
-
-/// A client that has begun, in a box of its own, so that what plays it does not own its parts; or
-/// why it has not begun; or out of memory.
-pub fn boxed<C: Drop>(alloc: Global, begun: Result<C, DhcpError>) -> Result<Box<C>, DhcpError>
-    ensures ok { IfOk result (λ client. begun ≡ Ok client.value) }
-    ensures error { IfErr result (IsBoxError begun) }
-{
-    Ok(Box::new(alloc, begun?)?)
 }

@@ -26,7 +26,7 @@ pub use dhcp_stream::{
     write_whole,
 };
 pub use dhcp_tool::{Status, status_without_words};
-pub use family::{FamilyClient, boxed, play};
+pub use family::{FamilyClient, play};
 pub use life::{FamilyState, numbered_event, outputs_of};
 pub use printed::print_script;
 pub use replayed::{Replayed, replay};

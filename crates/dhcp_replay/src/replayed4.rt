@@ -7,13 +7,13 @@ ghost use Rattle.dhcp_output.specs.Output.{HasFailureText, plain_output};
 ghost use Rattle.dhcp_replay.specs.Promises4.{KeepsPromises};
 ghost use Rattle.dhcp_replay.specs.Replayed4 as lives;
 
-use crate::family::{boxed, play};
+use crate::family::play;
 use crate::laws;
 use crate::life::check_events;
 use dhcp_clock::Words;
 use dhcp_output::Output;
 use dhcp_script::Event;
-use dhcp_wire::{DhcpError, Sequence, beside};
+use dhcp_wire::{DhcpError, Sequence, beside, boxed};
 use dhcp4_client::DhcpV4Client;
 use dhcp4_lease::{DhcpV4Config, DhcpV4Lease};
 use std::alloc::Global;

@@ -10,13 +10,13 @@ ghost use Rattle.dhcp_output.specs.Output.{HasFailureText, plain_output};
 ghost use Rattle.dhcp_replay.specs.Promises6.{KeepsPromises};
 ghost use Rattle.dhcp_replay.specs.Replayed6 as lives;
 
-use crate::family::{boxed, play};
+use crate::family::play;
 use crate::laws;
 use crate::life::check_events;
 use dhcp_clock::Words;
 use dhcp_output::Output;
 use dhcp_script::{Event, MAX_CODES_V6, MAX_DUID_LEN};
-use dhcp_wire::{DhcpError, ErrorKind, FixedText, Sequence, beside};
+use dhcp_wire::{DhcpError, ErrorKind, FixedText, Sequence, beside, boxed};
 use dhcp6_client::DhcpV6Client;
 use dhcp6_msg::{DhcpV6Config, DhcpV6Lease};
 use dhcp6_opt::DhcpV6Duid;

@@ -1,6 +1,6 @@
 //! An index from each code to its first option.
 
-ghost use Rattle.std.specs.Prelude.{◌≡◌, ◌+◌, ◌-◌, ◌*◌, ◌^◌, ◌≤◌, ℕ, length, is_some, position, IsTrue, MatchResult};
+ghost use Rattle.std.specs.Prelude.{◌≡◌, ◌+◌, ◌-◌, ◌*◌, ◌^◌, ◌<◌, ◌≤◌, ℕ, length, is_some, position, IsTrue, MatchResult};
 ghost use Rattle.std.specs.List.{AllByRecursion};
 ghost use Rattle.dhcp_wire.specs.Error.{no_memory};
 ghost use Rattle.dhcp6_opt.specs.OptionIndex.{first_place, GoesAt, has_number, IsEntryAt, IsIndexed, Rises};
@@ -48,6 +48,7 @@ pub(crate) fn entry_of<S: StepCounter>(
     requires { Rises entries.now }
     ensures place { MatchResult result (IsEntryAt entries.now number) (GoesAt entries.now number) }
     ensures cost { 2 ^ (S.counted steps.new - S.counted steps.old) ≤ 2 * length entries.now + 1 }
+    ensures counted { 0 < length entries.now → S.counted steps.old + S.least ≤ S.counted steps.new }
 {
     let mut low = 0;
     let mut high = entries.len();

@@ -38,6 +38,12 @@ returns-in-Ok-clause-cost g c =
     let many = len-lists_of _ _ option c.self.invariant in
     rw (← c.self.view_is, many) (rw c.deref.ensures.value at c.in-Ok.ensures.cost)
 
+pub returns-in-Ok-clause-counted : goal.returns-in-Ok-clause-counted
+returns-in-Ok-clause-counted g c =
+    let option : DhcpV6Option = RapidCommit in
+    let many = len-lists_of _ _ option c.self.invariant in
+    rw (← c.self.view_is, many) (rw c.deref.ensures.value at c.in-Ok.ensures.counted)
+
 pub returns-in-Err-clause-value : goal.returns-in-Err-clause-value
 returns-in-Err-clause-value g c =
     let goes = subst (λ es. GoesAt es c.from.result c.in-Err.field-0) c.deref.ensures.value c.in-Err.ensures.place in
@@ -48,3 +54,9 @@ returns-in-Err-clause-cost g c =
     let option : DhcpV6Option = RapidCommit in
     let many = len-lists_of _ _ option c.self.invariant in
     rw (← c.self.view_is, many) (rw c.deref.ensures.value at c.in-Err.ensures.cost)
+
+pub returns-in-Err-clause-counted : goal.returns-in-Err-clause-counted
+returns-in-Err-clause-counted g c =
+    let option : DhcpV6Option = RapidCommit in
+    let many = len-lists_of _ _ option c.self.invariant in
+    rw (← c.self.view_is, many) (rw c.deref.ensures.value at c.in-Err.ensures.counted)

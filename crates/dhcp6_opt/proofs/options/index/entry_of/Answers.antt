@@ -13,7 +13,7 @@ loop-low-preserved-in-Less g c =
     let inside : m < length es = omega (arith, c.loop-low.invariant.inside, c.loop-low-test.true) in
     let below : AllBelow c.args.number (take (suc m) es) = below_through c.args.number m es _ c.requires inside (ranked _ _ Less c.in-Less.ensures) in
     let next : suc m ≡ m + 1 = omega arith in
-    let cost = cost_step _ _ (c.loop-low.high - c.loop-low.low) (c.loop-low.high - (m + 1)) (length es) (pow_step (g.S.StepCounter.counted c.args.steps.now) (g.S.StepCounter.counted c.loop-low.steps) (g.S.StepCounter.counted c.step.new.self) c.step.ensures) (omega (arith, c.loop-low-test.true)) (omega (arith, c.loop-low-test.true)) c.loop-low.invariant.halved in
+    let cost = cost_step _ _ (c.loop-low.high - c.loop-low.low) (c.loop-low.high - (m + 1)) (length es) (pow_step (g.S.StepCounter.counted c.args.steps.now) (g.S.StepCounter.counted c.loop-low.steps) (g.S.StepCounter.counted c.step.new.self) c.step.ensures.most) (omega (arith, c.loop-low-test.true)) (omega (arith, c.loop-low-test.true)) c.loop-low.invariant.halved in
     record {
       ordered = omega (arith, c.loop-low-test.true);
       inside = c.loop-low.invariant.inside;
@@ -21,6 +21,8 @@ loop-low-preserved-in-Less g c =
       above = c.loop-low.invariant.above;
       halved = cost.0;
       few = cost.1;
+      kept = omega (arith, c.step.ensures.least, c.loop-low.invariant.kept);
+      begun = λ _. omega (arith, c.step.ensures.least, c.loop-low.invariant.kept);
     }
 
 pub returns-in-Equal-clause-place : goal.returns-in-Equal-clause-place
@@ -31,8 +33,11 @@ returns-in-Equal-clause-place g c =
 
 pub returns-in-Equal-clause-cost : goal.returns-in-Equal-clause-cost
 returns-in-Equal-clause-cost g c =
-    let cost = cost_step _ _ (c.loop-low.high - c.loop-low.low) 0 (length c.args.entries.now) (pow_step (g.S.StepCounter.counted c.args.steps.now) (g.S.StepCounter.counted c.loop-low.steps) (g.S.StepCounter.counted c.step.new.self) c.step.ensures) (omega (arith, c.loop-low-test.true)) (omega arith) c.loop-low.invariant.halved in
+    let cost = cost_step _ _ (c.loop-low.high - c.loop-low.low) 0 (length c.args.entries.now) (pow_step (g.S.StepCounter.counted c.args.steps.now) (g.S.StepCounter.counted c.loop-low.steps) (g.S.StepCounter.counted c.step.new.self) c.step.ensures.most) (omega (arith, c.loop-low-test.true)) (omega arith) c.loop-low.invariant.halved in
     cost.1
+
+pub returns-in-Equal-clause-counted : goal.returns-in-Equal-clause-counted
+returns-in-Equal-clause-counted g c _ = omega (arith, c.step.ensures.least, c.loop-low.invariant.kept)
 
 pub loop-low-preserved : goal.loop-low-preserved
 loop-low-preserved g c =
@@ -40,7 +45,7 @@ loop-low-preserved g c =
     let m : ℕ = c.loop-low.low + (c.loop-low.high - c.loop-low.low) / 2 in
     let inside : m < length es = omega (arith, c.loop-low.invariant.inside, c.loop-low-test.true) in
     let above = above_from c.args.number m es _ c.requires inside (ranked _ _ Greater c.in-Greater.ensures) in
-    let cost = cost_step _ _ (c.loop-low.high - c.loop-low.low) (m - c.loop-low.low) (length es) (pow_step (g.S.StepCounter.counted c.args.steps.now) (g.S.StepCounter.counted c.loop-low.steps) (g.S.StepCounter.counted c.step.new.self) c.step.ensures) (omega (arith, c.loop-low-test.true)) (omega (arith, c.loop-low-test.true)) c.loop-low.invariant.halved in
+    let cost = cost_step _ _ (c.loop-low.high - c.loop-low.low) (m - c.loop-low.low) (length es) (pow_step (g.S.StepCounter.counted c.args.steps.now) (g.S.StepCounter.counted c.loop-low.steps) (g.S.StepCounter.counted c.step.new.self) c.step.ensures.most) (omega (arith, c.loop-low-test.true)) (omega (arith, c.loop-low-test.true)) c.loop-low.invariant.halved in
     record {
       ordered = omega (arith, c.loop-low-test.true);
       inside = omega (arith, inside);
@@ -48,4 +53,6 @@ loop-low-preserved g c =
       above = above;
       halved = cost.0;
       few = cost.1;
+      kept = omega (arith, c.step.ensures.least, c.loop-low.invariant.kept);
+      begun = λ _. omega (arith, c.step.ensures.least, c.loop-low.invariant.kept);
     }
