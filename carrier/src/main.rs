@@ -10,7 +10,7 @@ use dialogue::{Program, Report, hex, random_words};
 use lease::{Lease, lease_of};
 use sockets::Sockets;
 use std::env::{args, current_exe};
-use std::io::{Error, Read, Result};
+use std::io::{Error, ErrorKind, Read, Result};
 use std::os::{fd::AsRawFd, unix::net::UnixStream, unix::process::CommandExt};
 use std::process::{Command, Stdio, exit};
 use std::{collections::HashMap, fs::read_to_string};
@@ -67,6 +67,14 @@ fn run(options: Options) -> Result<()> {
     Ok(())
 }
 
+// The text of a file; none if there is no such file.
+fn text_of(path: &str) -> Result<String> {
+    match read_to_string(path) {
+        Err(error) if error.kind() == ErrorKind::NotFound => Ok(String::new()),
+        read => read.map_err(|error| Error::other(format!("{path}: {error}"))),
+    }
+}
+
 // A client on an interface: what was asked for, what it speaks to, and what it has.
 struct Carrier {
     options: Options,
@@ -85,7 +93,7 @@ impl Carrier {
         let (name, timeout) = (&options["interface"], value("--timeout", "0"));
         let index: u32 = attribute(name, "ifindex")?.parse().map_err(Error::other)?;
         let mac = attribute(name, "address")?.replace(':', "");
-        let file = read_to_string(value("--lease", "")).unwrap_or_default();
+        let file = text_of(value("--lease", ""))?;
         let kept = |word| file.lines().find_map(|line| line.strip_prefix(word));
         let duid = kept("duid ").map_or(format!("00030001{mac}"), String::from);
         let lease = kept("lease ").and_then(lease_of);

@@ -1,30 +1,32 @@
 //! The sockets of a client of either family, by calls of the C library where std has none.
 
 use crate::dialogue::{ALL_SERVERS, MAX_PACKET, hex};
+use std::ffi::{c_int, c_ulong, c_void};
 use std::io::{Error, ErrorKind, Result};
 use std::net::{IpAddr, SocketAddr, SocketAddrV6, UdpSocket};
 use std::os::fd::{AsRawFd, FromRawFd, RawFd};
+use std::ptr::from_ref;
 
 const AF_INET: u16 = 2;
 const AF_PACKET: u16 = 17;
-const SOCK_DGRAM: i32 = 2;
-const SOCK_RAW: i32 = 3;
-const SOCK_CLOEXEC: i32 = 0o2000000;
-const SOCK_NONBLOCK: i32 = 0o4000;
-const SOL_SOCKET: i32 = 1;
-const SO_REUSEADDR: i32 = 2;
-const SO_BINDTODEVICE: i32 = 25;
-const SO_ATTACH_FILTER: i32 = 26;
+const SOCK_DGRAM: c_int = 2;
+const SOCK_RAW: c_int = 3;
+const SOCK_CLOEXEC: c_int = 0o2000000;
+const SOCK_NONBLOCK: c_int = 0o4000;
+const SOL_SOCKET: c_int = 1;
+const SO_REUSEADDR: c_int = 2;
+const SO_BINDTODEVICE: c_int = 25;
+const SO_ATTACH_FILTER: c_int = 26;
 const ETH_P_IP: u16 = 0x800;
 const POLLIN: i16 = 1;
 // The longest that a call waits, in milliseconds.
 const MOST_WAIT: u64 = 10_000;
 
 unsafe extern "C" {
-    fn socket(family: i32, kind: i32, protocol: i32) -> i32;
-    fn setsockopt(socket: i32, level: i32, name: i32, value: *const u8, length: u32) -> i32;
-    fn bind(socket: i32, address: *const u8, length: u32) -> i32;
-    fn poll(files: *mut PollFile, count: u64, timeout: i32) -> i32;
+    fn socket(family: c_int, kind: c_int, protocol: c_int) -> c_int;
+    fn setsockopt(file: c_int, level: c_int, name: c_int, value: *const c_void, len: u32) -> c_int;
+    fn bind(file: c_int, address: *const u8, length: u32) -> c_int;
+    fn poll(files: *mut PollFile, count: c_ulong, timeout: c_int) -> c_int;
 }
 
 #[repr(C)]
@@ -40,13 +42,16 @@ impl Sockets {
     /// Those of an IPv4 client: for the frames of an interface to UDP port 68, and for the payloads
     /// to it, whatever the address, since servers send a Nack to all.
     pub fn open4(name: &str, index: u32) -> Result<Self> {
-        let filter = [PORT_68.len() as u64, PORT_68.as_ptr() as u64].map(u64::to_ne_bytes).concat();
+        let frames = open(AF_PACKET, SOCK_RAW)?;
+        let filter = Filter { length: PORT_68.len() as u16, instructions: PORT_68.as_ptr() };
+        set_option(&frames, SO_ATTACH_FILTER, &filter)?;
         let address = [&ETH_P_IP.to_be_bytes()[..], &index.to_ne_bytes(), &[0; 12]].concat();
-        let frames = open(AF_PACKET, SOCK_RAW, &[(SO_ATTACH_FILTER, &filter)], &address)?;
-        let options = [(SO_REUSEADDR, &1i32.to_ne_bytes()[..]), (SO_BINDTODEVICE, name.as_bytes())];
-        let address = [&68u16.to_be_bytes()[..], &[0; 12]].concat();
-        let payloads = open(AF_INET, SOCK_DGRAM, &options, &address)?;
+        bind_to(&frames, AF_PACKET, &address)?;
+        let payloads = open(AF_INET, SOCK_DGRAM)?;
+        set_option(&payloads, SO_REUSEADDR, &c_int::from(true))?;
+        set_option(&payloads, SO_BINDTODEVICE, name)?;
         payloads.set_broadcast(true)?;
+        bind_to(&payloads, AF_INET, &[&68u16.to_be_bytes()[..], &[0; 12]].concat())?;
         Ok(Sockets { payloads, frames: Some(frames) })
     }
 
@@ -90,27 +95,43 @@ impl Sockets {
         let sockets = self.frames.iter().chain([&self.payloads]).filter(|_| is_listening);
         let files = others.into_iter().chain(sockets.map(UdpSocket::as_raw_fd));
         let mut files: Vec<_> = files.map(|file| PollFile(file, POLLIN, 0)).collect();
-        let limit = milliseconds.map_or(MOST_WAIT, |left| left.min(MOST_WAIT)) as i32;
-        unsafe { poll(files.as_mut_ptr(), files.len() as u64, limit) > 0 && files[0].2 != 0 }
+        let limit = milliseconds.map_or(MOST_WAIT, |left| left.min(MOST_WAIT)) as c_int;
+        unsafe { poll(files.as_mut_ptr(), files.len() as c_ulong, limit) > 0 && files[0].2 != 0 }
     }
 }
 
-// A socket with these options, bound to an address of the family.
-fn open(family: u16, kind: i32, options: &[(i32, &[u8])], address: &[u8]) -> Result<UdpSocket> {
-    let check = |answer| if answer < 0 { Err(Error::last_os_error()) } else { Ok(answer) };
-    let file = check(unsafe { socket(family.into(), kind | SOCK_NONBLOCK | SOCK_CLOEXEC, 0) })?;
-    let opened = unsafe { UdpSocket::from_raw_fd(file) };
-    for (name, value) in options {
-        check(unsafe { setsockopt(file, SOL_SOCKET, *name, value.as_ptr(), value.len() as u32) })?;
-    }
-    let address = [&family.to_ne_bytes(), address].concat();
-    check(unsafe { bind(file, address.as_ptr(), address.len() as u32) })?;
-    Ok(opened)
+// A socket of this family and kind.
+fn open(family: u16, kind: c_int) -> Result<UdpSocket> {
+    let file = unsafe { socket(family.into(), kind | SOCK_NONBLOCK | SOCK_CLOEXEC, 0) };
+    check(file)?;
+    Ok(unsafe { UdpSocket::from_raw_fd(file) })
+}
+
+fn set_option<T: ?Sized>(socket: &UdpSocket, name: c_int, value: &T) -> Result<()> {
+    let (file, length) = (socket.as_raw_fd(), size_of_val(value) as u32);
+    check(unsafe { setsockopt(file, SOL_SOCKET, name, from_ref(value).cast(), length) })
+}
+
+// Binds a socket to an address: its family, and what follows that.
+fn bind_to(socket: &UdpSocket, family: u16, rest: &[u8]) -> Result<()> {
+    let address = [&family.to_ne_bytes(), rest].concat();
+    check(unsafe { bind(socket.as_raw_fd(), address.as_ptr(), address.len() as u32) })
+}
+
+// What the C library answered, negative after a failure.
+fn check(answer: c_int) -> Result<()> {
+    if answer < 0 { Err(Error::last_os_error()) } else { Ok(()) }
 }
 
 // A packet filter of the kernel (BPF): of IPv4 frames, those to UDP port 68 alone wake us.
 #[repr(C)]
 struct Instruction(u16, u8, u8, u32);
+
+#[repr(C)]
+struct Filter {
+    length: u16,
+    instructions: *const Instruction,
+}
 
 static PORT_68: [Instruction; 7] = [
     Instruction(0x30, 0, 0, 23),    // the protocol

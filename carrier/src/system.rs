@@ -1,20 +1,22 @@
 //! What the system says: the clock, signals, and what an interface is.
 
+use std::ffi::{c_int, c_long};
 use std::fs::read_to_string;
 use std::io::{Error, Result, Write};
 use std::os::unix::net::UnixStream;
 use std::sync::OnceLock;
 use std::time::UNIX_EPOCH;
 
-const CLOCK_BOOTTIME: i32 = 7;
+const CLOCK_BOOTTIME: c_int = 7;
 const SIGINT: u8 = 2;
 const SIGTERM: u8 = 15;
 /// The signal that asks for a clean-up.
 pub const SIGHUP: u8 = 1;
 
 unsafe extern "C" {
-    fn clock_gettime(clock: i32, time: *mut [i64; 2]) -> i32;
-    fn signal(number: i32, handler: extern "C" fn(i32)) -> usize;
+    // The seconds, and the nanoseconds of the second.
+    fn clock_gettime(clock: c_int, time: *mut [c_long; 2]) -> c_int;
+    fn signal(number: c_int, handler: extern "C" fn(c_int)) -> usize;
 }
 
 /// Milliseconds since 1970 at the first call. From then on the clock goes on while the machine
@@ -30,7 +32,7 @@ pub fn now() -> u64 {
 
 static SIGNALS: OnceLock<UnixStream> = OnceLock::new();
 
-extern "C" fn on_signal(number: i32) {
+extern "C" fn on_signal(number: c_int) {
     let _ = SIGNALS.get().map(|mut stream| stream.write(&[number as u8]));
 }
 
