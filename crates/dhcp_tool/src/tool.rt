@@ -1,7 +1,8 @@
 //! A program: the words ask for something, what the source holds is answered by a text, or by a
 //! status, and the sink takes the text.
 
-ghost use Rattle.std.specs.Prelude.{◌≡◌, ◌≢◌, ◌≤◌, ◌↔◌, map, string_bytes, false};
+ghost use Rattle.std.specs.Prelude.{◌≡◌, ◌≢◌, ◌≤◌, ◌↔◌, ◌+◌, map, string_bytes, false};
+ghost use Rattle.dhcp_stream.specs.Whole.{HasGone, most_bytes};
 ghost use Rattle.dhcp_tool.specs.Ends.{EndsJob, Writes};
 ghost use Rattle.dhcp_tool.specs.Input.{ReadsInput};
 ghost use Rattle.dhcp_tool.specs.Job.{AnswersJob, is_reading};
@@ -15,7 +16,7 @@ use std::alloc::Global;
 
 /// Does what the words ask for, and returns the exit status. Nothing is read or written for words
 /// that ask for nothing, nothing is read for a request that reads nothing, and nothing is written
-/// with any status but 0 and 4.
+/// with any status but 0 and 4. At most 16,777,217 bytes are read, whatever the status.
 pub fn run_tool<R: ToolRequest, S: Source, K: Sink>(
     alloc: Global,
     words: &[String],
@@ -41,6 +42,7 @@ pub fn run_tool<R: ToolRequest, S: Source, K: Sink>(
     ensures untouched { result ≡ 1 → (source.new ≡ source.old) × (sink.new ≡ sink.old) }
     ensures nothing_read { (request : R) → R.AsksFor (map string_bytes words.now) request →
         is_reading (R.job request) ≡ false → source.new ≡ source.old }
+    ensures goes_on { HasGone (most_bytes + 1) (S.left source.old) (S.left source.new) }
     ensures nothing_written { result ≢ 0 → result ≢ 4 → sink.new ≡ sink.old }
 {
     match R::of_words(words) {
@@ -70,6 +72,7 @@ fn carry_out<R: ToolRequest, S: Source, K: Sink>(
     }) }
     ensures asked { status_number result ≢ 1 }
     ensures nothing_read { is_reading (R.job request.now) ≡ false → source.new ≡ source.old }
+    ensures goes_on { HasGone (most_bytes + 1) (S.left source.old) (S.left source.new) }
     ensures nothing_written { status_number result ≢ 0 → status_number result ≢ 4 →
         sink.new ≡ sink.old }
 {
@@ -90,6 +93,7 @@ fn text_of<R: ToolRequest, S: Source>(
     ensures answers { AnswersJob (R.job request.now) result (S.left source.old)
         (S.left source.new) (S.faults source.old) (S.faults source.new) }
     ensures nothing_read { is_reading (R.job request.now) ≡ false → source.new ≡ source.old }
+    ensures goes_on { HasGone (most_bytes + 1) (S.left source.old) (S.left source.new) }
 {
     if !request.reads() {
         return request.answer(alloc, Bytes::new(alloc));
@@ -101,10 +105,12 @@ fn text_of<R: ToolRequest, S: Source>(
 }
 
 /// What the source holds, or the status: `ReadFault` only if the source's count of faults rose,
-/// `TooLong` where more than 16,777,216 bytes are left, or out of memory.
+/// `TooLong` where more than 16,777,216 bytes are left, or out of memory. At most one byte more than
+/// these is read, whatever it returns.
 pub fn input<S: Source>(alloc: Global, source: &mut S) -> Result<Bytes, Status>
-    ensures { ReadsInput result (S.left source.old) (S.left source.new)
+    ensures reads { ReadsInput result (S.left source.old) (S.left source.new)
         (S.faults source.old) (S.faults source.new) }
+    ensures goes_on { HasGone (most_bytes + 1) (S.left source.old) (S.left source.new) }
 {
     match read_whole(alloc, source) {
         Ok(Whole::All(bytes)) => Ok(bytes),
