@@ -1,9 +1,9 @@
 //! The program: the script of a network comes in, and what the network reports goes out.
 
-ghost use Rattle.std.specs.Prelude.{◌≡◌, ◌≢◌, ◌≤◌, ◌⊎◌, ◌↔◌, Some, length, map, string_bytes, true};
+ghost use Rattle.std.specs.Prelude.{◌≡◌, ◌+◌, ◌≢◌, ◌≤◌, ◌⊎◌, ◌↔◌, Some, length, map, string_bytes, true};
 ghost use Rattle.std.specs.Io.KnownBytes.{Appends};
 ghost use Rattle.dhcp_wire.specs.Fault.{Rose};
-ghost use Rattle.dhcp_stream.specs.Whole.{most_bytes};
+ghost use Rattle.dhcp_stream.specs.Whole.{HasGone, most_bytes};
 ghost use Rattle.dhcp_tool.specs.Ends.{EndsReading};
 ghost use Rattle.dhcp_tool.specs.Texts.{AnswersScript, AnswersText};
 ghost use Rattle.dhcp_tool.specs.Words.{AsksForRun};
@@ -27,7 +27,8 @@ use dhcp4_net::{NetScript, run_net};
 use std::alloc::Global;
 
 /// For the word `run`, runs the network whose script the source holds, writes the text of what it
-/// reports, and returns the exit status. With every status but 0 and 4 nothing is written.
+/// reports, and returns the exit status. With every status but 0 and 4 nothing is written. At most
+/// 16,777,217 bytes are read, whatever the status.
 pub fn net_tool<S: Source, K: Sink>(
     alloc: Global,
     words: &[String],
@@ -69,6 +70,7 @@ pub fn net_tool<S: Source, K: Sink>(
     // Nothing is read or written for other words, and nothing is written with any status but 0 and
     // 4.
     ensures untouched { result ≡ 1 → (source.new ≡ source.old) × (sink.new ≡ sink.old) }
+    ensures goes_on { HasGone (most_bytes + 1) (S.left source.old) (S.left source.new) }
     ensures nothing_written { result ≢ 0 → result ≢ 4 → sink.new ≡ sink.old }
 {
     run_tool::<Run, S, K>(alloc, words, source, sink)

@@ -1,10 +1,10 @@
 //! The program: a script comes in, and what is reported of its client goes out.
 
-ghost use Rattle.std.specs.Prelude.{◌≡◌, ◌≢◌, ◌≤◌, ◌⊎◌, ◌↔◌, Some, OnOk, length, map, string_bytes, true};
+ghost use Rattle.std.specs.Prelude.{◌≡◌, ◌+◌, ◌≢◌, ◌≤◌, ◌⊎◌, ◌↔◌, Some, OnOk, length, map, string_bytes, true};
 ghost use Rattle.std.specs.Io.KnownBytes.{Appends};
 ghost use Rattle.dhcp_wire.specs.Outcome.{Makes};
 ghost use Rattle.dhcp_wire.specs.Fault.{Rose};
-ghost use Rattle.dhcp_stream.specs.Whole.{most_bytes};
+ghost use Rattle.dhcp_stream.specs.Whole.{HasGone, most_bytes};
 ghost use Rattle.dhcp_tool.specs.Ends.{EndsReading};
 ghost use Rattle.dhcp_tool.specs.Texts.{AnswersScript, AnswersText};
 ghost use Rattle.dhcp_tool.specs.Words.{AsksForRun};
@@ -24,7 +24,8 @@ use dhcp_wire::{Bytes, DhcpError};
 use std::alloc::Global;
 
 /// For the word `run`, plays the script that the source holds, writes the text of what is reported
-/// of its client, and returns the exit status. With every status but 0 and 4 nothing is written.
+/// of its client, and returns the exit status. With every status but 0 and 4 nothing is written. At
+/// most 16,777,217 bytes are read, whatever the status.
 pub fn info_tool<S: Source, K: Sink>(
     alloc: Global,
     words: &[String],
@@ -61,6 +62,7 @@ pub fn info_tool<S: Source, K: Sink>(
     // Nothing is read or written for other words, and nothing is written with any status but 0 and
     // 4.
     ensures untouched { result ≡ 1 → (source.new ≡ source.old) × (sink.new ≡ sink.old) }
+    ensures goes_on { HasGone (most_bytes + 1) (S.left source.old) (S.left source.new) }
     ensures nothing_written { result ≢ 0 → result ≢ 4 → sink.new ≡ sink.old }
 {
     run_tool::<Run, S, K>(alloc, words, source, sink)

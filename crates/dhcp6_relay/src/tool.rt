@@ -1,6 +1,7 @@
 //! The program: a message comes in as a line of hex, and what is made of it goes out as another.
 
-ghost use Rattle.std.specs.Prelude.{◌≡◌, ◌≢◌, ◌≤◌, map, string_bytes};
+ghost use Rattle.std.specs.Prelude.{◌≡◌, ◌+◌, ◌≢◌, ◌≤◌, map, string_bytes};
+ghost use Rattle.dhcp_stream.specs.Whole.{HasGone, most_bytes};
 ghost use Rattle.dhcp_tool.specs.Ends.{EndsReading};
 ghost use Rattle.dhcp_tool.specs.Input.{AnswersSource};
 ghost use Rattle.dhcp_tool.specs.Job.{AnswersPrinting};
@@ -24,7 +25,8 @@ use std::alloc::Global;
 /// Relay-forward that the source holds; `unwrap` the message inside the relay message that it
 /// holds. Messages are lines of lower-case hex, `-` for no bytes. The status is `Invalid` if and
 /// only if the message is refused, as `wrap_forward`, `reply_along` or `parse_relay` refuses it.
-/// With every status but 0 and 4 nothing is written.
+/// With every status but 0 and 4 nothing is written. At most 16,777,217 bytes are read, whatever the
+/// status.
 pub fn relay_tool<S: Source, K: Sink>(
     alloc: Global,
     words: &[String],
@@ -52,6 +54,7 @@ pub fn relay_tool<S: Source, K: Sink>(
     // 4.
     ensures untouched { AsksForNothing (map string_bytes words.now) →
         (source.new ≡ source.old) × (sink.new ≡ sink.old) }
+    ensures goes_on { HasGone (most_bytes + 1) (S.left source.old) (S.left source.new) }
     ensures nothing_written { result ≢ 0 → result ≢ 4 → sink.new ≡ sink.old }
 {
     match Request::of_words(alloc, words) {
@@ -79,6 +82,7 @@ fn carry_out<S: Source, K: Sink>(
       sink_faults_after = K.faults sink.new;
     }) }
     ensures asked { status_number result ≢ 1 }
+    ensures goes_on { HasGone (most_bytes + 1) (S.left source.old) (S.left source.new) }
     ensures nothing_written { status_number result ≢ 0 → status_number result ≢ 4 →
         sink.new ≡ sink.old }
 {
@@ -90,8 +94,9 @@ fn carry_out<S: Source, K: Sink>(
 
 // The text to print for a request, or the status.
 fn text_of<S: Source>(alloc: Global, request: &Request, source: &mut S) -> Result<Bytes, Status>
-    ensures { AnswersSource (messages request.now) result (S.left source.old)
+    ensures answers { AnswersSource (messages request.now) result (S.left source.old)
         (S.left source.new) (S.faults source.old) (S.faults source.new) }
+    ensures goes_on { HasGone (most_bytes + 1) (S.left source.old) (S.left source.new) }
 {
     match input(alloc, source) {
         Ok(bytes) => line_for(alloc, request, bytes.as_slice()),

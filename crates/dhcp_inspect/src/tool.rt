@@ -1,9 +1,9 @@
 //! The program: a capture file comes in, and the report on it goes out.
 
-ghost use Rattle.std.specs.Prelude.{◌≡◌, ◌≢◌, ◌≤◌, ◌⊎◌, ◌↔◌, ℕ, List, Some, length, map, string_bytes};
+ghost use Rattle.std.specs.Prelude.{◌≡◌, ◌+◌, ◌≢◌, ◌≤◌, ◌⊎◌, ◌↔◌, ℕ, List, Some, length, map, string_bytes};
 ghost use Rattle.std.specs.Io.KnownBytes.{Appends};
 ghost use Rattle.dhcp_wire.specs.Fault.{Rose};
-ghost use Rattle.dhcp_stream.specs.Whole.{most_bytes};
+ghost use Rattle.dhcp_stream.specs.Whole.{HasGone, most_bytes};
 ghost use Rattle.dhcp_tool.specs.Ends.{EndsReading};
 ghost use Rattle.dhcp_inspect.specs.Header.{IsCapture};
 ghost use Rattle.dhcp_inspect.specs.Tool.{AsksForReport, captures, report};
@@ -15,7 +15,8 @@ use dhcp_wire::Bytes;
 use std::alloc::Global;
 
 /// Reads the capture file that the source holds, writes the report on it, and returns the exit
-/// status. There are no words. With every status but 0 and 4 nothing is written.
+/// status. There are no words. With every status but 0 and 4 nothing is written. At most 16,777,217
+/// bytes are read, whatever the status.
 pub fn inspect_tool<S: Source, K: Sink>(
     alloc: Global,
     words: &[String],
@@ -59,6 +60,7 @@ pub fn inspect_tool<S: Source, K: Sink>(
 
     // Nothing is read or written for words, and nothing is written with any status but 0 and 4.
     ensures untouched { result ≡ 1 → (source.new ≡ source.old) × (sink.new ≡ sink.old) }
+    ensures goes_on { HasGone (most_bytes + 1) (S.left source.old) (S.left source.new) }
     ensures nothing_written { result ≢ 0 → result ≢ 4 → sink.new ≡ sink.old }
 {
     run_tool::<Inspection, S, K>(alloc, words, source, sink)

@@ -1,11 +1,11 @@
 //! The program: a script comes in, and what is reported of its client goes out, or its text in the
 //! next version; or a demonstration is summed up.
 
-ghost use Rattle.std.specs.Prelude.{◌≡◌, ◌≢◌, ◌≤◌, ◌⊎◌, ◌↔◌, ℕ, [], Some, OnOk, length, map, string_bytes, true};
+ghost use Rattle.std.specs.Prelude.{◌≡◌, ◌+◌, ◌≢◌, ◌≤◌, ◌⊎◌, ◌↔◌, ℕ, [], Some, OnOk, length, map, string_bytes, true};
 ghost use Rattle.std.specs.Io.KnownBytes.{Appends};
 ghost use Rattle.dhcp_wire.specs.Outcome.{Makes};
 ghost use Rattle.dhcp_wire.specs.Fault.{Rose};
-ghost use Rattle.dhcp_stream.specs.Whole.{most_bytes};
+ghost use Rattle.dhcp_stream.specs.Whole.{HasGone, most_bytes};
 ghost use Rattle.dhcp_tool.specs.Job.{AnswersPrinting};
 ghost use Rattle.dhcp_tool.specs.Texts.{AnswersScript, AnswersText};
 ghost use Rattle.dhcp_tool.specs.Words.{AsksForRun};
@@ -40,7 +40,7 @@ use std::alloc::Global;
 /// holds, and writes the text of what is reported of its client; `upgrade` writes the text in
 /// version 2 of the script whose text in version 1 the source holds; `demo` and a number from 1 to
 /// 2,000 writes the summary of a demonstration of so many rounds, and reads nothing. With every
-/// status but 0 and 4 nothing is written.
+/// status but 0 and 4 nothing is written. At most 16,777,217 bytes are read, whatever the status.
 pub fn replay_tool<S: Source, K: Sink>(
     alloc: Global,
     words: &[String],
@@ -80,6 +80,7 @@ pub fn replay_tool<S: Source, K: Sink>(
     ensures untouched { result ≡ 1 → (source.new ≡ source.old) × (sink.new ≡ sink.old) }
     ensures nothing_read { (rounds : ℕ) → AsksFor (map string_bytes words.now) (Demo rounds) →
         source.new ≡ source.old }
+    ensures goes_on { HasGone (most_bytes + 1) (S.left source.old) (S.left source.new) }
     ensures nothing_written { result ≢ 0 → result ≢ 4 → sink.new ≡ sink.old }
 {
     run_tool::<Request, S, K>(alloc, words, source, sink)
