@@ -10,7 +10,7 @@ use Rattle.dhcp_wire.specs.Field.{terminated_text}
 use Rattle.dhcp4_msg.specs.declared.option.DhcpV4Option.{DhcpV4Option}
 use Rattle.dhcp4_msg.specs.declared.option.DhcpV4Option.TheVariants.{MessageType, ParameterRequestList}
 use Rattle.dhcp4_msg.specs.OptionCode.{number_of}
-use Rattle.dhcp4_msg.specs.Message.{no_address, magic_cookie, written_numbers, written_addresses, written_texts, written_message}
+use Rattle.dhcp4_msg.specs.Message.{no_address, magic_cookie, written_numbers, written_address_fields, written_texts, written_message}
 use Rattle.dhcp4_msg.specs.Options.{written_options}
 use Rattle.dhcp4_msg.specs.Value.{written_option, written_value}
 use Rattle.dhcp4_lease.specs.declared.message_forms.DhcpV4MessageForms.{DhcpV4MessageForms}
@@ -96,7 +96,7 @@ unfolding table_message written_message
 length-message id config row within typed is =
     let message = table_message id config row in
     let numbers = written_numbers message in
-    let addresses = written_addresses message in
+    let addresses = written_address_fields message in
     let texts = written_texts message in
     let options = written_options message.options in
     omega (

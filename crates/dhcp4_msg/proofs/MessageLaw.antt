@@ -6,7 +6,7 @@ use Rattle.dhcp_wire.specs.Field.{bytes_at, number_at, address_at, terminated_te
 use Rattle.dhcp_wire.proofs.FieldLaws.{bytes_at-append, number_at-byte, number_at-to_be_bytes, address_at-octets, terminated_text_at-terminated_text, big_endian_16, big_endian_32}
 use Rattle.dhcp4_msg.specs.declared.message.DhcpV4Message.{DhcpV4Message}
 use Rattle.dhcp4_msg.specs.Laws.{MessageReadsBack, read_back}
-use Rattle.dhcp4_msg.specs.Message.{read_message, written_message, written_numbers, written_addresses, written_texts, magic_cookie}
+use Rattle.dhcp4_msg.specs.Message.{read_message, written_message, written_numbers, written_address_fields, written_texts, magic_cookie}
 use Rattle.dhcp4_msg.specs.Options.{read_options, written_options}
 use Rattle.dhcp4_msg.proofs.OptionsLaw.{options_map_back}
 
@@ -63,7 +63,7 @@ message_back message more has =
     let b2 : List ℕ = message.hlen ∷ b3 in
     let b1 : List ℕ = message.htype ∷ b2 in
     let is : written_message message ++ more ≡ message.op ∷ b1 =
-    followed (written_numbers message) (written_addresses message) (written_texts message) (written_options message.options) more
+    followed (written_numbers message) (written_address_fields message) (written_texts message) (written_options message.options) more
     ∙ grouped (message.op ∷ message.htype ∷ message.hlen ∷ message.hops ∷ []) (to_be_bytes w32 message.xid) (to_be_bytes w16 message.secs) (to_be_bytes w16 message.flags)
     (ipv4_octets message.ciaddr) (ipv4_octets message.yiaddr) (ipv4_octets message.siaddr) (ipv4_octets message.giaddr) message.chaddr
     (terminated_text 64 message.sname) (terminated_text 128 message.file) (to_be_bytes w32 magic_cookie) rest in

@@ -79,9 +79,9 @@ written_numbers message =
     ++ (to_be_bytes w32 message.xid
     ++ (to_be_bytes w16 message.secs ++ to_be_bytes w16 message.flags))
 
--- its addresses
-abbrev pub written_addresses : DhcpV4Message → List ℕ
-written_addresses message =
+-- its addresses, of which chaddr is the last
+abbrev pub written_address_fields : DhcpV4Message → List ℕ
+written_address_fields message =
     ipv4_octets message.ciaddr
     ++ (ipv4_octets message.yiaddr
     ++ (ipv4_octets message.siaddr ++ (ipv4_octets message.giaddr ++ message.chaddr)))
@@ -96,7 +96,7 @@ written_texts message =
 unfoldable pub written_message : DhcpV4Message → List ℕ
 written_message message =
     written_numbers message
-    ++ (written_addresses message ++ (written_texts message ++ written_options message.options))
+    ++ (written_address_fields message ++ (written_texts message ++ written_options message.options))
 
 -- the address 0.0.0.0
 abbrev pub no_address : Ipv4Addr

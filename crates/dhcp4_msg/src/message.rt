@@ -2,21 +2,20 @@
 
 ghost use Rattle.std.specs.Prelude.{◌≡◌, ◌↔◌, None, ok_or};
 ghost use Rattle.std.specs.FinMap as map;
-ghost use Rattle.dhcp_wire.specs.Outcome.{Emits, Gives, Makes, Reads};
-ghost use Rattle.dhcp_wire.specs.Field.{bytes_at};
+ghost use Rattle.dhcp_wire.specs.Outcome.{Emits, Gives, Makes};
 ghost use Rattle.dhcp4_msg.specs.Options as options;
 ghost use Rattle.dhcp4_msg.specs.Message.{
   empty_message,
   read_message,
   written_message,
   written_numbers,
-  written_addresses,
+  written_address_fields,
   written_texts,
 };
 
 use crate::value::emit_addresses;
 use crate::{DhcpV4MessageType, DhcpV4OptionCode, DhcpV4Options, DhcpV4View};
-use dhcp_wire::{Buffer, BufferMut, Bytes, DhcpError, ErrorKind, Text};
+use dhcp_wire::{BufferMut, Bytes, DhcpError, ErrorKind, Text};
 use std::alloc::Global;
 use std::net::Ipv4Addr;
 
@@ -81,8 +80,8 @@ impl DhcpV4Message {
             siaddr: Ipv4Addr::UNSPECIFIED,
             giaddr: Ipv4Addr::UNSPECIFIED,
             chaddr: [0; 16],
-            sname: Text::from(String::new(alloc)),
-            file: Text::from(String::new(alloc)),
+            sname: Text::new(alloc),
+            file: Text::new(alloc),
             options: DhcpV4Options::new(alloc),
         }
     }
@@ -133,7 +132,7 @@ impl DhcpV4Message {
         ensures { Emits result buf.old buf.new (written_message self.now) }
     {
         self.emit_numbers(buf)?;
-        self.emit_addresses(buf)?;
+        self.emit_address_fields(buf)?;
         self.emit_texts(buf)?;
         self.options.emit(buf)
     }
@@ -148,9 +147,9 @@ impl DhcpV4Message {
         buf.write_u16_be(self.flags)
     }
 
-    // Writes the addresses.
-    fn emit_addresses(&self, buf: &mut BufferMut) -> Result<(), DhcpError>
-        ensures { Emits result buf.old buf.new (written_addresses self.now) }
+    // Writes the addresses, of which chaddr is the last.
+    fn emit_address_fields(&self, buf: &mut BufferMut) -> Result<(), DhcpError>
+        ensures { Emits result buf.old buf.new (written_address_fields self.now) }
     {
         let addresses = [self.ciaddr, self.yiaddr, self.siaddr, self.giaddr];
         emit_addresses(&addresses, buf)?;
@@ -165,14 +164,4 @@ impl DhcpV4Message {
         buf.write_string_with_null(self.file.as_str(), 128)?;
         buf.write_u32_be(MAGIC_COOKIE)
     }
-}
-
-// The sixteen bytes of a hardware address.
-pub(crate) fn hardware_address(buf: &mut Buffer) -> Result<[u8; 16], DhcpError>
-    ensures { Reads (λ address. address) result buf.old buf.new (bytes_at 16 buf.old) }
-{
-    let bytes = buf.get_bytes(16)?;
-    let mut address = [0; 16];
-    address.copy_from_slice(bytes);
-    Ok(address)
 }

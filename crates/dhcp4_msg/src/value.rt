@@ -62,7 +62,7 @@ pub(crate) fn read_value(
         DhcpV4OptionCode::IpAddressLeaseTime => {
             u32_in(value).map(DhcpV4Option::IpAddressLeaseTime)
         }
-        DhcpV4OptionCode::MessageType => type_of(value).map(DhcpV4Option::MessageType),
+        DhcpV4OptionCode::MessageType => type_in(value).map(DhcpV4Option::MessageType),
         DhcpV4OptionCode::ServerIdentifier => {
             address_in(value).map(DhcpV4Option::ServerIdentifier)
         }
@@ -88,18 +88,18 @@ pub(crate) fn read_value(
 
 // The message type of the first byte.
 #[tactic(auto, unfolding(crate::specs::Value::type_in))]
-pub(crate) fn type_of(value: &[u8]) -> Result<DhcpV4MessageType, DhcpError>
+pub(crate) fn type_in(value: &[u8]) -> Result<DhcpV4MessageType, DhcpError>
     ensures { Answers (λ kind. kind) result
         (ok_or (type_in value.now) ErrorKind.InvalidDhcpMessage) }
 {
     let number = u8_in(value)?;
     match DhcpV4MessageType::try_from(number) {
         Ok(kind) => Ok(kind),
-        Err(_) => Err(DhcpError::invalid_message(FixedText::Unreadable)),
+        Err(_) => Err(DhcpError::invalid_message(FixedText::WrongType)),
     }
 }
 
-/// The most bytes of a text that an option holds, beside its zero byte.
+// The most bytes of a text that an option holds, beside its zero byte.
 pub(crate) const TEXT_MAX: usize = 254;
 
 // Writes at most 254 bytes of a text, from the first on, and a zero byte.

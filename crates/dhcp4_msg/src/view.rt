@@ -9,8 +9,8 @@ ghost use Rattle.dhcp4_msg.specs.Options as maps;
 ghost use Rattle.dhcp4_msg.specs.View as views;
 ghost use Rattle.dhcp4_msg.specs.View.{ReadsInPart};
 
-use crate::message::{MAGIC_COOKIE, hardware_address};
-use crate::value::type_of;
+use crate::message::MAGIC_COOKIE;
+use crate::value::type_in;
 use crate::{DhcpV4Message, DhcpV4MessageType, DhcpV4Options};
 use dhcp_wire::{
     Buffer, DhcpError, ErrorKind, FixedText, OptionFormat, RawOption, Text, address_in,
@@ -78,7 +78,7 @@ impl<'a> DhcpV4View<'a> {
         let mut buf = Buffer::new(payload);
         let numbers = read_numbers(&mut buf)?;
         let addresses = read_addresses(&mut buf)?;
-        let chaddr = hardware_address(&mut buf)?;
+        let chaddr = buf.get_array()?;
         let sname = buf.get_str_with_null(64)?;
         let file = buf.get_str_with_null(128)?;
         if buf.get_u32_be()? != MAGIC_COOKIE {
@@ -201,7 +201,7 @@ impl OptionValue for DhcpV4MessageType {
     ghost value_in = { type_in };
 
     fn read(value: &[u8]) -> Option<Self> {
-        type_of(value).ok()
+        type_in(value).ok()
     }
 }
 

@@ -20,7 +20,7 @@ use Rattle.dhcp4_msg.specs.declared.option.DhcpV4Option.{DhcpV4Option}
 use Rattle.dhcp4_msg.specs.declared.option.DhcpV4Option.TheVariants.{SubnetMask, IpAddressLeaseTime, MessageType, ServerIdentifier, RenewalTime, RebindingTime}
 use Rattle.dhcp4_msg.specs.OptionCode.{number_of}
 use Rattle.dhcp4_msg.specs.Laws.{ReadsBack, MessageReadsBack, read_back}
-use Rattle.dhcp4_msg.specs.Message.{no_address, read_message, written_addresses, written_message, written_numbers, written_texts}
+use Rattle.dhcp4_msg.specs.Message.{no_address, read_message, written_address_fields, written_message, written_numbers, written_texts}
 use Rattle.dhcp4_msg.specs.Options.{OptionMap, with_options, written_options}
 use Rattle.dhcp4_msg.specs.Value.{fits, option_code, option_number, written_option, written_value}
 use Rattle.dhcp4_msg.proofs.AddedOptions.{Stands, all_added, length-numbers, length-written_options, none_kept, size_of-empty, size_of-with_options, total}
@@ -191,7 +191,7 @@ unfolding reply_message written_message
 reply_length message yiaddr siaddr options can y s few =
     let reply = reply_message message yiaddr siaddr options in
     let numbers = written_numbers reply in
-    let addresses = written_addresses reply in
+    let addresses = written_address_fields reply in
     let texts = written_texts reply in
     let rest = written_options reply.options in
     let none = ipv4_octets no_address in

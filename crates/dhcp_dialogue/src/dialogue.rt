@@ -64,7 +64,8 @@ pub trait Dialogue {
     ghost moves: { Turn → Self → Self → Type 0 } = { λ _ _ _. Unit {0} };
 
     /// Hears the next line, with its line feed, in place of what `line` holds; what follows it is
-    /// not heard yet. `Failed` only if the count of faults rose.
+    /// not heard yet. `Failed` only if the count of faults rose. After an error no clause says what
+    /// `line` holds, nor where the next line begins: after `TooLong` it may be the rest of this one.
     fn hear(&mut self, line: &mut Vec<u8>) -> Result<(), Unheard>
         ensures moved { moves (hearing result line.new.items) self.old self.new }
         ensures line { OnOk result (IsLine line.new.items) }

@@ -11,7 +11,7 @@ use std::marker::Model;
 use std::net::Ipv4Addr;
 
 // The type of IPv4 in an Ethernet header.
-const IPV4: u16 = 0x0800;
+pub(crate) const IPV4: u16 = 0x0800;
 
 // The protocol number of UDP in an IPv4 header.
 pub(crate) const UDP: u8 = 17;

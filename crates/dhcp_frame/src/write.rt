@@ -8,7 +8,7 @@ ghost use Rattle.dhcp_frame.specs.View.{read_frame};
 
 use crate::Frame;
 use crate::checksum::{carried, checksum, word_sum};
-use crate::view::{ETHERNET_HEADER, IP_HEADER, UDP_HEADER};
+use crate::view::{ETHERNET_HEADER, IP_HEADER, IPV4, UDP, UDP_HEADER};
 use dhcp_wire::{Bytes, DhcpError};
 use std::alloc::Global;
 
@@ -43,7 +43,8 @@ fn ethernet_header(frame: &Frame) -> [u8; 14]
 {
     let [d0, d1, d2, d3, d4, d5] = frame.dst_mac;
     let [s0, s1, s2, s3, s4, s5] = frame.src_mac;
-    [d0, d1, d2, d3, d4, d5, s0, s1, s2, s3, s4, s5, 0x08, 0x00]
+    let [t0, t1] = IPV4.to_be_bytes();
+    [d0, d1, d2, d3, d4, d5, s0, s1, s2, s3, s4, s5, t0, t1]
 }
 
 // The length of the UDP header and the payload.
@@ -51,7 +52,7 @@ fn udp_length(frame: &Frame) -> u16
     requires { length frame.now.payload ≤ most_payload }
     ensures { result ≡ Write.udp_length frame.now }
 {
-    8 + frame.payload.len() as u16
+    (UDP_HEADER + frame.payload.len()) as u16
 }
 
 // The IPv4 header with this checksum.
@@ -61,12 +62,12 @@ fn ip_header(frame: &Frame, sum: u16) -> [u8; 20]
     ensures value { result ≡ Write.ip_header frame.now sum }
     ensures addresses { HasAddresses frame.now }
 {
-    let [l0, l1] = (20 + udp_length(frame)).to_be_bytes();
+    let [l0, l1] = (IP_HEADER as u16 + udp_length(frame)).to_be_bytes();
     let [c0, c1] = sum.to_be_bytes();
     let [s0, s1, s2, s3] = frame.src_ip.octets();
     let [d0, d1, d2, d3] = frame.dst_ip.octets();
     [
-        0x45, 0x00, l0, l1, 0x00, 0x00, 0x40, 0x00, 0x80, 0x11, c0, c1, s0, s1, s2, s3, d0, d1, d2,
+        0x45, 0x00, l0, l1, 0x00, 0x00, 0x40, 0x00, 0x80, UDP, c0, c1, s0, s1, s2, s3, d0, d1, d2,
         d3,
     ]
 }
@@ -96,7 +97,7 @@ fn pseudo_header(frame: &Frame) -> [u8; 12]
     let [s0, s1, s2, s3] = frame.src_ip.octets();
     let [d0, d1, d2, d3] = frame.dst_ip.octets();
     let [l0, l1] = udp_length(frame).to_be_bytes();
-    [s0, s1, s2, s3, d0, d1, d2, d3, 0x00, 0x11, l0, l1]
+    [s0, s1, s2, s3, d0, d1, d2, d3, 0x00, UDP, l0, l1]
 }
 
 // The UDP checksum; 0 is written as ffff.

@@ -63,7 +63,7 @@ fn octets<const N: usize>(field: &[u8]) -> Option<[u8; N]>
 }
 
 /// Puts the digits of octets at the end of a text, two lower-case hex digits for each; nothing for
-/// none. Out of memory is the only error; a part of the digits may then be there.
+/// none. Out of memory is the only error; no clause says what the text holds then.
 pub fn push_octets(text: &mut String, octets: &[u8]) -> Result<(), AllocError>
     ensures { OnOk result (string_bytes text.new
         ≡ string_bytes text.old ++ encode_lower octets.now) }
@@ -120,7 +120,7 @@ fn is_lower_hex(field: &[u8]) -> bool
 {
     let mut is_lower = true;
     for byte in field {
-        is_lower = is_lower & matches!(*byte, b'0'..=b'9' | b'a'..=b'f');
+        is_lower &= matches!(*byte, b'0'..=b'9' | b'a'..=b'f');
     }
     is_lower
 }

@@ -88,9 +88,7 @@ impl<W: Write> StdSink<W> {
     {
         self.writer
     }
-}
 
-impl<W: Write> StdSink<W> {
     /// Flushes the writer, and returns whether it could: `false`, as at an error of the writer,
     /// only if the count of faults rose. The bytes that the writer holds, where std knows them,
     /// stay.

@@ -60,8 +60,8 @@ impl<T: Drop> From<AllocFailed<T>> for ReadError {
     }
 }
 
-/// Reads a text from its front. Contracts see it as the bytes that are left. After an error no
-/// clause says what these are.
+/// Reads a text from its front. Contracts see it as the bytes that are left. After an error of
+/// `tag` or `field` these are what they were; after another error no clause says what they are.
 #[derive(Debug, Drop)]
 pub struct TextReader<'a> {
     left: &'a [u8],
@@ -108,6 +108,7 @@ impl<'a> TextReader<'a> {
     pub fn tag(&mut self, tag: &[u8]) -> Result<(), ReadError>
         ensures takes { Takes result self.new (tag_at tag.now self.old) }
         ensures err { IfErr result (λ error. error ≡ ReadError.Malformed) }
+        ensures stays { IfErr result (λ _. self.new ≡ self.old) }
     {
         if self.skip(tag) {
             Ok(())
@@ -116,10 +117,11 @@ impl<'a> TextReader<'a> {
         }
     }
 
-    /// The field before the next such byte, which is skipped. `Malformed`, the only error, if and
-    /// only if there is no such byte.
+    /// The field before the next `end`, which is skipped. `Malformed`, the only error, if and only
+    /// if there is no `end`.
     pub fn field(&mut self, end: u8) -> Result<&'a [u8], ReadError>
-        ensures { values.TakesField result self.new (field_at end self.old) }
+        ensures takes { values.TakesField result self.new (field_at end self.old) }
+        ensures stays { IfErr result (λ _. self.new ≡ self.old) }
     {
         let Some((field, left)) = cut_field(self.left, end) else {
             return Err(ReadError::Malformed);
@@ -128,10 +130,10 @@ impl<'a> TextReader<'a> {
         Ok(field)
     }
 
-    /// A decimal number without a leading zero, at most `max`, before the next such byte, which is
+    /// A decimal number without a leading zero, at most `max`, before the next `end`, which is
     /// skipped. `Malformed`, the only error, if and only if the text does not go on with one.
     pub fn number(&mut self, max: u64, end: u8) -> Result<u64, ReadError>
-        ensures number { Takes result self.new (in_field (values.number_in max) end self.old) }
+        ensures takes { Takes result self.new (in_field (values.number_in max) end self.old) }
         ensures err { IfErr result (λ error. error ≡ ReadError.Malformed) }
         ensures small { IfOk result (λ number. number ≤ max) }
     {
@@ -139,8 +141,8 @@ impl<'a> TextReader<'a> {
         number_field(field, max).ok_or(ReadError::Malformed)
     }
 
-    /// A decimal number of 32 bits without a leading zero, before the next such byte, which is
-    /// skipped. `Malformed`, the only error, if and only if the text does not go on with one.
+    /// A decimal number of 32 bits without a leading zero, before the next `end`, which is skipped.
+    /// `Malformed`, the only error, if and only if the text does not go on with one.
     pub fn u32(&mut self, end: u8) -> Result<u32, ReadError>
         ensures takes { Takes result self.new
             (in_field (values.number_in 4294967295) end self.old) }
@@ -150,8 +152,8 @@ impl<'a> TextReader<'a> {
         Ok(number as u32)
     }
 
-    /// An IPv4 address before the next such byte, which is skipped. `Malformed`, the only error, if
-    /// and only if the text does not go on with one.
+    /// An IPv4 address before the next `end`, which is skipped. `Malformed`, the only error, if and
+    /// only if the text does not go on with one.
     pub fn ipv4(&mut self, end: u8) -> Result<Ipv4Addr, ReadError>
         ensures takes { Takes result self.new (in_field values.address_in end self.old) }
         ensures err { IfErr result (λ error. error ≡ ReadError.Malformed) }
@@ -160,7 +162,7 @@ impl<'a> TextReader<'a> {
         ipv4_field(field).ok_or(ReadError::Malformed)
     }
 
-    /// A MAC address of twelve lower-case hex digits before the next such byte, which is skipped.
+    /// A MAC address of twelve lower-case hex digits before the next `end`, which is skipped.
     /// `Malformed`, the only error, if and only if the text does not go on with one.
     pub fn mac(&mut self, end: u8) -> Result<[u8; 6], ReadError>
         ensures takes { Takes result self.new (in_field values.mac_in end self.old) }
@@ -170,7 +172,7 @@ impl<'a> TextReader<'a> {
         mac_field(field).ok_or(ReadError::Malformed)
     }
 
-    /// Bytes in lower-case hex before the next such byte, which is skipped; `-` is no bytes.
+    /// Bytes in lower-case hex before the next `end`, which is skipped; `-` is no bytes.
     /// `Malformed` only if the text does not go on with them; the only other error is out of
     /// memory.
     pub fn hex(&mut self, alloc: Global, end: u8) -> Result<Bytes, ReadError>
@@ -180,7 +182,7 @@ impl<'a> TextReader<'a> {
         found(hex_field(alloc, field))
     }
 
-    /// Words of 32 bits in lower-case hex, eight digits each, before the next such byte, which is
+    /// Words of 32 bits in lower-case hex, eight digits each, before the next `end`, which is
     /// skipped; `-` is no words. `Malformed` only if the text does not go on with them; the only
     /// other error is out of memory.
     pub fn words(&mut self, alloc: Global, end: u8) -> Result<Sequence<u32>, ReadError>
@@ -200,8 +202,8 @@ fn after<'a>(text: &'a [u8], tag: &[u8]) -> Option<&'a [u8]>
     text.strip_prefix(tag)
 }
 
-/// The field before the first such byte, and what follows that byte; none if and only if there is
-/// no such byte. Does not allocate.
+/// The field before the first `end`, and what follows that; none if and only if there is no `end`.
+/// Does not allocate.
 pub fn cut_field(text: &[u8], end: u8) -> Option<(&[u8], &[u8])>
     ensures { MatchOption result
         (field_at end text.now ≡ None)
@@ -213,7 +215,7 @@ pub fn cut_field(text: &[u8], end: u8) -> Option<(&[u8], &[u8])>
     Some((&text[..len], &text[len + 1..]))
 }
 
-// Where the first such byte is. Whole pieces without it are passed first.
+// Where the first `end` is. Whole pieces without it are passed first.
 #[tactic(auto, unfolding(crate::specs::TextReader::first_of))]
 fn first(text: &[u8], end: u8) -> Option<usize>
     ensures first { result ≡ values.first_of end text.now }
@@ -233,7 +235,7 @@ fn first_by_one(text: &[u8], end: u8) -> Option<usize>
     text.iter().position(|byte| *byte == end)
 }
 
-// How many bytes there are in the whole pieces at the front that have no such byte.
+// How many bytes there are in the whole pieces at the front that have no `end`.
 fn pieces_without(text: &[u8], end: u8) -> usize
     ensures within { result ≤ length text.now }
     ensures passed { position_or_len (λ byte. byte == end) text.now
@@ -246,13 +248,13 @@ fn pieces_without(text: &[u8], end: u8) -> usize
     passed
 }
 
-// Whether there is such a byte. It looks at all bytes, so that many are compared at once.
+// Whether there is an `end`. It looks at all bytes, so that many are compared at once.
 fn has(piece: &[u8], end: u8) -> bool
     ensures { result ≡ list_any (λ byte. byte == end) piece.now }
 {
     let mut found = false;
     for byte in piece {
-        found = found | (*byte == end);
+        found |= *byte == end;
     }
     found
 }

@@ -45,13 +45,13 @@ pub fn is_run(words: &[String]) -> bool
     ensures { IsTrue result ↔ AsksForRun (map string_bytes words.now) }
 {
     match words {
-        [word] => is_run_alone(word.as_str()),
+        [word] => is_run_word(word.as_str()),
         _ => false,
     }
 }
 
-// Whether a single word is `run`.
-fn is_run_alone(word: &str) -> bool
+// Whether a word is `run`.
+fn is_run_word(word: &str) -> bool
     ensures { IsTrue result ↔ AsksForRun (word.now ∷ []) }
 {
     word == "run"

@@ -17,8 +17,7 @@ pub enum Status {
     Done = 0,
     /// The words ask for nothing that the program does.
     WrongWords = 1,
-    /// The bytes are the text of no script; of a program that reads something else, they are not
-    /// that.
+    /// What was read is not in the program's format, as the text of a script is.
     NoScript = 2,
     /// The source failed.
     ReadFault = 3,
@@ -28,8 +27,7 @@ pub enum Status {
     NoMemory = 5,
     /// There are more than 16,777,216 bytes.
     TooLong = 6,
-    /// The script is not within its limits; of a program that reads something else, what that asks
-    /// for is refused.
+    /// What was read is in that format, but is refused, as a script past its limits is.
     Invalid = 7,
 }
 

@@ -133,7 +133,7 @@ impl<'a> Buffer<'a> {
     pub fn get_u128_be(&mut self) -> Result<u128, DhcpError>
         ensures { Reads (λ number. number) result self.old self.new (number_at w128 self.old) }
     {
-        Ok(u128::from_be_bytes(self.get_sixteen()?))
+        Ok(u128::from_be_bytes(self.get_array()?))
     }
 
     /// An address of four bytes. `InvalidDhcpMessage` if and only if fewer are left; the position
@@ -151,15 +151,17 @@ impl<'a> Buffer<'a> {
     pub fn get_ipv6(&mut self) -> Result<Ipv6Addr, DhcpError>
         ensures { Reads (λ address. address) result self.old self.new (ipv6_address_at self.old) }
     {
-        Ok(Ipv6Addr::from(self.get_sixteen()?))
+        let octets: [u8; 16] = self.get_array()?;
+        Ok(Ipv6Addr::from(octets))
     }
 
-    // Sixteen bytes.
+    /// The next `N` bytes, copied. `InvalidDhcpMessage` if and only if fewer are left; the position
+    /// then does not move.
     #[tactic(auto, unfolding(crate::specs::Field::bytes_at))]
-    fn get_sixteen(&mut self) -> Result<[u8; 16], DhcpError>
-        ensures { Reads (λ bytes. bytes) result self.old self.new (bytes_at 16 self.old) }
+    pub fn get_array<const N: usize>(&mut self) -> Result<[u8; N], DhcpError>
+        ensures { Reads (λ bytes. bytes) result self.old self.new (bytes_at N self.old) }
     {
-        let Some((bytes, left)) = self.left.split_first_chunk::<16>() else {
+        let Some((bytes, left)) = self.left.split_first_chunk::<N>() else {
             return Err(DhcpError::invalid_message(FixedText::Short));
         };
         self.left = left;

@@ -64,7 +64,7 @@ pub fn rising_codes_with<C: OptionCode>(
     ensures { Makes (λ codes. codes) result
         (rising_codes C.Number.cmp C.code_of (map C.number_of codes.now ++ numbers.now)) }
 {
-    let mut all = Vec::with_capacity(alloc, codes.len())?;
+    let mut all = Vec::with_capacity(alloc, codes.len().saturating_add(numbers.len()))?;
     for code in codes {
         all.push(code.number())?;
     }

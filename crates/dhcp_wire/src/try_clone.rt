@@ -23,7 +23,7 @@ pub fn copied<T: TryClone>(alloc: Global, kept: Option<&T>) -> Result<Option<T>,
     }
 }
 
-/// The same of a list whose items are copied as they are.
+/// A copy of a list of `Copy` items, if there is one; out of memory is the only error.
 pub fn copied_list<T: Copy>(
     alloc: Global,
     kept: Option<&Sequence<T>>,

@@ -5,7 +5,7 @@ use Rattle.std.specs.declared.net.Ipv4Addr.{Ipv4Addr}
 use Rattle.dhcp_wire.specs.Outcome.{AppendsFront, Emits}
 use Rattle.dhcp_wire.proofs.EmitLemmas.{emits_exit, emits_last, emits_appends, front_first}
 use Rattle.dhcp4_msg.specs.Value.{written_addresses}
-use Rattle.dhcp4_msg.proofs.message.DhcpV4Message.emit_addresses.Goals as goal
+use Rattle.dhcp4_msg.proofs.message.DhcpV4Message.emit_address_fields.Goals as goal
 
 -- four addresses and what comes after them
 four : (a b c d : Ipv4Addr) (later : List ℕ) →
