@@ -28,6 +28,8 @@ import tempfile
 import time
 import traceback
 
+from script_of_transcript import script_of
+
 PATHS = "/usr/sbin:/sbin:/usr/bin:/bin:/lib/systemd"
 os.environ["PATH"] += ":" + PATHS
 
@@ -676,25 +678,10 @@ def installed():
 
 # The transcripts
 
-def as_script(text):
-    """A transcript as a script: its random words on one line, and with `end` if the carrier was
-    killed."""
-    lines = text.splitlines()
-    words = "".join(line.split()[1] for line in lines if line.startswith("words "))
-    whole, seen = [], False
-    for line in lines:
-        if not line.startswith("words "):
-            whole.append(line)
-        elif not seen:
-            whole.append("words " + words)
-            seen = True
-    return "\n".join(whole + ["end"] * (whole[-1:] != ["end"])) + "\n"
-
-
 def replays(lab, transcript, answers):
     """Whether `run` writes of a transcript what the program answered in its course."""
     with open(lab.path(transcript)) as file:
-        script = as_script(file.read())
+        script = script_of(file.read())
     with open(lab.path(answers)) as file:
         lines = file.read().splitlines()
     said = [line for line in lines if not line.startswith(("next ", "dropped "))]
