@@ -38,7 +38,7 @@ abbrev pub GivesRequest : Result (Option Request) ErrorParts → List (List ℕ)
 GivesRequest (Ok request) words = IsRequestIn request words
 GivesRequest (Err e) words = e ≡ no_memory
 
--- the interface id of such bytes, which are none where there is none
+-- the interface id that these bytes give: none if there are no bytes
 abbrev pub interface_of : List ℕ → Option (List ℕ)
 interface_of [] = None
 interface_of (byte ∷ bytes) = Some (byte ∷ bytes)

@@ -18,7 +18,8 @@ pub enum RelayError {
     Short,
     /// A relay message has no Relay Message option.
     NoMessage,
-    /// A message was relayed nine times already: its hop count is 8, or it has ten layers.
+    /// A message was relayed too often: the hop count of a Relay-forward that is to be relayed is 8
+    /// or more, or one that is to be answered has more than nine layers.
     TooManyHops,
     /// The result would be longer than 65,535 bytes.
     TooLong,

@@ -84,7 +84,7 @@ fn inner_of(alloc: Global, message: &[u8]) -> Result<Bytes, RelayError>
     Ok(relay.inner)
 }
 
-// The interface id of such bytes, which are none where there is none.
+// The interface id that these bytes give: none if there are no bytes.
 fn interface_of(bytes: &[u8]) -> Option<&[u8]>
     ensures { option_copied result ≡ requests.interface_of bytes.now }
 {

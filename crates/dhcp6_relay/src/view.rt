@@ -1,8 +1,6 @@
 //! A relay message in the bytes that it was received in, RFC 8415 section 9.
 
 ghost use Rattle.std.specs.Prelude.{◌≡◌, option_copied};
-ghost use Rattle.std.specs.Int.{w8};
-ghost use Rattle.dhcp_wire.specs.Field.{ipv6_address_at, number_at};
 ghost use Rattle.dhcp_wire.specs.Outcome.{Finds, Makes};
 ghost use Rattle.dhcp_wire.specs.RawOption.{raw_options};
 ghost use Rattle.dhcp6_relay.specs.Layer as layers;
@@ -12,10 +10,9 @@ ghost use Rattle.dhcp6_relay.specs.Relay as relays;
 use crate::error::out_of_memory;
 use crate::layer::{HEADER_LEN, INTERFACE_ID, Layer, RELAY_FORWARD, RELAY_MESSAGE, RELAY_REPLY};
 use crate::{Relay, RelayError};
-use dhcp_wire::{Bytes, DhcpError, OptionFormat, RawOptions};
+use dhcp_wire::{Buffer, Bytes, DhcpError, OptionFormat, RawOptions};
 use std::alloc::Global;
 use std::marker::Model;
-use std::net::Ipv6Addr;
 
 /// A relay message in the bytes that it was received in. Contracts see it as the relay message that
 /// the bytes read as.
@@ -58,11 +55,12 @@ impl<'a> RelayView<'a> {
     fn of_bytes(bytes: &'a [u8]) -> Option<Self>
         ensures { Finds (λ view. view) result (relays.read_relay bytes.now) }
     {
-        let (msg_type, rest) = u8_at(bytes)?;
-        let forward = direction_of(msg_type)?;
-        let (hops, rest) = u8_at(rest)?;
-        let (link, rest) = ipv6_address_at(rest)?;
-        let (peer, options) = ipv6_address_at(rest)?;
+        let mut buf = Buffer::new(bytes);
+        let forward = direction_of(buf.get_u8().ok()?)?;
+        let hops = buf.get_u8().ok()?;
+        let link = buf.get_ipv6().ok()?;
+        let peer = buf.get_ipv6().ok()?;
+        let options = buf.get_remains();
         let inner = first_value(options, RELAY_MESSAGE)?;
         let interface = first_value(options, INTERFACE_ID);
         Some(RelayView {
@@ -145,26 +143,6 @@ fn direction_of(msg_type: u8) -> Option<bool>
         RELAY_REPLY => Some(false),
         _ => None,
     }
-}
-
-// The byte at the front, and the bytes after it.
-#[tactic(auto, unfolding(dhcp_wire::specs::Field::bytes_at))]
-fn u8_at(bytes: &[u8]) -> Option<(u8, &[u8])>
-    ensures { Finds (λ found. (found.0, found.1.now)) result (number_at w8 bytes.now) }
-{
-    match bytes {
-        [first, rest @ ..] => Some((*first, rest)),
-        [] => None,
-    }
-}
-
-// The address at the front, and the bytes after it.
-#[tactic(auto, unfolding(dhcp_wire::specs::Field::bytes_at))]
-fn ipv6_address_at(bytes: &[u8]) -> Option<(Ipv6Addr, &[u8])>
-    ensures { Finds (λ found. (found.0, found.1.now)) result (ipv6_address_at bytes.now) }
-{
-    let (octets, rest) = bytes.split_first_chunk::<16>()?;
-    Some((Ipv6Addr::from(*octets), rest))
 }
 
 // The value of the first option of this code.

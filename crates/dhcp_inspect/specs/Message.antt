@@ -1,11 +1,14 @@
 -- The DHCP message that a record carries, as far as its line shows it.
-use Rattle.std.specs.Prelude.{ℕ, Bool, ◌||◌, ◌==◌, List, length, Option, Some, None, option_map, nat_le, if◌then◌else◌}
+use Rattle.std.specs.Prelude.{ℕ, Bool, true, false, ◌||◌, ◌==◌, List, length, Option, Some, None, option_map, nat_le, if◌then◌else◌}
 use Rattle.dhcp_wire.specs.Field.{◌>>=◌}
 use Rattle.dhcp_frame.specs.View.{read_frame}
 use Rattle.dhcp_frame.specs.View6.{read_frame6}
 use Rattle.dhcp4_msg.specs.Message as v4
 use Rattle.dhcp4_msg.specs.Options as options4
 use Rattle.dhcp6_msg.specs.Message as v6
+use Rattle.dhcp6_msg.specs.declared.message.DhcpV6Message.{DhcpV6Message}
+use Rattle.dhcp6_msg.specs.declared.message_type.DhcpV6MessageType.{DhcpV6MessageType}
+use Rattle.dhcp6_msg.specs.declared.message_type.DhcpV6MessageType.TheVariants.{RelayForward, RelayReply}
 use Rattle.dhcp_inspect.specs.Record.{RecordParts}
 use Rattle.dhcp_inspect.specs.declared.message.Message.{Message}
 use Rattle.dhcp_inspect.specs.declared.message.Message.TheVariants.{V4, V6}
@@ -35,6 +38,17 @@ message4_in bytes = do
     yiaddr = message.yiaddr;
   })
 
+-- whether a DHCPv6 message of this type is a relay's (RFC 8415, section 9)
+abbrev pub is_of_relay : DhcpV6MessageType → Bool
+is_of_relay RelayForward = true
+is_of_relay RelayReply = true
+is_of_relay kind = false
+
+-- the transaction id of a DHCPv6 message; a relay's has none
+abbrev pub transaction_id : DhcpV6Message → Option ℕ
+transaction_id message =
+    if is_of_relay message.msg_type then None else Some (v6.id_number message.xid)
+
 -- the DHCPv6 message of a frame
 unfoldable pub message6_in : List ℕ → Option Message6
 message6_in bytes = do
@@ -46,7 +60,7 @@ message6_in bytes = do
     source = frame.src_ip;
     destination = frame.dst_ip;
     message_type = message.msg_type;
-    xid = v6.id_number message.xid;
+    xid = transaction_id message;
   })
 
 -- the message of a frame of either family, if that of DHCPv4 is this one

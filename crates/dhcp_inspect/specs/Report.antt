@@ -1,6 +1,6 @@
 -- The report on a capture file: a line for each record that carries a DHCP message, in their order,
 -- and a last line.
-use Rattle.std.specs.Prelude.{ℕ, ◌+◌, ◌-◌, ◌==◌, Bool, ◌||◌, List, [], ◌∷◌, ◌++◌, length, replicate, codes, Option, Some, None, option_map, if◌then◌else◌}
+use Rattle.std.specs.Prelude.{ℕ, ◌+◌, ◌-◌, ◌==◌, List, [], ◌∷◌, ◌++◌, length, replicate, codes, Option, Some, None, option_map, if◌then◌else◌}
 use Rattle.std.specs.Fmt.{decimal}
 use Rattle.std.specs.Int.{w32, to_be_bytes}
 use Rattle.hex.specs.Hex.{encode_lower}
@@ -40,14 +40,10 @@ abbrev pub type4_text : Option DhcpV4MessageType → List ℕ
 type4_text None = codes "-"
 type4_text (Some kind) = v4.type_name kind
 
--- the number is that of a type of relays' messages: Relay-forward or Relay-reply
-abbrev pub is_of_relay : ℕ → Bool
-is_of_relay number = number == 12 || number == 13
-
--- the transaction id of a DHCPv6 message whose type has this number, in hex; `-` for a message of a
--- relay, which has none
-abbrev pub id6_text : ℕ → ℕ → List ℕ
-id6_text number id = if is_of_relay number then codes "-" else encode_lower (id_bytes id)
+-- the transaction id of a DHCPv6 message in hex, `-` where it has none
+abbrev pub id6_text : Option ℕ → List ℕ
+id6_text None = codes "-"
+id6_text (Some id) = encode_lower (id_bytes id)
 
 -- the type of a DHCPv4 message, its transaction id, and the address that the server gives
 unfoldable pub content4_text : Message4 → List ℕ
@@ -73,7 +69,7 @@ message6_text message = spaced (
     ∷ address6_text message.source
     ∷ address6_text message.destination
     ∷ decimal (v6.type_number message.message_type)
-    ∷ id6_text (v6.type_number message.message_type) message.xid
+    ∷ id6_text message.xid
     ∷ [])
 
 -- what a line says of a message

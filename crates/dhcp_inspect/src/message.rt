@@ -43,9 +43,8 @@ pub struct Message6 {
     pub destination: Ipv6Addr,
     /// Its type.
     pub message_type: DhcpV6MessageType,
-    /// Its transaction id, of 24 bits. In a relay's message, which has none, the bytes at its
-    /// place: the hop count and the first two of the link address.
-    pub xid: u32,
+    /// Its transaction id, of 24 bits. A relay's message has none (RFC 8415 section 9).
+    pub xid: Option<u32>,
 }
 
 impl<'a> Record<'a> {
@@ -99,8 +98,18 @@ fn message6_in(bytes: &[u8]) -> Option<Message6>
         source: frame.src_ip(),
         destination: frame.dst_ip(),
         message_type: message.msg_type(),
-        xid: message.xid(),
+        xid: transaction_id(&message),
     })
+}
+
+// The transaction id of a DHCPv6 message; a relay's has none.
+fn transaction_id(message: &DhcpV6View) -> Option<u32>
+    ensures { result ≡ messages.transaction_id message.now }
+{
+    match message.msg_type() {
+        DhcpV6MessageType::RelayForward | DhcpV6MessageType::RelayReply => None,
+        _ => Some(message.xid()),
+    }
 }
 
 // Whether a port is of DHCPv4: of servers, or of clients.

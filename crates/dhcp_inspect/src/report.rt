@@ -28,11 +28,6 @@ use dhcp_wire::{Bytes, DhcpError};
 use dhcp4_msg::DhcpV4MessageType;
 use std::alloc::{AllocError, Global};
 
-// The numbers of the types of relays' messages, RFC 8415 section 7.3.
-const RELAY_FORWARD: u8 = 12;
-
-const RELAY_REPLY: u8 = 13;
-
 /// The report on a capture file: a line for each record that carries a DHCP message, in their
 /// order, each once, and a last line, `ok` or `cut` and the number of bytes that remain after the
 /// last whole record. None if and only if the file has fewer than 24 bytes, another magic number or
@@ -183,19 +178,18 @@ fn push_message6(text: &mut String, message: &Message6) -> Result<(), AllocError
     text.push(' ')?;
     push_octets(text, &message.destination.octets())?;
     write!(text, " {number} ")?;
-    push_id6(text, number, message.xid)
+    push_id6(text, message.xid)
 }
 
-// Puts the transaction id of a DHCPv6 message whose type has this number at the end of a text, or
-// `-` for a message of a relay.
+// Puts the transaction id of a DHCPv6 message at the end of a text, or `-` where it has none.
 #[tactic(auto, unfolding(dhcp6_msg::specs::Message::id_bytes))]
-fn push_id6(text: &mut String, number: u8, xid: u32) -> Result<(), AllocError>
+fn push_id6(text: &mut String, xid: Option<u32>) -> Result<(), AllocError>
     ensures { OnOk result (string_bytes text.new
-        ≡ string_bytes text.old ++ id6_text number xid) }
+        ≡ string_bytes text.old ++ id6_text xid) }
 {
-    match number {
-        RELAY_FORWARD | RELAY_REPLY => text.push('-'),
-        _ => push_octets(text, &xid.to_be_bytes()[1..]),
+    match xid {
+        Some(xid) => push_octets(text, &xid.to_be_bytes()[1..]),
+        None => text.push('-'),
     }
 }
 

@@ -5,4 +5,4 @@ use Rattle.dhcp6_relay.specs.Tool.{messages}
 use Rattle.dhcp6_relay.proofs.tool.carry_out.Goals as goal
 
 pub returns-in-Err-clause-ends : goal.returns-in-Err-clause-ends
-returns-in-Err-clause-ends g c = ends_early (Reads (messages c.args.request.now)) c.in-Err.status _ c.in-Err.ensures
+returns-in-Err-clause-ends g c = ends_early (Reads (messages c.args.request.now)) c.in-Err.status _ c.in-Err.ensures.answers
