@@ -50,6 +50,9 @@ pub(crate) struct At {
 // What a client reports.
 type ClientReport = Report<StateReport<DhcpV4State>, Handed>;
 
+/// What a client reports of an event, in order.
+pub(crate) type ClientReports = Vec<NumberedReport<StateReport<DhcpV4State>, Handed>>;
+
 impl NetLog {
     /// Nothing was sent or reported.
     pub(crate) fn new(alloc: Global) -> NetLog
@@ -134,7 +137,7 @@ impl NetLog {
         &mut self,
         at: At,
         client: u32,
-        outputs: Vec<NumberedReport<StateReport<DhcpV4State>, Handed>>,
+        outputs: ClientReports,
     ) -> Result<(), DhcpError>
         requires { at.moment < 2 ^ 60 }
         ensures { Becomes result self.new

@@ -8,10 +8,11 @@ ghost use Rattle.dhcp4_net.specs.Clients as clients;
 ghost use Rattle.dhcp4_net.specs.Clients.{IsPeer, Plays};
 
 use crate::NetClient;
-use dhcp_clock::{Handed, Packet, WordList};
-use dhcp_history::{NumberedEvent, NumberedReport, StateReport};
+use crate::log::ClientReports;
+use dhcp_clock::{Packet, WordList};
+use dhcp_history::NumberedEvent;
 use dhcp_wire::DhcpError;
-use dhcp4_client::{DhcpV4Client, DhcpV4State};
+use dhcp4_client::DhcpV4Client;
 use dhcp4_lease::DhcpV4Config;
 use std::alloc::Global;
 
@@ -87,7 +88,7 @@ impl Peer {
         &mut self,
         alloc: Global,
         event: NumberedEvent<Packet>,
-    ) -> Result<Vec<NumberedReport<StateReport<DhcpV4State>, Handed>>, DhcpError>
+    ) -> Result<ClientReports, DhcpError>
         requires { event.moment < 2 ^ 60 }
         ensures plays { IfOk result (λ reported. Plays event reported.items self.old self.new) }
         ensures error { IfErr result (λ error. error ≡ no_memory) }

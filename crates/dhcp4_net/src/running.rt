@@ -14,13 +14,12 @@ ghost use Rattle.dhcp4_net.specs.Running.{ArePeers, PlaysAt, StandsForNet, Steps
 ghost use Rattle.dhcp4_net.specs.Clients.{net_at, views_of};
 ghost use Rattle.dhcp4_net.specs.Script.{configs_of, is_early};
 
-use crate::log::{At, NetLog, SentPacket};
+use crate::log::{At, ClientReports, NetLog, SentPacket};
 use crate::peer::{Peer, begun};
 use crate::{NetAct, NetClient, NetEvent, NetOutput, NetScript, NetWho};
-use dhcp_clock::{Handed, Packet};
-use dhcp_history::{Input, NumberedEvent, NumberedReport, StateReport};
+use dhcp_clock::Packet;
+use dhcp_history::{Input, NumberedEvent};
 use dhcp_wire::{Bytes, DhcpError};
-use dhcp4_client::DhcpV4State;
 use dhcp4_server::{DhcpV4Server, ServerAnswer};
 use std::alloc::Global;
 
@@ -83,7 +82,7 @@ fn play_at(
     peers: &mut [Peer],
     client: usize,
     event: NumberedEvent<Packet>,
-) -> Result<Vec<NumberedReport<StateReport<DhcpV4State>, Handed>>, DhcpError>
+) -> Result<ClientReports, DhcpError>
     requires moment { event.moment < 2 ^ 60 }
     requires inside { client < length peers.old }
     ensures plays { IfOk result (λ reported.

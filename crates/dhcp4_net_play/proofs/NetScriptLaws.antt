@@ -15,13 +15,13 @@ use Rattle.dhcp4_net.specs.declared.script.NetEvent.{NetEvent}
 use Rattle.dhcp4_net.specs.declared.script.NetScript.{NetScript}
 use Rattle.dhcp4_net_play.specs.Lines.{lines_at}
 use Rattle.dhcp4_net_play.specs.NetScript.{IsClient, IsEvent, IsNetScript, IsServer, client_line, client_text, event_line, event_text, events_text, first_line, first_lines, net_script_text, server_text}
-use Rattle.dhcp4_net_play.specs.Reader.{Server1, client_at, event_at, script_at, script_in, script_of, server_at, server_of}
+use Rattle.dhcp4_net_play.specs.Reader.{ServerParts, client_at, event_at, script_at, script_in, script_of, server_at, server_of}
 use Rattle.dhcp4_net_play.proofs.FieldLaws.{IsCodec-client, IsCodec-event, mac_field, u64_field}
 use Rattle.dhcp4_net_play.proofs.LineLaws.{IsCodec-lines, lines_text}
 
 -- ---- the server
 
-server_parts : ServerConfig → Server1
+server_parts : ServerConfig → ServerParts
 server_parts server = (server.ip, (server.mac, (server.mask, (server.first, (server.count, (server.lease_sec, server.bound_ms))))))
 
 codec_server : IsCodec (λ server. line (codes "server " ++ server_text server)) IsServer server_at

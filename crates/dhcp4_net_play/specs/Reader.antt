@@ -22,23 +22,27 @@ use Rattle.dhcp4_net_play.specs.NetScript.{first_line}
 abbrev pub u64_at : ℕ → List ℕ → Read ℕ
 u64_at end text = in_field (number_in 18446744073709551615) end text
 
--- the parts of a server: those up to its mask, and the others
-abbrev pub Server2 : Type 0
-Server2 = Ipv4Addr × (ℕ × (ℕ × ℕ))
+-- the pool of a server, as it is read: its first address, how many there are, the seconds of a
+-- lease, and the longest delay of a packet in milliseconds
+abbrev pub ServerPool : Type 0
+ServerPool = Ipv4Addr × (ℕ × (ℕ × ℕ))
 
-abbrev pub Server1 : Type 0
-Server1 = Ipv4Addr × (List ℕ × (Ipv4Addr × Server2))
+-- a server, as it is read: its address, its MAC address, the subnet mask, and its pool
+abbrev pub ServerParts : Type 0
+ServerParts = Ipv4Addr × (List ℕ × (Ipv4Addr × ServerPool))
 
-abbrev pub server_of : Server1 → ServerConfig
-server_of parts = record {
-  ip = parts.0;
-  mac = parts.1.0;
-  mask = parts.1.1.0;
-  first = parts.1.1.1.0;
-  count = parts.1.1.1.1.0;
-  lease_sec = parts.1.1.1.1.1.0;
-  bound_ms = parts.1.1.1.1.1.1;
-}
+abbrev pub server_of : ServerParts → ServerConfig
+server_of parts =
+    let pool : ServerPool = parts.1.1.1 in
+    record {
+      ip = parts.0;
+      mac = parts.1.0;
+      mask = parts.1.1.0;
+      first = pool.0;
+      count = pool.1.0;
+      lease_sec = pool.1.1.0;
+      bound_ms = pool.1.1.1;
+    }
 
 -- the line of the server
 unfoldable pub server_at : List ℕ → Read ServerConfig

@@ -14,14 +14,14 @@ pub fn ack_count(file: &[u8]) -> Option<usize>
         (read_capture file.now) }
 {
     let capture = Capture::new(file)?;
-    Some(capture.filter(|packet| is_ack(packet)).count())
+    Some(capture.filter(|record| is_ack(record)).count())
 }
 
 // Whether a record carries an Ack.
-fn is_ack(packet: &Record) -> bool
-    ensures { result ≡ captures.is_ack packet.now }
+fn is_ack(record: &Record) -> bool
+    ensures { result ≡ captures.is_ack record.now }
 {
-    match packet.message() {
+    match record.message() {
         Some(Message::V4(message)) => message.message_type == Some(DhcpV4MessageType::Ack),
         _ => false,
     }
