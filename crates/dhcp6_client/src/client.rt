@@ -55,7 +55,7 @@ impl Model for DhcpV6Client {
 impl DhcpV6Client {
     ghost use Rattle.dhcp_history.specs.Calls.{IsCleanUp, IsListening, IsNextPoll, IsRun};
     ghost use Rattle.dhcp_history.specs.Errors.{run_answer};
-    ghost use Rattle.dhcp_history.specs.Machine.{is_listening};
+    ghost use Rattle.dhcp_history.specs.Machine.{has_open_attempt};
     ghost use Rattle.dhcp_history.specs.Run.{OnNoMemory, UnlessNoMemory};
     ghost use Rattle.dhcp_history.specs.Seen.{seen};
     ghost use Rattle.dhcp_history.specs.Traced.{Traces};
@@ -137,7 +137,7 @@ impl DhcpV6Client {
             PollsUnheard (protocol self.old.config) W.gives now message
             self.old.client self.new.client words.old)
             self.old.client self.new.client link.old link.new) }
-        ensures used { TakesTurns L.moves (is_listening self.old.client.standing.phase)
+        ensures used { TakesTurns L.moves (has_open_attempt self.old.client.standing.phase)
             link.old link.new }
         ensures leases { KeepsLease self.old.config.mode now (run_answer plain_state result)
             self.old.client self.new.client }

@@ -48,7 +48,7 @@ impl Model for DhcpV6InfoClient {
 impl DhcpV6InfoClient {
     ghost use Rattle.dhcp_history.specs.Calls.{IsCleanUp, IsListening, IsRun};
     ghost use Rattle.dhcp_history.specs.Errors.{run_answer};
-    ghost use Rattle.dhcp_history.specs.Machine.{is_listening};
+    ghost use Rattle.dhcp_history.specs.Machine.{has_open_attempt};
     ghost use Rattle.dhcp_history.specs.Run.{OnNoMemory, UnlessNoMemory};
     ghost use Rattle.dhcp_history.specs.Seen.{seen};
     ghost use Rattle.dhcp_history.specs.Traced.{Traces};
@@ -109,7 +109,7 @@ impl DhcpV6InfoClient {
             PollsUnheard (protocol self.old.config) W.gives now message
             self.old.client self.new.client words.old)
             self.old.client self.new.client link.old link.new) }
-        ensures used { TakesTurns L.moves (is_listening self.old.client.standing.phase)
+        ensures used { TakesTurns L.moves (has_open_attempt self.old.client.standing.phase)
             link.old link.new }
     {
         crate::laws::table_is_lawful();

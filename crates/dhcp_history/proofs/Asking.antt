@@ -7,7 +7,7 @@ use Rattle.dhcp_history.specs.declared.client.Client.{Client}
 use Rattle.dhcp_history.specs.Protocol.{Protocol, has_come}
 use Rattle.dhcp_history.specs.Calls.{HasListening}
 use Rattle.dhcp_history.specs.Client.{view_of}
-use Rattle.dhcp_history.specs.Machine.{View, Phase, Unpolled, Pausing, Listening, Resting, Stopped, is_listening, is_unpolled, is_stopped, has_ended, limit_is_over, begin_in, begin_stay}
+use Rattle.dhcp_history.specs.Machine.{View, Phase, Unpolled, Pausing, Listening, Resting, Stopped, has_open_attempt, is_unpolled, is_stopped, has_ended, limit_is_over, begin_in, begin_stay}
 use Rattle.dhcp_history.specs.Listening.{may_ask}
 use Rattle.dhcp_history.specs.Traced.{asks_in, asks}
 
@@ -38,7 +38,7 @@ module _ {PublicState State Exchange Answer Lease : Type 0} (p : Protocol Public
   pub asks_polled : (now : ℕ) (view : View State Exchange) → is_unpolled view.phase ≡ false → may_ask p now view ≡ asks p now false view
   asks_polled now view polled =
       rw (polled, begun_same now view polled)
-      (ap (λ (b : Bool). not (is_stopped view.phase || (limit_is_over p now view || has_ended p now view)) && b) (open_or_due (has_come now view.deadline) (is_listening view.phase)))
+      (ap (λ (b : Bool). not (is_stopped view.phase || (limit_is_over p now view || has_ended p now view)) && b) (open_or_due (has_come now view.deadline) (has_open_attempt view.phase)))
 
   -- one that may not does not
   pub asks_none : (now : ℕ) (refuse : Bool) (view : View State Exchange) → may_ask p now view ≡ false → asks p now refuse view ≡ false
@@ -52,12 +52,12 @@ module _ {PublicState State Exchange Answer Lease : Type 0} (p : Protocol Public
       silent Stopped is e none = absurd (cc e)
 
       by_phase : (unpolled : Bool) → is_unpolled view.phase ≡ unpolled →
-          (if unpolled then p.has_attempts view.state else (has_come now view.deadline || is_listening view.phase)) ≡ false → asks_in p now refuse (begin_stay p now view) ≡ false
+          (if unpolled then p.has_attempts view.state else (has_come now view.deadline || has_open_attempt view.phase)) ≡ false → asks_in p now refuse (begin_stay p now view) ≡ false
       by_phase true e none = silent view.phase refl e none
-      by_phase false e none = rw (begun_same now view e) (neither_asks (has_come now view.deadline) (is_listening view.phase) refuse none)
+      by_phase false e none = rw (begun_same now view e) (neither_asks (has_come now view.deadline) (has_open_attempt view.phase) refuse none)
 
       by_end : (lasts : Bool) (phase : Phase) → view.phase ≡ phase →
-          (lasts && (if is_unpolled view.phase then p.has_attempts view.state else (has_come now view.deadline || is_listening view.phase))) ≡ false → (lasts && asks_in p now refuse (begin_stay p now view)) ≡ false
+          (lasts && (if is_unpolled view.phase then p.has_attempts view.state else (has_come now view.deadline || has_open_attempt view.phase))) ≡ false → (lasts && asks_in p now refuse (begin_stay p now view)) ≡ false
       by_end false phase is e = refl
       by_end true phase is e = by_phase (is_unpolled view.phase) refl e
 
@@ -78,6 +78,6 @@ module _ {PublicState State Exchange Answer Lease : Type 0} (p : Protocol Public
     over_deaf client available e = rw e refl
 
     pub ready_asks : (result : Bool) (client : Client State Exchange) (available : List ℕ) → over client available ≡ false →
-        result ≡ (if is_unpolled client.standing.phase then p.has_attempts client.state else (has_come now client.standing.deadline || is_listening client.standing.phase)) →
+        result ≡ (if is_unpolled client.standing.phase then p.has_attempts client.state else (has_come now client.standing.deadline || has_open_attempt client.standing.phase)) →
         result ≡ may_ask p now (view_of client available)
     ready_asks result client available e is = rw e is

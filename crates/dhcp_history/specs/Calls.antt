@@ -11,7 +11,7 @@ use Rattle.dhcp_history.specs.declared.client.Client.{Client}
 use Rattle.dhcp_history.specs.declared.machine.RunError.{RunError}
 use Rattle.dhcp_history.specs.Protocol.{Lawful, Protocol, has_come}
 use Rattle.dhcp_history.specs.Script.{NumberedEvent, NumberedReport, Script, Nothing}
-use Rattle.dhcp_history.specs.Machine.{begin_stay, clean_up, first_view, is_listening, is_stopped, is_unpolled, limit_is_over, poll}
+use Rattle.dhcp_history.specs.Machine.{begin_stay, clean_up, first_view, has_open_attempt, is_stopped, is_unpolled, limit_is_over, poll}
 use Rattle.dhcp_history.specs.History.{history, outputs}
 use Rattle.dhcp_history.specs.Client.{unpolled, view_of}
 use Rattle.dhcp_history.specs.Errors.{release_answer, run_answer, send_refused, sent_of, timed_out}
@@ -71,7 +71,7 @@ module _ {PublicState State Exchange Answer Lease : Type 0}
         ⊎ NeedsMemory needs_memory old.client old.shown))
     -- one message and one packet at most
     pub uses : IfSome old.shown (λ before. IsSomeAnd new.shown (λ after.
-        UsesLink (is_listening old.client.standing.phase) before after))
+        UsesLink (has_open_attempt old.client.standing.phase) before after))
     pub later : old.faults ≤ new.faults
 
   -- A clean-up.

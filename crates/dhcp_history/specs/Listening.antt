@@ -1,7 +1,7 @@
 -- When a client asks its link for a packet.
 use Rattle.std.specs.Prelude.{ℕ, Bool, not, ◌&&◌, ◌||◌, if◌then◌else◌}
 use Rattle.dhcp_history.specs.Protocol.{Protocol, has_come}
-use Rattle.dhcp_history.specs.Machine.{View, has_ended, is_listening, is_stopped, is_unpolled, limit_is_over}
+use Rattle.dhcp_history.specs.Machine.{View, has_ended, has_open_attempt, is_stopped, is_unpolled, limit_is_over}
 
 module _ {PublicState Packet Message State Exchange Answer Lease : Type 0}
     (p : Protocol PublicState Packet Message State Exchange Answer Lease) where
@@ -12,4 +12,4 @@ module _ {PublicState Packet Message State Exchange Answer Lease : Type 0}
   may_ask now view =
       not (is_stopped view.phase || (limit_is_over p now view || has_ended p now view)) &&
       (if is_unpolled view.phase then p.has_attempts view.state
-      else (has_come now view.deadline || is_listening view.phase))
+      else (has_come now view.deadline || has_open_attempt view.phase))
