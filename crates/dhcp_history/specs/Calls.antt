@@ -20,7 +20,7 @@ use Rattle.dhcp_history.specs.Release as release
 use Rattle.dhcp_history.specs.Release.{HasReleased, OnOutOfMemory, UnlessOutOfMemory}
 use Rattle.dhcp_history.specs.Run.{input_of, quiet_poll, HasPolled, HasPolledQuietly, IsSent, IsUnsent, NeedsMemory, OnNoMemory, OnTimeout, UnlessNoMemory, UsesLink, WhereKnown}
 use Rattle.dhcp_history.specs.Kept.{DropsLease, Keeps}
-use Rattle.dhcp_history.specs.Listening.{may_ask}
+use Rattle.dhcp_history.specs.Listening.{is_listening}
 use Rattle.dhcp_history.specs.Schedule.{HasNextAttempt, IsActive, IsIdle, IsSettled, next_poll}
 use Rattle.dhcp_history.specs.Seen.{Seen, seen}
 use Rattle.dhcp_history.specs.Traced.{asks}
@@ -213,7 +213,7 @@ module _ {PublicState State Exchange Answer Lease : Type 0}
   -- sends.
   pub record HasListening (now : ℕ) (result : Bool) (client : Client State Exchange) :
       Type 0 where
-    pub listening : (available : List ℕ) → result ≡ may_ask p now (view_of client available)
+    pub listening : (available : List ℕ) → result ≡ is_listening p now (view_of client available)
     -- a client that was polled in its state asks if and only if this is true
     pub asking : is_unpolled client.standing.phase ≡ false → (available : List ℕ) →
         result ≡ asks p now false (view_of client available)

@@ -8,8 +8,8 @@ module _ {PublicState Packet Message State Exchange Answer Lease : Type 0}
   -- Whether a packet may be asked for at a moment: the client has not stopped and does not stop
   -- then, its state does not end, and an attempt is open, or due and made then. In the first poll
   -- of a state its pause decides whether an attempt is due.
-  abbrev pub may_ask : ℕ → View State Exchange → Bool
-  may_ask now view =
+  abbrev pub is_listening : ℕ → View State Exchange → Bool
+  is_listening now view =
       not (is_stopped view.phase || (limit_is_over p now view || has_ended p now view)) &&
       (if is_unpolled view.phase then p.has_attempts view.state
       else (has_come now view.deadline || has_open_attempt view.phase))
