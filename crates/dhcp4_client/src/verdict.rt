@@ -43,10 +43,10 @@ pub fn packet_verdict(
         client.now.state client.now.standing.exchange packet.now ≡ true) }
 {
     if !is_open(rules, client, now) {
-        return Ok(PacketVerdict::NotListening);
+        return Ok(PacketVerdict::NoOpenAttempt);
     }
     let Some(awaited) = Awaited::in_state(rules.config.message_forms(), &client.state) else {
-        return Ok(PacketVerdict::NotListening);
+        return Ok(PacketVerdict::NoOpenAttempt);
     };
     verdict_of_packet(rules.alloc, awaited, client.standing.exchange.xid, packet)
 }

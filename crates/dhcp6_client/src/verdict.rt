@@ -38,10 +38,10 @@ pub fn packet_verdict(
         client.now.state client.now.standing.exchange packet.now ≡ true) }
 {
     if !is_open(rules, client, now) {
-        return Ok(PacketVerdict::NotListening);
+        return Ok(PacketVerdict::NoOpenAttempt);
     }
     let Some(kind) = awaited_type(&client.state) else {
-        return Ok(PacketVerdict::NotListening);
+        return Ok(PacketVerdict::NoOpenAttempt);
     };
     verdict_of_packet(rules.alloc, kind, client.standing.exchange.xid, packet)
 }
