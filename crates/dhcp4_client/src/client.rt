@@ -60,7 +60,7 @@ impl DhcpV4Client {
     ghost use Rattle.dhcp4_client.specs.Held.{KeepsLease};
     ghost use Rattle.dhcp4_client.specs.declared.state.PlainState.TheVariants as plain;
     ghost use Rattle.dhcp4_lease.specs.Lease.{Lease, are_times_in_order};
-    ghost use Rattle.dhcp4_client.specs.Rules.{protocol, held_lease, lease_end, needs_memory};
+    ghost use Rattle.dhcp4_client.specs.Rules.{protocol, held_lease, lease_end, may_answer};
 
     /// A client with this configuration, and with a lease that it held before, if there is one: it
     /// requests that lease first. It draws its transaction id. `InvalidArgument` if and only if the
@@ -106,7 +106,7 @@ impl DhcpV4Client {
         link: &mut L,
     ) -> Result<Option<DhcpV4State>, DhcpError>
         requires { now < 2 ^ 60 }
-        ensures ran { IsRun protocol plain_state (needs_memory self.old.config.message_forms)
+        ensures ran { IsRun protocol plain_state (may_answer self.old.config.message_forms)
             now result
             (seen self.old (W.left words.old) (L.shown link.old) (L.faults link.old))
             (seen self.new (W.left words.new) (L.shown link.new) (L.faults link.new)) }

@@ -18,7 +18,7 @@ use Rattle.dhcp_history.specs.Errors.{release_answer, run_answer, send_refused, 
 use Rattle.dhcp_history.specs.EventLoop.{HasReported, event_at, events_at, last_moment}
 use Rattle.dhcp_history.specs.Release as release
 use Rattle.dhcp_history.specs.Release.{HasReleased, OnOutOfMemory, UnlessOutOfMemory}
-use Rattle.dhcp_history.specs.Run.{input_of, quiet_poll, HasPolled, HasPolledQuietly, IsSent, IsUnsent, NeedsMemory, OnNoMemory, OnTimeout, UnlessNoMemory, UsesLink, WhereKnown}
+use Rattle.dhcp_history.specs.Run.{input_of, quiet_poll, HasPolled, HasPolledQuietly, IsSent, IsUnsent, OnNoMemory, OnTimeout, PacketMayAnswer, UnlessNoMemory, UsesLink, WhereKnown}
 use Rattle.dhcp_history.specs.Kept.{DropsLease, Keeps}
 use Rattle.dhcp_history.specs.Listening.{is_listening}
 use Rattle.dhcp_history.specs.Schedule.{HasNextAttempt, IsActive, IsIdle, IsSettled, next_poll}
@@ -30,7 +30,7 @@ use Rattle.dhcp_history.specs.Traced.{asks}
 module _ {PublicState State Exchange Answer Lease : Type 0}
     (p : Protocol PublicState Packet Handed State Exchange Answer Lease) where
   -- One poll. Its answer is given as the rules have it; words and link may be known or not.
-  pub record Polls (needs_memory : State → Exchange → Packet → Bool) (now : ℕ)
+  pub record Polls (may_answer : State → Exchange → Packet → Bool) (now : ℕ)
       (answer : Result (Option PublicState) RunError) (old new : Seen (Client State Exchange)) :
       Type 0 where
     -- where words and link are known, this is the poll of the protocol
@@ -64,11 +64,11 @@ module _ {PublicState State Exchange Answer Lease : Type 0}
     -- with no attempt due, only the reading of a packet needs memory
     pub needed : OnNoMemory answer (is_unpolled old.client.standing.phase ≡ false →
         has_come now old.client.standing.deadline ≡ false →
-        NeedsMemory needs_memory old.client old.shown)
+        PacketMayAnswer may_answer old.client old.shown)
     -- so too at the first poll of a state, where the words are known
     pub due : OnNoMemory answer (IfSome old.words (λ words.
         (has_come now (begin_stay p now (view_of old.client words)).deadline ≡ true)
-        ⊎ NeedsMemory needs_memory old.client old.shown))
+        ⊎ PacketMayAnswer may_answer old.client old.shown))
     -- one message and one packet at most
     pub uses : IfSome old.shown (λ before. IsSomeAnd new.shown (λ after.
         UsesLink (has_open_attempt old.client.standing.phase) before after))
@@ -238,10 +238,10 @@ module _ {Config PublicState State Exchange Answer Lease : Type 0}
   -- One poll, with the errors of a client's calls, by a client whose protocol is lawful. What it
   -- returns is seen as a public state.
   pub record IsRun {Returned : Type 0} (view : Returned → PublicState)
-      (needs_memory : State → Exchange → Packet → Bool) (now : ℕ)
+      (may_answer : State → Exchange → Packet → Bool) (now : ℕ)
       (result : Result (Option Returned) ErrorParts)
       (old new : Seen (ClientParts Config State Exchange)) : Type 0 where
-    pub polls : Polls (protocol old.client.config) needs_memory now (run_answer view result)
+    pub polls : Polls (protocol old.client.config) may_answer now (run_answer view result)
         (rules_seen old) (rules_seen new)
     pub open polls use *
     -- without a change nothing is due

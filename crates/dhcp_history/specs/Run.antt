@@ -202,9 +202,9 @@ pub record IsUnsent {State Exchange : Type 0} (old new : Client State Exchange)
   pub moment : new.last_moment ≡ old.last_moment
   pub link : IfSome before (λ shown. IsSomeAnd after (λ later. later.handed ≡ shown.handed))
 
--- The client listens, and a packet waits whose reading may need memory.
-pub record NeedsMemory {State Exchange : Type 0} (needs_memory : State → Exchange → Packet → Bool)
+-- An attempt is open, and a packet waits that may answer it.
+pub record PacketMayAnswer {State Exchange : Type 0} (may_answer : State → Exchange → Packet → Bool)
     (client : Client State Exchange) (shown : Option Shown) : Type 0 where
   pub listens : has_open_attempt client.standing.phase ≡ true
   pub packet : IfSome shown (λ before. IsSomeAnd before.waiting (λ packet.
-      needs_memory client.state client.standing.exchange packet ≡ true))
+      may_answer client.state client.standing.exchange packet ≡ true))

@@ -15,7 +15,7 @@ ghost use Rattle.dhcp_history.specs.Run.{
   WhereKnown,
   HasReceived,
   HasTransmitted,
-  NeedsMemory,
+  PacketMayAnswer,
   IsShut,
   IsUnsent,
 };
@@ -136,7 +136,7 @@ pub(crate) fn receive<R: Rules, W: Words, L: DhcpLink>(
     ensures moment { client.new.last_moment ≡ client.old.last_moment }
     ensures state { OnErr result (client.new.state ≡ client.old.state) }
     ensures standing { OnErr result (client.new.standing ≡ client.old.standing) }
-    ensures needed { OnErr result (NeedsMemory (R.needs_memory rules.now)
+    ensures needed { OnErr result (PacketMayAnswer (R.may_answer rules.now)
         client.old (L.shown link.old)) }
     ensures lost { OnErr result
         ((packet : Packet) × L.moves (Gives (Some packet)) link.old link.new) }

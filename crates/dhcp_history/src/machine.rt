@@ -14,7 +14,7 @@ ghost use Rattle.dhcp_history.specs.Client.{view_of, view_with, unpolled, silent
 ghost use Rattle.dhcp_clock.specs.Words.{DrawsBy};
 ghost use Rattle.dhcp_history.specs.Traced.{StepsBy, Traces, Works, due_of};
 ghost use Rattle.dhcp_history.specs.Turns.{PollsUnheard, RunsOut, TakesTurns, WorksUnheard};
-ghost use Rattle.dhcp_history.specs.Run.{UsesLink, UnlessNoMemory, OnNoMemory, HasDrawn, HasDue, IsShut, NeedsMemory, IsUnsent, IsSent};
+ghost use Rattle.dhcp_history.specs.Run.{UsesLink, UnlessNoMemory, OnNoMemory, HasDrawn, HasDue, IsShut, PacketMayAnswer, IsUnsent, IsSent};
 
 use crate::attempt::{receive, transmit};
 use crate::schedule::limit_moment;
@@ -206,7 +206,7 @@ fn receive_early<R: Rules, W: Words, L: DhcpLink>(
     ensures shut { has_open_attempt begun.phase ≡ false → IsShut result begun
         (seen client.old (W.left words.old) (L.shown link.old) (L.faults link.old))
         (seen client.new (W.left words.new) (L.shown link.new) (L.faults link.new)) }
-    ensures needed { OnErr result (NeedsMemory (R.needs_memory rules.now)
+    ensures needed { OnErr result (PacketMayAnswer (R.may_answer rules.now)
         client.old (L.shown link.old)) }
     ensures armed { ((R.protocol rules.now).has_attempts client.old.state ≡ true →
         is_some begun.deadline ≡ true) →
@@ -272,7 +272,7 @@ pub fn run<R: Rules, W: Words, L: DhcpLink>(
     link: &mut L,
 ) -> Result<Option<R::PublicState>, RunError>
     requires { now < 2 ^ 60 }
-    ensures polls { Polls (R.protocol rules.now) (R.needs_memory rules.now) now result
+    ensures polls { Polls (R.protocol rules.now) (R.may_answer rules.now) now result
         (seen client.old (W.left words.old) (L.shown link.old) (L.faults link.old))
         (seen client.new (W.left words.new) (L.shown link.new) (L.faults link.new)) }
     ensures traced { UnlessNoMemory result (Traces (R.protocol rules.now) W.gives L.moves now result
