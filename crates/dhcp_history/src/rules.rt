@@ -36,8 +36,8 @@ pub struct NewAttempt<X, M> {
 pub trait Rules {
     /// What the client reports of its state.
     type PublicState: Drop;
-    /// What the client is in, with what that rests on: an offer, or a lease and the moment at
-    /// which it was taken.
+    /// The state of the client, with what it rests on: an offer, or a lease and the moment at which
+    /// it was taken.
     type State: Drop;
     /// What is kept from one attempt to the next: the transaction id, how often the client has
     /// sent, its previous wait.

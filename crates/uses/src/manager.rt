@@ -26,7 +26,7 @@ pub trait ManagedClient {
     /// A state that it reports.
     type State: Drop;
 
-    // What contracts see of a reported state, of what the client is in, of what it keeps from one
+    // What contracts see of a reported state, of the state of the client, of what it keeps from one
     // attempt to the next, of what a packet answers, and of a lease.
     ghost PublicState: { Type 0 };
 
