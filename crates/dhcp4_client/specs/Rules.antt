@@ -142,10 +142,10 @@ abbrev pub reading : DhcpV4MessageForms → ClientState → Exchange → Packet 
 reading forms state exchange packet words =
     reading_of (awaited forms state) (message_in forms state exchange packet) words
 
--- Reading a packet may need memory only if its carrier and its transaction id are those of the
--- attempt, and its type, and the server of a Nack, are such that it may answer.
-abbrev pub needs_memory : DhcpV4MessageForms → ClientState → Exchange → Packet → Bool
-needs_memory forms state exchange packet = is_some (message_in forms state exchange packet)
+-- A packet may answer an open attempt if its carrier and its transaction id are those of the
+-- attempt, and its type, and the server of a Nack, are those that it awaits.
+abbrev pub may_answer : DhcpV4MessageForms → ClientState → Exchange → Packet → Bool
+may_answer forms state exchange packet = is_some (message_in forms state exchange packet)
 
 -- the next state, with the retry count as it is
 abbrev pub entering : ClientState → Exchange → NextState ClientState Exchange

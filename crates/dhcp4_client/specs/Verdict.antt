@@ -89,7 +89,7 @@ verdict_of_packet awaited xid packet =
 
 -- a packet for a state that awaits this or nothing
 abbrev pub verdict_by : Option Awaited → ℕ → Packet → Verdict
-verdict_by None xid packet = verdicts.NotListening
+verdict_by None xid packet = verdicts.NoOpenAttempt
 verdict_by (Some awaited) xid packet = verdict_of_packet awaited xid packet
 
 -- what a packet is to a client as it stands at a moment
@@ -97,4 +97,4 @@ abbrev pub packet_verdict : Config → Client ClientState Exchange → ℕ → P
 packet_verdict config client now packet =
     if is_open (protocol config) now client
     then verdict_by (awaited config.message_forms client.state) client.standing.exchange.xid packet
-    else verdicts.NotListening
+    else verdicts.NoOpenAttempt

@@ -49,7 +49,7 @@ impl Model for DhcpV4Client {
 impl DhcpV4Client {
     ghost use Rattle.dhcp_history.specs.Calls.{IsCleanUp, IsListening, IsNextPoll, IsRun};
     ghost use Rattle.dhcp_history.specs.Errors.{run_answer};
-    ghost use Rattle.dhcp_history.specs.Machine.{is_listening};
+    ghost use Rattle.dhcp_history.specs.Machine.{has_open_attempt};
     ghost use Rattle.dhcp_history.specs.Run.{OnNoMemory, UnlessNoMemory};
     ghost use Rattle.dhcp_history.specs.Seen.{seen};
     ghost use Rattle.dhcp_history.specs.Traced.{Traces};
@@ -60,7 +60,7 @@ impl DhcpV4Client {
     ghost use Rattle.dhcp4_client.specs.Held.{KeepsLease};
     ghost use Rattle.dhcp4_client.specs.declared.state.PlainState.TheVariants as plain;
     ghost use Rattle.dhcp4_lease.specs.Lease.{Lease, are_times_in_order};
-    ghost use Rattle.dhcp4_client.specs.Rules.{protocol, held_lease, lease_end, needs_memory};
+    ghost use Rattle.dhcp4_client.specs.Rules.{protocol, held_lease, lease_end, may_answer};
 
     /// A client with this configuration, and with a lease that it held before, if there is one: it
     /// requests that lease first. It draws its transaction id. `InvalidArgument` if and only if the
@@ -106,7 +106,7 @@ impl DhcpV4Client {
         link: &mut L,
     ) -> Result<Option<DhcpV4State>, DhcpError>
         requires { now < 2 ^ 60 }
-        ensures ran { IsRun protocol plain_state (needs_memory self.old.config.message_forms)
+        ensures ran { IsRun protocol plain_state (may_answer self.old.config.message_forms)
             now result
             (seen self.old (W.left words.old) (L.shown link.old) (L.faults link.old))
             (seen self.new (W.left words.new) (L.shown link.new) (L.faults link.new)) }
@@ -117,7 +117,7 @@ impl DhcpV4Client {
             PollsUnheard (protocol self.old.config) W.gives now message
             self.old.client self.new.client words.old)
             self.old.client self.new.client link.old link.new) }
-        ensures used { TakesTurns L.moves (is_listening self.old.client.standing.phase)
+        ensures used { TakesTurns L.moves (has_open_attempt self.old.client.standing.phase)
             link.old link.new }
         ensures leases { KeepsLease now (run_answer plain_state result)
             self.old.client self.new.client }

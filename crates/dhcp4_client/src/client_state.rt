@@ -8,7 +8,7 @@ ghost use Rattle.dhcp4_client.specs.Rules as table;
 use dhcp_history::BoundLease;
 use dhcp4_lease::DhcpV4Lease;
 
-/// What a client is in, with what that rests on.
+/// The state of a client, with the offer or lease that it rests on.
 #[derive(Drop)]
 pub enum ClientState {
     /// INIT and SELECTING: it sends Discover messages and awaits offers.

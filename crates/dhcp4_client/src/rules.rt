@@ -57,7 +57,7 @@ impl Rules for ClientRules {
 
     ghost protocol = { λ rules. table.protocol rules.config };
 
-    ghost needs_memory = { λ rules. table.needs_memory rules.config.message_forms };
+    ghost may_answer = { λ rules. table.may_answer rules.config.message_forms };
 
     fn ending_moment(&self, state: &ClientState) -> Option<u64> {
         match state {

@@ -5,7 +5,7 @@ ghost use Rattle.std.specs.Prelude.{◌≡◌, ◌∷◌, [], IfErr, IfOk, OnErr
 ghost use Rattle.dhcp_wire.specs.Error.{no_memory};
 ghost use Rattle.dhcp_verdict.specs.OpenAttempt.{is_open};
 ghost use Rattle.dhcp4_client.specs.Answer as answers;
-ghost use Rattle.dhcp4_client.specs.Rules.{needs_memory, protocol};
+ghost use Rattle.dhcp4_client.specs.Rules.{may_answer, protocol};
 ghost use Rattle.dhcp4_client.specs.Verdict as verdicts;
 
 use crate::answer::{Awaited, Refuser, is_of_type, lease_of, payload_in};
@@ -39,14 +39,14 @@ pub fn packet_verdict(
         found ≡ verdicts.packet_verdict rules.now.config client.now now packet.now) }
     ensures error { IfErr result (λ error. error ≡ no_memory) }
     ensures listening { OnErr result (is_open (protocol rules.now.config) now client.now ≡ true) }
-    ensures needed { OnErr result (needs_memory rules.now.config.message_forms
+    ensures needed { OnErr result (may_answer rules.now.config.message_forms
         client.now.state client.now.standing.exchange packet.now ≡ true) }
 {
     if !is_open(rules, client, now) {
-        return Ok(PacketVerdict::NotListening);
+        return Ok(PacketVerdict::NoOpenAttempt);
     }
     let Some(awaited) = Awaited::in_state(rules.config.message_forms(), &client.state) else {
-        return Ok(PacketVerdict::NotListening);
+        return Ok(PacketVerdict::NoOpenAttempt);
     };
     verdict_of_packet(rules.alloc, awaited, client.standing.exchange.xid, packet)
 }

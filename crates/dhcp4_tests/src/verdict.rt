@@ -195,10 +195,10 @@ fn each_packet_is_an_answer_or_says_why_not(rt: HostRuntime) {
 #[test]
 fn a_packet_answers_between_the_first_message_and_the_time_limit(rt: HostRuntime) {
     const CASES: [(bool, u64, Verdict); 4] = [
-        (false, 0, PacketVerdict::NotListening),
+        (false, 0, PacketVerdict::NoOpenAttempt),
         (true, 0, PacketVerdict::Answer),
         (true, 99_999, PacketVerdict::Answer),
-        (true, 100_000, PacketVerdict::NotListening),
+        (true, 100_000, PacketVerdict::NoOpenAttempt),
     ];
     for &(is_polled, now, wanted) in &CASES {
         let verdict = offered(rt.alloc(), is_polled, now).expect(&rt, "memory");

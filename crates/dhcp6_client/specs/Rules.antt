@@ -156,10 +156,10 @@ abbrev pub reading : ClientState → Exchange → Packet → List ℕ → Drawn 
 reading state exchange packet words =
     undrawn (answer_of (message_for (awaited_type state) exchange.xid packet)) words
 
--- Reading a packet may need memory only if it is a payload, and its transaction id and its type are
+-- A packet may answer an open attempt if it is a payload, and its transaction id and its type are
 -- those that the attempt awaits.
-abbrev pub needs_memory : ClientState → Exchange → Packet → Bool
-needs_memory state exchange packet =
+abbrev pub may_answer : ClientState → Exchange → Packet → Bool
+may_answer state exchange packet =
     is_some (message_for (awaited_type state) exchange.xid packet)
 
 -- an exchange whose count and previous wait begin anew

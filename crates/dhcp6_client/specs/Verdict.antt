@@ -69,7 +69,7 @@ verdict_of_packet kind xid packet = verdict_of_payload kind xid (payload_in pack
 
 -- a packet for a state that awaits this type or nothing
 abbrev pub verdict_by : Option DhcpV6MessageType → ℕ → Packet → Verdict
-verdict_by None xid packet = verdicts.NotListening
+verdict_by None xid packet = verdicts.NoOpenAttempt
 verdict_by (Some kind) xid packet = verdict_of_packet kind xid packet
 
 -- what a packet is to a client as it stands at a moment
@@ -77,4 +77,4 @@ abbrev pub packet_verdict : Config → Client ClientState Exchange → ℕ → P
 packet_verdict config client now packet =
     if is_open (protocol config) now client
     then verdict_by (awaited_type client.state) client.standing.exchange.xid packet
-    else verdicts.NotListening
+    else verdicts.NoOpenAttempt

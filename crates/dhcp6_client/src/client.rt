@@ -55,7 +55,7 @@ impl Model for DhcpV6Client {
 impl DhcpV6Client {
     ghost use Rattle.dhcp_history.specs.Calls.{IsCleanUp, IsListening, IsNextPoll, IsRun};
     ghost use Rattle.dhcp_history.specs.Errors.{run_answer};
-    ghost use Rattle.dhcp_history.specs.Machine.{is_listening};
+    ghost use Rattle.dhcp_history.specs.Machine.{has_open_attempt};
     ghost use Rattle.dhcp_history.specs.Run.{OnNoMemory, UnlessNoMemory};
     ghost use Rattle.dhcp_history.specs.Seen.{seen};
     ghost use Rattle.dhcp_history.specs.Traced.{Traces};
@@ -73,7 +73,7 @@ impl DhcpV6Client {
     ghost use Rattle.dhcp6_client.specs.Held.{KeepsLease};
     ghost use Rattle.dhcp6_client.specs.declared.state.PlainState.TheVariants as plain;
     ghost use Rattle.dhcp6_msg.specs.Lease.{Lease, are_times_in_order, is_within_limits};
-    ghost use Rattle.dhcp6_client.specs.Rules.{protocol, held_lease, lease_end, needs_memory};
+    ghost use Rattle.dhcp6_client.specs.Rules.{protocol, held_lease, lease_end, may_answer};
 
     /// A client with this configuration, and with a lease that it held before, if there is one,
     /// whose times count from this moment, in milliseconds: it renews that lease, unless it asks
@@ -127,7 +127,7 @@ impl DhcpV6Client {
         link: &mut L,
     ) -> Result<Option<DhcpV6State>, DhcpError>
         requires { now < 2 ^ 60 }
-        ensures ran { IsRun protocol plain_state needs_memory now result
+        ensures ran { IsRun protocol plain_state may_answer now result
             (seen self.old (W.left words.old) (L.shown link.old) (L.faults link.old))
             (seen self.new (W.left words.new) (L.shown link.new) (L.faults link.new)) }
         ensures traced { UnlessNoMemory (run_answer plain_state result)
@@ -137,7 +137,7 @@ impl DhcpV6Client {
             PollsUnheard (protocol self.old.config) W.gives now message
             self.old.client self.new.client words.old)
             self.old.client self.new.client link.old link.new) }
-        ensures used { TakesTurns L.moves (is_listening self.old.client.standing.phase)
+        ensures used { TakesTurns L.moves (has_open_attempt self.old.client.standing.phase)
             link.old link.new }
         ensures leases { KeepsLease self.old.config.mode now (run_answer plain_state result)
             self.old.client self.new.client }

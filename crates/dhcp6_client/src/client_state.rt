@@ -9,7 +9,7 @@ use crate::granted_lease::{GrantedLease, expiry};
 use dhcp_history::BoundLease;
 use dhcp6_msg::DhcpV6Lease;
 
-/// What a client is in, with what that rests on.
+/// The state of a client, with the offer or lease that it rests on.
 #[derive(Drop)]
 pub enum ClientState {
     /// It searches for servers.

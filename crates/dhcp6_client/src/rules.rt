@@ -53,7 +53,7 @@ impl Rules for ClientRules {
 
     ghost protocol = { λ rules. table.protocol rules.config };
 
-    ghost needs_memory = { λ rules. table.needs_memory };
+    ghost may_answer = { λ rules. table.may_answer };
 
     fn ending_moment(&self, state: &ClientState) -> Option<u64> {
         match state {

@@ -6,7 +6,7 @@ ghost use Rattle.dhcp_wire.specs.Error.{no_memory};
 ghost use Rattle.dhcp_verdict.specs.OpenAttempt.{is_open};
 ghost use Rattle.dhcp6_msg.specs.Lease.{read_lease};
 ghost use Rattle.dhcp6_client.specs.Answer as answers;
-ghost use Rattle.dhcp6_client.specs.Rules.{needs_memory, protocol};
+ghost use Rattle.dhcp6_client.specs.Rules.{may_answer, protocol};
 ghost use Rattle.dhcp6_client.specs.Verdict as verdicts;
 
 use crate::answer::awaited_type;
@@ -34,14 +34,14 @@ pub fn packet_verdict(
         found ≡ verdicts.packet_verdict rules.now.config client.now now packet.now) }
     ensures error { IfErr result (λ error. error ≡ no_memory) }
     ensures listening { OnErr result (is_open (protocol rules.now.config) now client.now ≡ true) }
-    ensures needed { OnErr result (needs_memory
+    ensures needed { OnErr result (may_answer
         client.now.state client.now.standing.exchange packet.now ≡ true) }
 {
     if !is_open(rules, client, now) {
-        return Ok(PacketVerdict::NotListening);
+        return Ok(PacketVerdict::NoOpenAttempt);
     }
     let Some(kind) = awaited_type(&client.state) else {
-        return Ok(PacketVerdict::NotListening);
+        return Ok(PacketVerdict::NoOpenAttempt);
     };
     verdict_of_packet(rules.alloc, kind, client.standing.exchange.xid, packet)
 }

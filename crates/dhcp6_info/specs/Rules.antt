@@ -99,10 +99,10 @@ answer_of (Done bound) exchange packet = None
 abbrev pub reading : ClientState → Exchange → Packet → List ℕ → Drawn (Option DhcpV6Info)
 reading state exchange packet words = undrawn (answer_of state exchange packet) words
 
--- reading a packet may need memory only if it is a Reply with the transaction id of the attempt
-abbrev pub needs_memory : ClientState → Exchange → Packet → Bool
-needs_memory Inform exchange packet = is_some (reply_for exchange.xid packet)
-needs_memory (Done bound) exchange packet = false
+-- a packet may answer an open attempt if it is a Reply with the transaction id of the attempt
+abbrev pub may_answer : ClientState → Exchange → Packet → Bool
+may_answer Inform exchange packet = is_some (reply_for exchange.xid packet)
+may_answer (Done bound) exchange packet = false
 
 -- an exchange whose previous wait begins anew
 abbrev pub restarted : Exchange → Exchange

@@ -48,13 +48,13 @@ impl Model for DhcpV6InfoClient {
 impl DhcpV6InfoClient {
     ghost use Rattle.dhcp_history.specs.Calls.{IsCleanUp, IsListening, IsRun};
     ghost use Rattle.dhcp_history.specs.Errors.{run_answer};
-    ghost use Rattle.dhcp_history.specs.Machine.{is_listening};
+    ghost use Rattle.dhcp_history.specs.Machine.{has_open_attempt};
     ghost use Rattle.dhcp_history.specs.Run.{OnNoMemory, UnlessNoMemory};
     ghost use Rattle.dhcp_history.specs.Seen.{seen};
     ghost use Rattle.dhcp_history.specs.Traced.{Traces};
     ghost use Rattle.dhcp_history.specs.Turns.{PollsUnheard, RunsOut, TakesTurns};
     ghost use Rattle.dhcp6_info.specs.Client.{Begins, IsNextPoll, can_begin};
-    ghost use Rattle.dhcp6_info.specs.Rules.{protocol, needs_memory};
+    ghost use Rattle.dhcp6_info.specs.Rules.{protocol, may_answer};
 
     /// A client with this configuration, whose mode is not used. An empty identifier becomes that
     /// of the MAC address, or if there is none one at random; any other stays. `InvalidArgument` if
@@ -99,7 +99,7 @@ impl DhcpV6InfoClient {
         link: &mut L,
     ) -> Result<Option<DhcpV6InfoState>, DhcpError>
         requires { now < 2 ^ 60 }
-        ensures ran { IsRun protocol plain_state needs_memory now result
+        ensures ran { IsRun protocol plain_state may_answer now result
             (seen self.old (W.left words.old) (L.shown link.old) (L.faults link.old))
             (seen self.new (W.left words.new) (L.shown link.new) (L.faults link.new)) }
         ensures traced { UnlessNoMemory (run_answer plain_state result)
@@ -109,7 +109,7 @@ impl DhcpV6InfoClient {
             PollsUnheard (protocol self.old.config) W.gives now message
             self.old.client self.new.client words.old)
             self.old.client self.new.client link.old link.new) }
-        ensures used { TakesTurns L.moves (is_listening self.old.client.standing.phase)
+        ensures used { TakesTurns L.moves (has_open_attempt self.old.client.standing.phase)
             link.old link.new }
     {
         crate::laws::table_is_lawful();

@@ -3,7 +3,7 @@
 use crate::given_info::GivenInfo;
 use dhcp_history::BoundLease;
 
-/// What a client is in, with what that rests on.
+/// The state of a client, with the configuration that it rests on.
 #[derive(Drop)]
 pub enum ClientState {
     /// It asks for a configuration.

@@ -6,7 +6,7 @@ use Rattle.dhcp_clock.specs.Words.{Drawn}
 use Rattle.dhcp_clock.specs.declared.link.Handed.{Handed}
 use Rattle.dhcp_clock.specs.declared.link.Packet.{Packet}
 use Rattle.dhcp_history.specs.History.{first_due, reading_of}
-use Rattle.dhcp_history.specs.Machine.{PollEffect, View, attempt_now, begin_in, begin_stay, end_state, has_ended, is_listening, is_stopped, limit_is_over, limit_is_over_in, phase_by, poll, receive, stop, take_answer, transmit, transmit_and_receive}
+use Rattle.dhcp_history.specs.Machine.{PollEffect, View, attempt_now, begin_in, begin_stay, end_state, has_ended, has_open_attempt, is_stopped, limit_is_over, limit_is_over_in, phase_by, poll, receive, stop, take_answer, transmit, transmit_and_receive}
 use Rattle.dhcp_history.specs.declared.client.Phase.{Phase}
 use Rattle.dhcp_history.specs.declared.client.Phase.TheVariants.{Listening, Pausing, Resting, Stopped, Unpolled}
 use Rattle.dhcp_history.specs.Protocol.{Protocol, has_come, pause_of}
@@ -85,7 +85,7 @@ module _ {PublicState State Exchange Answer Lease : Type 0} (p : Protocol Public
       receive p now input handed (with_more more view) ≡ poll_with_more more (receive p now input handed view)
   receive_alike now input handed view more enough =
       let read : Drawn (Option Answer) = reading_of p view.state view.exchange view.words input in
-      cond_alike (poll_with_more more) (is_listening view.phase) _ _ _ _
+      cond_alike (poll_with_more more) (has_open_attempt view.phase) _ _ _ _
       (ap (λ (drawn : Drawn (Option Answer)). take_answer p now handed (with_more more view) drawn.value drawn.left) ((reading_within view.state view.exchange input).alike view.words more enough)
       ∙ take_alike now handed view read.value read.left more)
       refl
@@ -112,7 +112,7 @@ module _ {PublicState State Exchange Answer Lease : Type 0} (p : Protocol Public
   receive_spends : (before now : ℕ) (input : Input Packet) (handed : Option Handed) (view : View State Exchange) → before ≤ length view.words + state_words limits → Spends limits before input (receive p now input handed view)
   receive_spends before now input handed view few =
       let read : Drawn (Option Answer) = reading_of p view.state view.exchange view.words input in
-      cond_both (is_listening view.phase) _ _ (Spends limits before input)
+      cond_both (has_open_attempt view.phase) _ _ (Spends limits before input)
       (λ listens. take_spends before now input handed view read.value read.left (omega (arith, (reading_within view.state view.exchange input).leaves view.words)) (only_packets view.state view.exchange view.words input))
       (λ listens. record { at_most = omega (arith, state_first limits input); then_left = λ next is. absurd (cc is) })
 

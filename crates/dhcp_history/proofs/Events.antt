@@ -4,7 +4,7 @@ use Rattle.std.specs.Prelude.{Option, Some, None, ◌&&◌, ◌||◌}
 use Rattle.dhcp_history.specs.Protocol.{Protocol, Lawful, has_come}
 use Rattle.dhcp_history.specs.Script.{Input, Nothing, Arrival, Release, CleanUp, NumberedEvent, NumberedReport, Changed}
 use Rattle.dhcp_history.specs.History.{limit_moment, reading_of}
-use Rattle.dhcp_history.specs.Machine.{View, PollEffect, EventEffect, is_listening, is_pausing, is_stopped, begin_stay, is_wait_over, exchange_at, has_ended, end_state, stop, attempt_now, transmit, receive, transmit_and_receive, poll, polls, after_poll, handed_output, failed_output}
+use Rattle.dhcp_history.specs.Machine.{View, PollEffect, EventEffect, has_open_attempt, is_pausing, is_stopped, begin_stay, is_wait_over, exchange_at, has_ended, end_state, stop, attempt_now, transmit, receive, transmit_and_receive, poll, polls, after_poll, handed_output, failed_output}
 use Rattle.dhcp_history.specs.Bounds.{count_of, is_change, is_send, poll_count, count_again}
 use Rattle.dhcp_history.proofs.Polls.{not_due, tried_due, tried_early}
 use Rattle.dhcp_history.proofs.Follows.{has_packet, rank, Moves, poll_on, poll_moves, poll_begun, poll_broken, poll_failed, poll_ended, poll_tried, begun_state}
@@ -114,16 +114,16 @@ module _ {PublicState Packet Message State Exchange Answer Lease : Type 0} (p : 
     less : has_packet input ≡ false → has_packet once.left ≡ false
 
   taken_hands : (now : ℕ) (input : Input Packet) (handed : Option Message) (view : View State Exchange) (next : State) → (receive p now input handed view).change ≡ Some next → Hands input (receive p now input handed view)
-  taken_hands now input handed view next e = by_phase (is_listening view.phase) refl
+  taken_hands now input handed view next e = by_phase (has_open_attempt view.phase) refl
     where
-      by_answer : (input' : Input Packet) → input ≡ input' → is_listening view.phase ≡ true → (answer : Option Answer) → (reading_of p view.state view.exchange view.words input).value ≡ answer → Hands input (receive p now input handed view)
+      by_answer : (input' : Input Packet) → input ≡ input' → has_open_attempt view.phase ≡ true → (answer : Option Answer) → (reading_of p view.state view.exchange view.words input).value ≡ answer → Hands input (receive p now input handed view)
       by_answer input' w l None a = absurd (cc (rw (l, a) at e))
       by_answer Nothing w l (Some answer) a = absurd (cc (rw w at a))
       by_answer Release w l (Some answer) a = absurd (cc (rw w at a))
       by_answer CleanUp w l (Some answer) a = absurd (cc (rw w at a))
       by_answer (Arrival packet) w l (Some answer) a = rw (l, a) (record { quiet = λ h. absurd (cc (rw w at h)); after_packet = inr refl; less = λ h. refl })
 
-      by_phase : (b : Bool) → is_listening view.phase ≡ b → Hands input (receive p now input handed view)
+      by_phase : (b : Bool) → has_open_attempt view.phase ≡ b → Hands input (receive p now input handed view)
       by_phase false l = absurd (cc (rw l at e))
       by_phase true l = by_answer input refl l (reading_of p view.state view.exchange view.words input).value refl
 
@@ -225,13 +225,13 @@ module _ {PublicState Packet Message State Exchange Answer Lease : Type 0} (p : 
 
   taken_settles : (now : ℕ) (input : Input Packet) (handed : Option Message) (view : View State Exchange) → has_come now view.deadline ≡ false → has_come now (p.ending_moment view.state) ≡ false →
       (receive p now input handed view).change ≡ None → has_ended p now (receive p now input handed view).view ≡ false
-  taken_settles now input handed view early lasts e = by_phase (is_listening view.phase) refl
+  taken_settles now input handed view early lasts e = by_phase (has_open_attempt view.phase) refl
     where
-      by_answer : is_listening view.phase ≡ true → (answer : Option Answer) → (reading_of p view.state view.exchange view.words input).value ≡ answer → has_ended p now (receive p now input handed view).view ≡ false
+      by_answer : has_open_attempt view.phase ≡ true → (answer : Option Answer) → (reading_of p view.state view.exchange view.words input).value ≡ answer → has_ended p now (receive p now input handed view).view ≡ false
       by_answer l None a = rw (l, a, lasts, l, early)
       by_answer l (Some answer) a = absurd (cc (rw (l, a) at e))
 
-      by_phase : (b : Bool) → is_listening view.phase ≡ b → has_ended p now (receive p now input handed view).view ≡ false
+      by_phase : (b : Bool) → has_open_attempt view.phase ≡ b → has_ended p now (receive p now input handed view).view ≡ false
       by_phase true l = by_answer l (reading_of p view.state view.exchange view.words input).value refl
       by_phase false l = rw (l, lasts, l)
 

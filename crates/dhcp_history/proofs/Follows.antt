@@ -6,7 +6,7 @@ use Rattle.dhcp_history.specs.Protocol.{Protocol, Lawful, has_come, pause_of}
 use Rattle.dhcp_history.specs.Script.{Input, Nothing, Arrival, Release, CleanUp, NumberedEvent, NumberedReport}
 use Rattle.dhcp_history.specs.History.{before, from, ends, overruns, closes, cuts, Progress, exchange_after, Course, course, Transition, transition, first_progress, entry_progress, entry_pause, setting_at, first_due, limit_moment, limit_after, act_outputs, stays, outputs, Setting, reading_of}
 use Rattle.dhcp_history.specs.Script.{input_after_call}
-use Rattle.dhcp_history.specs.Machine.{View, Phase, Unpolled, Pausing, Listening, Resting, Stopped, PollEffect, is_listening, is_unpolled, is_stopped, begin_stay, begin_in, is_wait_over, exchange_at, has_ended, end_state, attempt_now, transmit, receive, transmit_and_receive, stop, poll, enter, polls, after_poll, handed_output, failed_output, replay_from}
+use Rattle.dhcp_history.specs.Machine.{View, Phase, Unpolled, Pausing, Listening, Resting, Stopped, PollEffect, has_open_attempt, is_unpolled, is_stopped, begin_stay, begin_in, is_wait_over, exchange_at, has_ended, end_state, attempt_now, transmit, receive, transmit_and_receive, stop, poll, enter, polls, after_poll, handed_output, failed_output, replay_from}
 use Rattle.dhcp_history.proofs.Steps.{IsPlain, called_plain}
 use Rattle.dhcp_history.proofs.Polls.{setting_of, progress_of, entry_of, reported, turned, rest, stopped_rest, rest_ended, rest_failed, broken_on, closes_ended, changed, timed_out, moved, IsBegun, Follows, Reports, tried_due, tried_early, tried_follows, ran_out_follows}
 
@@ -184,9 +184,9 @@ module _ {PublicState Packet Message State Exchange Answer Lease : Type 0} (p : 
 
     taken_moves : (now : ℕ) (input : Input Packet) (handed : Option Message) (view : View State Exchange) (next : State) →
         (receive p now input handed view).change ≡ Some next → Moves view.state input (receive p now input handed view)
-    taken_moves now input handed view next moves = by_phase (is_listening view.phase) refl
+    taken_moves now input handed view next moves = by_phase (has_open_attempt view.phase) refl
       where
-        by_answer : (input' : Input Packet) → input ≡ input' → is_listening view.phase ≡ true → (answer : Option Answer) → (reading_of p view.state view.exchange view.words input).value ≡ answer →
+        by_answer : (input' : Input Packet) → input ≡ input' → has_open_attempt view.phase ≡ true → (answer : Option Answer) → (reading_of p view.state view.exchange view.words input).value ≡ answer →
             Moves view.state input (receive p now input handed view)
         by_answer input' w e None a = absurd (cc (rw (e, a) at moves))
         by_answer Nothing w e (Some answer) a = absurd (cc (rw w at a))
@@ -196,7 +196,7 @@ module _ {PublicState Packet Message State Exchange Answer Lease : Type 0} (p : 
             let reads : (p.reading view.state view.exchange packet view.words).value ≡ Some answer = rw w at a in
             rw (e, a) (record { fresh = refl; falls = rw w (lawful.rank_answered view.state view.exchange packet view.words answer now reads); calm = λ h. refl })
 
-        by_phase : (b : Bool) → is_listening view.phase ≡ b → Moves view.state input (receive p now input handed view)
+        by_phase : (b : Bool) → has_open_attempt view.phase ≡ b → Moves view.state input (receive p now input handed view)
         by_phase false e = absurd (cc (rw e at moves))
         by_phase true e = by_answer input refl e (reading_of p view.state view.exchange view.words input).value refl
 

@@ -6,7 +6,7 @@ use Rattle.dhcp_clock.specs.declared.link.Handed.{Handed}
 use Rattle.dhcp_clock.specs.Link.{Turn}
 use Rattle.dhcp_history.specs.Protocol.{Protocol, has_come}
 use Rattle.dhcp_history.specs.Script.{Input, Arrival}
-use Rattle.dhcp_history.specs.Machine.{View, Phase, Unpolled, Pausing, Listening, Resting, Stopped, PollEffect, is_listening, is_stopped, limit_is_over, has_ended, attempt_now, begin_stay, begin_in, transmit, receive, transmit_and_receive, poll}
+use Rattle.dhcp_history.specs.Machine.{View, Phase, Unpolled, Pausing, Listening, Resting, Stopped, PollEffect, has_open_attempt, is_stopped, limit_is_over, has_ended, attempt_now, begin_stay, begin_in, transmit, receive, transmit_and_receive, poll}
 use Rattle.dhcp_history.specs.Run.{input_of, answer_of}
 use Rattle.dhcp_history.specs.Traced.{asks_in, asks, IsPollBy}
 use Rattle.dhcp_history.specs.HeardBy.{IsHeard, IsEnded}
@@ -32,7 +32,7 @@ module _ {PublicState State Exchange Answer Lease : Type 0} (p : Protocol Public
     read : (p.reading w.state w.exchange heard w.words).value ≡ Some answer
     next : state ≡ (p.after_answer w.state answer now w.exchange).state
 
-  read_from : (now : ℕ) (packet : Option Packet) (handed : Option Handed) (w : View State Exchange) (next : State) → is_listening w.phase ≡ true →
+  read_from : (now : ℕ) (packet : Option Packet) (handed : Option Handed) (w : View State Exchange) (next : State) → has_open_attempt w.phase ≡ true →
       (receive p now (input_of packet) handed w).change ≡ Some next → IsRead now packet w (receive p now (input_of packet) handed w).view.state
   read_from now None handed w next l e = absurd (cc (rw l at e))
   read_from now (Some packet) handed w next l e = go (p.reading w.state w.exchange packet w.words).value refl
@@ -41,7 +41,7 @@ module _ {PublicState State Exchange Answer Lease : Type 0} (p : Protocol Public
       go None r = absurd (cc (rw (l, r) at e))
       go (Some answer) r = record { heard = packet; answer = answer; given = refl; read = r; next = rw (l, r) }
 
-  deaf : (now : ℕ) (input : Input Packet) (handed : Option Handed) (w : View State Exchange) (next : State) → is_listening w.phase ≡ false → (receive p now input handed w).change ≡ Some next → ⊥
+  deaf : (now : ℕ) (input : Input Packet) (handed : Option Handed) (w : View State Exchange) (next : State) → has_open_attempt w.phase ≡ false → (receive p now input handed w).change ≡ Some next → ⊥
   deaf now input handed w next l e = absurd (cc (rw l at e))
 
   module _ (now : ℕ) (refuse : Bool) (packet : Option Packet) (old : View State Exchange) where
@@ -55,7 +55,7 @@ module _ {PublicState State Exchange Answer Lease : Type 0} (p : Protocol Public
       asking : asks_in p now refuse w ≡ true → asks p now refuse old ≡ true
       asking h = rw (b, f, e) h
 
-      works_in : (r : Bool) → refuse ≡ r → (c : Bool) → has_come now w.deadline ≡ c → (l : Bool) → is_listening w.phase ≡ l →
+      works_in : (r : Bool) → refuse ≡ r → (c : Bool) → has_come now w.deadline ≡ c → (l : Bool) → has_open_attempt w.phase ≡ l →
           (next : State) → (transmit_and_receive p now refuse (input_of packet) w).change ≡ Some next →
           IsHeard p now refuse packet old (transmit_and_receive p now refuse (input_of packet) w).view
       works_in true rr true d l ll next h =
@@ -102,7 +102,7 @@ module _ {PublicState State Exchange Answer Lease : Type 0} (p : Protocol Public
       worked : Changes (poll p now refuse (input_of packet) old)
       worked =
           let same : poll p now refuse (input_of packet) old ≡ transmit_and_receive p now refuse (input_of packet) w = rw (b, f, e) in
-          subst Changes (sym same) (λ next h. inr (works_in refuse refl (has_come now w.deadline) refl (is_listening w.phase) refl next h))
+          subst Changes (sym same) (λ next h. inr (works_in refuse refl (has_come now w.deadline) refl (has_open_attempt w.phase) refl next h))
 
     by_end : is_stopped old.phase ≡ false → limit_is_over p now old ≡ false → (c : Bool) → has_ended p now old ≡ c → Changes (poll p now refuse (input_of packet) old)
     by_end b f true e = rw (b, f, e) (λ next h. inl refl)

@@ -14,7 +14,7 @@ use Rattle.dhcp_history.specs.declared.client.Phase.{Phase}
 use Rattle.dhcp_history.specs.declared.client.Phase.TheVariants.{Unpolled, Pausing, Listening, Resting, Stopped}
 use Rattle.dhcp_history.specs.EventLoop.{call_at, event_at, polls_at}
 use Rattle.dhcp_history.specs.History.{after_wait_if, reading_of}
-use Rattle.dhcp_history.specs.Machine.{EventEffect, PollEffect, View, after_poll, attempt_now, begin_in, begin_stay, call_by, clean_up, end_state, exchange_at, failed_output, handed_output, has_ended, is_listening, is_pausing, is_stopped, is_wait_over, limit_is_over, poll, polls, receive, release_of, stop, take_answer, transmit, transmit_and_receive}
+use Rattle.dhcp_history.specs.Machine.{EventEffect, PollEffect, View, after_poll, attempt_now, begin_in, begin_stay, call_by, clean_up, end_state, exchange_at, failed_output, handed_output, has_ended, has_open_attempt, is_pausing, is_stopped, is_wait_over, limit_is_over, poll, polls, receive, release_of, stop, take_answer, transmit, transmit_and_receive}
 use Rattle.dhcp_history.specs.Protocol.{Protocol, has_come}
 use Rattle.dhcp_history.specs.Script.{after_call, input_after_call}
 use Rattle.dhcp_history.specs.KeptByEvent as kept
@@ -93,7 +93,7 @@ module _ {PublicState State Exchange Answer Lease : Type 0} (p : Protocol Public
 
   received : (now : ℕ) (input : Input Packet) (handed : Option Message) (view : View State Exchange) → now ≡ moment → Good view.exchange → Held view.state → ComesIn input → IfSome handed Fits → Polled (receive p now input handed view)
   received now input handed view at g h comes fits =
-      either (is_listening view.phase)
+      either (has_open_attempt view.phase)
       (take_answer p now handed view (reading_of p view.state view.exchange view.words input).value (reading_of p view.state view.exchange view.words input).left)
       (record { view = view; handed = handed; left = input; change = None; failed = false })
       (taken now handed view (reading_of p view.state view.exchange view.words input).value (reading_of p view.state view.exchange view.words input).left g h fits

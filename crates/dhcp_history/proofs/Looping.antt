@@ -13,7 +13,7 @@ use Rattle.dhcp_history.specs.declared.release.ReleaseError.TheVariants as relea
 use Rattle.dhcp_history.specs.Protocol.{Protocol, Lawful, has_come}
 use Rattle.dhcp_history.specs.Script.{Input, Nothing, Arrival, Release, CleanUp, NumberedEvent, NumberedReport, Changed, Script, after_call}
 use Rattle.dhcp_history.specs.History.{history, outputs, reading_of}
-use Rattle.dhcp_history.specs.Machine.{View, PollEffect, EventEffect, is_listening, is_stopped, limit_is_over, has_ended, begin_stay, attempt_now, transmit, take_answer, receive, transmit_and_receive, poll, after_poll, clean_up, release_of, replay_from, first_view, handed_output}
+use Rattle.dhcp_history.specs.Machine.{View, PollEffect, EventEffect, has_open_attempt, is_stopped, limit_is_over, has_ended, begin_stay, attempt_now, transmit, take_answer, receive, transmit_and_receive, poll, after_poll, clean_up, release_of, replay_from, first_view, handed_output}
 use Rattle.dhcp_history.specs.Run.{input_of, waiting_of, handed_by, shown_after, UnlessNoMemory, answer_by, answer_of, HasPolled}
 use Rattle.dhcp_history.specs.Release.{UnlessOutOfMemory, ReleaseEffect, release_by, release_held, HasReleased}
 use Rattle.dhcp_history.proofs.Calls.{replay_history}
@@ -92,13 +92,13 @@ module _ {PublicState State Exchange Answer Lease : Type 0} (p : Protocol Public
     all_left (Some packet') = refl
 
     receive_left : (handed : Option Handed) (view : View State Exchange) → IsPacket (receive p now (input_of packet) handed view).left
-    receive_left handed view = by_phase (is_listening view.phase) refl
+    receive_left handed view = by_phase (has_open_attempt view.phase) refl
       where
         by_answer : (answer : Option Answer) (words : List ℕ) → IsPacket (take_answer p now handed view answer words).left
         by_answer None words = refl
         by_answer (Some answer) words = refl
 
-        by_phase : (b : Bool) → is_listening view.phase ≡ b → IsPacket (receive p now (input_of packet) handed view).left
+        by_phase : (b : Bool) → has_open_attempt view.phase ≡ b → IsPacket (receive p now (input_of packet) handed view).left
         by_phase true e = rw e (let read = reading_of p view.state view.exchange view.words (input_of packet) in by_answer read.value read.left)
         by_phase false e = rw e (all_left packet)
 

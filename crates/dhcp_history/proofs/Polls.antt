@@ -8,7 +8,7 @@ use Rattle.dhcp_clock.specs.Words.{Drawn}
 use Rattle.dhcp_history.specs.Protocol.{Protocol, Lawful, NextState, has_come}
 use Rattle.dhcp_history.specs.Script.{Input, NumberedEvent, NumberedReport, Changed, Handed, Refused, Failed, TimedOut}
 use Rattle.dhcp_history.specs.History.{before, from, is_at_or_past, ends, overruns, closes, cuts, LastAttempt, NoneYet, Open, Unsent, is_open, last_by, Progress, exchange_after, runs_out, Course, course, Entry, entry_of_next, Transition, transition, stays, after_packet, outputs, act_outputs, attempt_at, progress_after, closing_outputs, Setting, Finish, Unanswered, cut, limit_acts, Attempted, reading_of}
-use Rattle.dhcp_history.specs.Machine.{View, Phase, Unpolled, Pausing, Listening, Resting, Stopped, phase_by, PollEffect, is_listening, is_pausing, is_unpolled, is_stopped, is_wait_over, exchange_at, attempt_now, transmit, take_answer, receive, transmit_and_receive, handed_output, failed_output, replay_from}
+use Rattle.dhcp_history.specs.Machine.{View, Phase, Unpolled, Pausing, Listening, Resting, Stopped, phase_by, PollEffect, has_open_attempt, is_pausing, is_unpolled, is_stopped, is_wait_over, exchange_at, attempt_now, transmit, take_answer, receive, transmit_and_receive, handed_output, failed_output, replay_from}
 use Rattle.dhcp_history.proofs.Steps.{IsPlain, before_hit, before_miss, from_hit, from_miss, before-from, none_left, attempt_stands, attempts_run_out, nothing_stands, goes_on, is_answered}
 
 -- the last attempt of the stay in progress, as the phase tells it
@@ -165,7 +165,7 @@ module _ {PublicState Packet Message State Exchange Answer Lease : Type 0} (p : 
   pub record IsBegun (view : View State Exchange) : Type 0 where
     pub polled : is_unpolled view.phase ≡ false
     pub works : is_stopped view.phase ≡ false
-    pub timely : (now : ℕ) → has_come now (p.ending_moment view.state) ≡ true → is_listening view.phase ≡ true → has_come now view.deadline ≡ true
+    pub timely : (now : ℕ) → has_come now (p.ending_moment view.state) ≡ true → has_open_attempt view.phase ≡ true → has_come now view.deadline ≡ true
     pub armed : (now : ℕ) → has_come now view.deadline ≡ true → p.has_attempts view.state ≡ true
 
   -- the polls of these events report what is still to be reported
@@ -191,7 +191,7 @@ module _ {PublicState Packet Message State Exchange Answer Lease : Type 0} (p : 
   tried_early now refuse input view e = rw e
 
   -- an attempt that follows a taken one
-  tried_over : (now : ℕ) (refuse : Bool) (input : Input Packet) (view : View State Exchange) → is_listening view.phase ≡ true → has_come now view.deadline ≡ true →
+  tried_over : (now : ℕ) (refuse : Bool) (input : Input Packet) (view : View State Exchange) → has_open_attempt view.phase ≡ true → has_come now view.deadline ≡ true →
       let attempt = p.attempt view.state (p.after_wait view.exchange) (record { is_first = is_pausing view.phase; entered = view.entered; now = now }) view.words in
       transmit_and_receive p now refuse input view ≡
       receive p now input (Some attempt.value.message) (record view { phase = phase_by refuse; deadline = Some (now + attempt.value.wait); exchange = attempt.value.exchange; words = attempt.left })
@@ -204,13 +204,13 @@ module _ {PublicState Packet Message State Exchange Answer Lease : Type 0} (p : 
       counts
 
   taken_handed : (now : ℕ) (input : Input Packet) (handed : Option Message) (view : View State Exchange) → (receive p now input handed view).handed ≡ handed
-  taken_handed now input handed view = by_phase (is_listening view.phase) refl
+  taken_handed now input handed view = by_phase (has_open_attempt view.phase) refl
     where
       by_answer : (answer : Option Answer) (words : List ℕ) → (take_answer p now handed view answer words).handed ≡ handed
       by_answer None words = refl
       by_answer (Some answer) words = refl
 
-      by_phase : (b : Bool) → is_listening view.phase ≡ b → (receive p now input handed view).handed ≡ handed
+      by_phase : (b : Bool) → has_open_attempt view.phase ≡ b → (receive p now input handed view).handed ≡ handed
       by_phase true e = rw e (by_answer (reading_of p view.state view.exchange view.words input).value (reading_of p view.state view.exchange view.words input).left)
       by_phase false e = rw e
 

@@ -12,7 +12,7 @@ use Rattle.dhcp_history.specs.declared.machine.RunError.TheVariants as run
 use Rattle.dhcp_history.specs.Protocol.{Protocol, has_come}
 use Rattle.dhcp_history.specs.Script.{Input, Nothing}
 use Rattle.dhcp_history.specs.History.{reading_of}
-use Rattle.dhcp_history.specs.Machine.{View, Phase, Unpolled, Pausing, Listening, Resting, Stopped, PollEffect, is_stopped, is_listening, is_unpolled, limit_is_over, limit_is_over_in, has_ended, stop, begin_in, begin_stay, attempt_now, transmit, clean_up, take_answer, receive, transmit_and_receive, poll, end_state, enter, exchange_at}
+use Rattle.dhcp_history.specs.Machine.{View, Phase, Unpolled, Pausing, Listening, Resting, Stopped, PollEffect, is_stopped, has_open_attempt, is_unpolled, limit_is_over, limit_is_over_in, has_ended, stop, begin_in, begin_stay, attempt_now, transmit, clean_up, take_answer, receive, transmit_and_receive, poll, end_state, enter, exchange_at}
 use Rattle.dhcp_history.specs.Client.{view_of, silent}
 use Rattle.dhcp_history.specs.Schedule.{HasNextAttempt}
 use Rattle.dhcp_history.specs.Seen.{seen}
@@ -95,8 +95,8 @@ module _ {PublicState State Exchange Answer Lease : Type 0} (p : Protocol Public
     quiet_waits b f e w = rw (b, f, e, w)
 
     -- a polled client that waits does not listen
-    pub waits_shut : is_unpolled view.phase ≡ false → is_waiting p now view ≡ true → is_listening view.phase ≡ false
-    waits_shut polled w = go (is_listening view.phase) (rw polled at w)
+    pub waits_shut : is_unpolled view.phase ≡ false → is_waiting p now view ≡ true → has_open_attempt view.phase ≡ false
+    waits_shut polled w = go (has_open_attempt view.phase) (rw polled at w)
       where
         go : (b : Bool) → not (b || has_come now view.deadline) ≡ true → b ≡ false
         go true h = absurd (cc h)
@@ -130,7 +130,7 @@ module _ {PublicState State Exchange Answer Lease : Type 0} (p : Protocol Public
       go true e = rw e (sends e (p.has_attempts client.state) refl)
       go false e =
           let come : has_come now client.standing.deadline ≡ true = subst (λ (s : Standing Exchange). has_come now s.deadline ≡ true) (same e).0 due in
-          rw (e, come) (late (is_listening client.standing.phase))
+          rw (e, come) (late (has_open_attempt client.standing.phase))
 
   begun_polled : (now : ℕ) (view : View State Exchange) → is_unpolled view.phase ≡ false → begin_stay p now view ≡ view
   begun_polled now view = go view.phase
@@ -158,7 +158,7 @@ module _ {PublicState State Exchange Answer Lease : Type 0} (p : Protocol Public
       is_stopped client.standing.phase ≡ false → limit_is_over p now (view_of client words) ≡ false → has_ended p now (view_of client words) ≡ false →
       (is_unpolled client.standing.phase ≡ false → (begun ≡ client.standing) × (mid ≡ available)) →
       (is_unpolled client.standing.phase ≡ true → p.has_attempts client.state ≡ false → (begun ≡ silent now client.standing.exchange) × (mid ≡ available)) → new.timeout_sec ≡ client.timeout_sec →
-      (is_listening begun.phase ≡ false → IsShut result begun (seen client mid before failed) (seen new left after failed')) →
+      (has_open_attempt begun.phase ≡ false → IsShut result begun (seen client mid before failed) (seen new left after failed')) →
       IfSome (quiet_poll p now (view_of client words)) (λ once. HasPolledQuietly p once result words (seen client available before failed) (seen new left after failed'))
   early_quiet now client new begun result available mid left before after failed failed' words b f e same none timeout shut = go (is_waiting p now (view_of client words)) refl (is_unpolled client.standing.phase) refl
     where
@@ -166,7 +166,7 @@ module _ {PublicState State Exchange Answer Lease : Type 0} (p : Protocol Public
           IfSome (quiet_poll p now (view_of client words)) (λ once. HasPolledQuietly p once result words (seen client available before failed) (seen new left after failed'))
       go false w u h = rw (quiet_busy now (view_of client words) b f e w) tt
       go true w false h =
-          let waits : is_listening client.standing.phase ≡ false = waits_shut now (view_of client words) h w in
+          let waits : has_open_attempt client.standing.phase ≡ false = waits_shut now (view_of client words) h w in
           let is : IsShut result begun (seen client mid before failed) (seen new left after failed') = shut (rw (same h).0 waits) in
           rw (quiet_waits now (view_of client words) b f e w, begun_polled now (view_of client words) h) (record {
             answer = is.answer;
@@ -189,24 +189,24 @@ module _ {PublicState State Exchange Answer Lease : Type 0} (p : Protocol Public
   -- the packet is taken the same way, whatever message was handed
   pub taken_with : (now : ℕ) (input : Input Packet) (handed : Option Handed) (view : View State Exchange) →
       receive p now input handed view ≡ record (receive p now input None view) { handed = handed }
-  taken_with now input handed view = by_phase (is_listening view.phase) refl
+  taken_with now input handed view = by_phase (has_open_attempt view.phase) refl
     where
       by_answer : (answer : Option Answer) (words : List ℕ) → take_answer p now handed view answer words ≡ record (take_answer p now None view answer words) { handed = handed }
       by_answer None words = refl
       by_answer (Some answer) words = refl
 
-      by_phase : (b : Bool) → is_listening view.phase ≡ b → receive p now input handed view ≡ record (receive p now input None view) { handed = handed }
+      by_phase : (b : Bool) → has_open_attempt view.phase ≡ b → receive p now input handed view ≡ record (receive p now input None view) { handed = handed }
       by_phase true e = rw e (let read = reading_of p view.state view.exchange view.words input in by_answer read.value read.left)
       by_phase false e = rw e
 
   pub taken_succeeds : (now : ℕ) (input : Input Packet) (handed : Option Handed) (view : View State Exchange) → (receive p now input handed view).failed ≡ false
-  taken_succeeds now input handed view = by_phase (is_listening view.phase) refl
+  taken_succeeds now input handed view = by_phase (has_open_attempt view.phase) refl
     where
       by_answer : (answer : Option Answer) (words : List ℕ) → (take_answer p now handed view answer words).failed ≡ false
       by_answer None words = refl
       by_answer (Some answer) words = refl
 
-      by_phase : (b : Bool) → is_listening view.phase ≡ b → (receive p now input handed view).failed ≡ false
+      by_phase : (b : Bool) → has_open_attempt view.phase ≡ b → (receive p now input handed view).failed ≡ false
       by_phase true e = rw e (let read = reading_of p view.state view.exchange view.words input in by_answer read.value read.left)
       by_phase false e = rw e
 

@@ -6,7 +6,7 @@ use Rattle.dhcp_clock.specs.declared.link.Handed.{Handed}
 use Rattle.dhcp_history.specs.Protocol.{Protocol, Lawful, has_come}
 use Rattle.dhcp_history.specs.Script.{Input, Nothing, Arrival, NumberedEvent, NumberedReport, Script}
 use Rattle.dhcp_history.specs.History.{limit_moment, reading_of, history, outputs}
-use Rattle.dhcp_history.specs.Machine.{View, Phase, Unpolled, Pausing, Listening, Resting, Stopped, PollEffect, EventEffect, is_listening, is_unpolled, is_stopped, is_pausing, has_ended, exchange_at, attempt_now, begin_stay, transmit, take_answer, receive, poll, polls, after_poll, stop, end_state, replay_from, first_view}
+use Rattle.dhcp_history.specs.Machine.{View, Phase, Unpolled, Pausing, Listening, Resting, Stopped, PollEffect, EventEffect, has_open_attempt, is_unpolled, is_stopped, is_pausing, has_ended, exchange_at, attempt_now, begin_stay, transmit, take_answer, receive, poll, polls, after_poll, stop, end_state, replay_from, first_view}
 use Rattle.dhcp_history.specs.Run.{input_of}
 use Rattle.dhcp_history.specs.EventLoop.{once_outputs}
 use Rattle.dhcp_history.specs.RealRun.{Polled, event_with, with_input, joined, sent_first, NextAt, FollowedUp, once_of, run_from, Steady, events_of}
@@ -194,13 +194,13 @@ module _ {PublicState State Exchange Answer Lease : Type 0} (p : Protocol Public
   IsAnew once = (next : State) → once.change ≡ Some next → is_unpolled once.view.phase ≡ true
 
   taken_anew : (now : ℕ) (input : Input Packet) (handed : Option Handed) (view : View State Exchange) → IsAnew (receive p now input handed view)
-  taken_anew now input handed view = go (is_listening view.phase) refl
+  taken_anew now input handed view = go (has_open_attempt view.phase) refl
     where
       by_answer : (answer : Option Answer) (words : List ℕ) → IsAnew (take_answer p now handed view answer words)
       by_answer None words next e = absurd (cc e)
       by_answer (Some answer) words next e = refl
 
-      go : (c : Bool) → is_listening view.phase ≡ c → IsAnew (receive p now input handed view)
+      go : (c : Bool) → has_open_attempt view.phase ≡ c → IsAnew (receive p now input handed view)
       go true l = rw l (let read = reading_of p view.state view.exchange view.words input in by_answer read.value read.left)
       go false l = rw l (λ next e. absurd (cc e))
 
@@ -221,7 +221,7 @@ module _ {PublicState State Exchange Answer Lease : Type 0} (p : Protocol Public
       let w : View State Exchange = begin_stay p now view in
       let fresh : view.phase ≡ Unpolled = begun_deaf view.phase unpolled in
       let message : Handed = (attempt_now p now w).value.message in
-      let deaf : is_listening w.phase ≡ false = rw fresh in
+      let deaf : has_open_attempt w.phase ≡ false = rw fresh in
       poll_holds now q.refuse input view (IsDeaf input) (λ e. refl) (λ e. refl)
       (λ d e. absurd (cc (sym (ap (λ (once : PollEffect Packet Handed State Exchange). once.handed) (taken_with p now input (Some message) (transmit p now q.refuse w))) ∙ e)))
       (λ e. rw deaf)

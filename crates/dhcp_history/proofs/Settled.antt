@@ -11,7 +11,7 @@ use Rattle.dhcp_history.specs.Protocol.{Protocol, Lawful, has_come}
 use Rattle.dhcp_history.specs.Script.{Input}
 use Rattle.dhcp_history.specs.History.{limit_moment, reading_of}
 use Rattle.dhcp_history.specs.Client.{view_of}
-use Rattle.dhcp_history.specs.Machine.{View, Phase, Unpolled, Pausing, Listening, Resting, Stopped, PollEffect, phase_by, is_unpolled, is_stopped, is_listening, is_pausing, has_ended, exchange_at, begin_stay, begin_in, attempt_now, transmit, take_answer, receive, poll}
+use Rattle.dhcp_history.specs.Machine.{View, Phase, Unpolled, Pausing, Listening, Resting, Stopped, PollEffect, phase_by, is_unpolled, is_stopped, has_open_attempt, is_pausing, has_ended, exchange_at, begin_stay, begin_in, attempt_now, transmit, take_answer, receive, poll}
 use Rattle.dhcp_history.specs.Run.{input_of, answer_of, UnlessNoMemory}
 use Rattle.dhcp_history.specs.Schedule.{IsSettled, earlier, next_moment, next_poll_in}
 use Rattle.dhcp_history.specs.Traced.{IsPollBy, Traces}
@@ -53,13 +53,13 @@ module _ {PublicState State Exchange Answer Lease : Type 0} (p : Protocol Public
   module _ (now : ℕ) (input : Input Packet) (handed : Option Handed) where
     -- what is received leaves what it found, but for the words
     received : (view : View State Exchange) → IsCalm now view → Calms now (receive p now input handed view)
-    received view calm = go (is_listening view.phase) refl
+    received view calm = go (has_open_attempt view.phase) refl
       where
         by_answer : (answer : Option Answer) (words : List ℕ) → Calms now (take_answer p now handed view answer words)
         by_answer None words is = record { polled = calm.polled; attempt = calm.attempt; state = calm.state; limit = calm.limit }
         by_answer (Some answer) words is = absurd (cc is)
 
-        go : (b : Bool) → is_listening view.phase ≡ b → Calms now (receive p now input handed view)
+        go : (b : Bool) → has_open_attempt view.phase ≡ b → Calms now (receive p now input handed view)
         go true l = rw l (let read = reading_of p view.state view.exchange view.words input in by_answer read.value read.left)
         go false l = rw l (λ is. calm)
 

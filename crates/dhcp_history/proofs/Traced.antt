@@ -16,7 +16,7 @@ use Rattle.dhcp_history.specs.Protocol.{Protocol, NextState, has_come}
 use Rattle.dhcp_history.specs.Rules.{IsNext}
 use Rattle.dhcp_history.specs.Script.{Input, Nothing, Arrival}
 use Rattle.dhcp_history.specs.History.{after_wait_if, reading_of}
-use Rattle.dhcp_history.specs.Machine.{View, Phase, Stopped, PollEffect, phase_by, is_stopped, is_listening, is_pausing, limit_is_over, has_ended, begin_stay, attempt_now, enter, exchange_at, transmit, take_answer, receive, transmit_and_receive, poll}
+use Rattle.dhcp_history.specs.Machine.{View, Phase, Stopped, PollEffect, phase_by, is_stopped, has_open_attempt, is_pausing, limit_is_over, has_ended, begin_stay, attempt_now, enter, exchange_at, transmit, take_answer, receive, transmit_and_receive, poll}
 use Rattle.dhcp_history.specs.Client.{view_of, view_with, unpolled}
 use Rattle.dhcp_history.specs.Run.{input_of, sent_by, answer_of, UsesLink}
 use Rattle.dhcp_history.specs.Traced.{made, asked, StepsBy, asks_in, asks, IsPollBy, IsWorkBy, Traces, Works, Transmits, Hears}
@@ -55,7 +55,7 @@ module _ {PublicState State Exchange Answer Lease : Type 0} (p : Protocol Public
 
   pub transmits : (now : ℕ) (refuse : Bool) (client : Client State Exchange) (last : List ℕ → View State Exchange) (begun : Standing Exchange) (exchange : Exchange) (first : Bool) (attempt : NewAttempt Exchange Handed)
       (words words' : Source) (link link' : Link) →
-      exchange ≡ after_wait_if p (is_listening begun.phase && has_come now begun.deadline) begun.exchange → first ≡ is_pausing begun.phase →
+      exchange ≡ after_wait_if p (has_open_attempt begun.phase && has_come now begun.deadline) begun.exchange → first ≡ is_pausing begun.phase →
       DrawsBy gives (p.attempt client.state exchange (record { is_first = first; entered = begun.entered; now = now })) words attempt words' →
       moves (Hands attempt.message (sent_by refuse)) link link' →
       ((rest : List ℕ) → last rest ≡ record (view_with client begun rest) { phase = phase_by refuse; deadline = Some (now + attempt.wait); exchange = attempt.exchange }) →
@@ -78,7 +78,7 @@ module _ {PublicState State Exchange Answer Lease : Type 0} (p : Protocol Public
 
   -- 2. The packet.
 
-  module _ (now : ℕ) (client : Client State Exchange) (listens : Bool) (e : is_listening client.standing.phase ≡ listens) where
+  module _ (now : ℕ) (client : Client State Exchange) (listens : Bool) (e : has_open_attempt client.standing.phase ≡ listens) where
     -- a client that does not listen asks for none
     pub hears_shut : (words : Source) (link : Link) → listens ≡ false → Hears p gives moves listens now None (view_of client) (view_of client) words words link link
     hears_shut words link shut = record {
@@ -109,7 +109,7 @@ module _ {PublicState State Exchange Answer Lease : Type 0} (p : Protocol Public
       took : (answer : Option Answer) (taken rest : List ℕ) → p.reading client.state client.standing.exchange packet (taken ++ rest) ≡ record { value = answer; left = rest } →
           receive p now (Arrival packet) None (view_of client (taken ++ rest)) ≡ take_answer p now None (view_of client (taken ++ rest)) answer rest
       took answer taken rest read =
-          let listening : is_listening client.standing.phase ≡ true = e ∙ hearing in
+          let listening : has_open_attempt client.standing.phase ≡ true = e ∙ hearing in
           rw listening (ap (λ (of : Drawn (Option Answer)). take_answer p now None (view_of client (taken ++ rest)) of.value of.left) read)
 
       -- it answers nothing
@@ -164,7 +164,7 @@ module _ {PublicState State Exchange Answer Lease : Type 0} (p : Protocol Public
       ∙ ap (λ (once : PollEffect Packet Handed State Exchange). answer_of p once) (sym same)))
 
   -- nothing is left of the packet, where one that does not listen has none
-  heard_left : (now : ℕ) (packet : Option Packet) (handed : Option Handed) (view : View State Exchange) (listens : Bool) → is_listening view.phase ≡ listens → (listens ≡ false → packet ≡ None) →
+  heard_left : (now : ℕ) (packet : Option Packet) (handed : Option Handed) (view : View State Exchange) (listens : Bool) → has_open_attempt view.phase ≡ listens → (listens ≡ false → packet ≡ None) →
       (receive p now (input_of packet) handed view).left ≡ Nothing
   heard_left now packet handed view true e none =
       rw e (let read = reading_of p view.state view.exchange view.words (input_of packet) in by_answer read.value read.left)
@@ -176,7 +176,7 @@ module _ {PublicState State Exchange Answer Lease : Type 0} (p : Protocol Public
 
   -- no attempt is due
   pub works_early : (now : ℕ) (listens : Bool) (change : Option PublicState) (first last : List ℕ → View State Exchange) (words words' : Source) (link link' : Link) →
-      ((rest : List ℕ) → has_come now (first rest).deadline ≡ false) → ((rest : List ℕ) → is_listening (first rest).phase ≡ listens) →
+      ((rest : List ℕ) → has_come now (first rest).deadline ≡ false) → ((rest : List ℕ) → has_open_attempt (first rest).phase ≡ listens) →
       Hears p gives moves listens now change first last words words' link link' →
       Works p gives moves now (Ok change) first last words words' link link'
   works_early now listens change first last words words' link link' early hearing h =
@@ -205,7 +205,7 @@ module _ {PublicState State Exchange Answer Lease : Type 0} (p : Protocol Public
       }
 
   -- an attempt is due
-  listens_by : (refuse : Bool) → is_listening (phase_by refuse) ≡ not refuse
+  listens_by : (refuse : Bool) → has_open_attempt (phase_by refuse) ≡ not refuse
   listens_by true = refl
   listens_by false = refl
 
@@ -216,11 +216,11 @@ module _ {PublicState State Exchange Answer Lease : Type 0} (p : Protocol Public
   pub works_due : (now : ℕ) (change : Option PublicState) (first : List ℕ → View State Exchange) (mid new : Client State Exchange) (words words₁ words' : Source) (link link₁ link' : Link) →
       ((rest : List ℕ) → has_come now (first rest).deadline ≡ true) →
       Transmits p gives moves now first (view_of mid) words words₁ link link₁ →
-      Hears p gives moves (is_listening mid.standing.phase) now change (view_of mid) (view_of new) words₁ words' link₁ link' →
+      Hears p gives moves (has_open_attempt mid.standing.phase) now change (view_of mid) (view_of new) words₁ words' link₁ link' →
       Works p gives moves now (Ok change) first (view_of new) words words' link link'
   works_due now change first mid new words words₁ words' link link₁ link' due t h =
-      let listens : Bool = is_listening mid.standing.phase in
-      let as_sent : is_listening mid.standing.phase ≡ not t.refuse = ap (λ (view : View State Exchange). is_listening view.phase) (t.client []) ∙ listens_by t.refuse in
+      let listens : Bool = has_open_attempt mid.standing.phase in
+      let as_sent : has_open_attempt mid.standing.phase ≡ not t.refuse = ap (λ (view : View State Exchange). has_open_attempt view.phase) (t.client []) ∙ listens_by t.refuse in
       let before : List ℕ → View State Exchange = λ rest. first ((t.taken ++ h.taken) ++ rest) in
       let between : (rest : List ℕ) → view_of mid (h.taken ++ rest) ≡ transmit p now t.refuse (before rest) = λ rest.
       t.client (h.taken ++ rest) ∙ ap (λ (ws : List ℕ). transmit p now t.refuse (first ws)) (sym (append_assoc t.taken h.taken rest)) in

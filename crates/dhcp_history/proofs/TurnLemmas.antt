@@ -20,7 +20,7 @@ use Rattle.dhcp_history.specs.Errors.{release_answer, sent_when}
 use Rattle.dhcp_history.specs.Client.{view_of}
 use Rattle.dhcp_history.specs.HeardBy.{IsEnded, IsHeard}
 use Rattle.dhcp_history.specs.Kept.{Keeps, Preserves}
-use Rattle.dhcp_history.specs.Machine.{View, Phase, Unpolled, Pausing, Listening, Resting, Stopped, PollEffect, phase_by, is_listening, is_stopped, limit_is_over, has_ended, begin_in, begin_stay, attempt_now, transmit, transmit_and_receive, poll}
+use Rattle.dhcp_history.specs.Machine.{View, Phase, Unpolled, Pausing, Listening, Resting, Stopped, PollEffect, phase_by, has_open_attempt, is_stopped, limit_is_over, has_ended, begin_in, begin_stay, attempt_now, transmit, transmit_and_receive, poll}
 use Rattle.dhcp_history.specs.Run.{input_of, sent_by, answer_of, UnlessNoMemory, OnNoMemory}
 use Rattle.dhcp_history.specs.Traced.{made, asked, asks_in, asks, StepsBy, IsPollBy, IsWorkBy, Traces, Transmits}
 use Rattle.dhcp_history.specs.Turns.{AreOfOnePoll, TakesTurns, IsAsBefore, StandsAfter, RunsOut, sent_alone, PollsUnheard, WorksUnheard, release_turns, TracesRelease}
@@ -47,7 +47,7 @@ module _ {State Exchange Link : Type 0} (moves : Turn → Link → Link → Type
   unmade_out old new link link' same (inr h) = record { turns = Hands h.0 NoMemory ∷ []; moved = (link', (h.1, refl)); stands = (refl, same) }
 
   -- a packet was taken by the open attempt
-  pub lost_out : {Sent : Handed → Type 0} (old new : Client State Exchange) (link link' : Link) → IsAsBefore old new → is_listening old.standing.phase ≡ true →
+  pub lost_out : {Sent : Handed → Type 0} (old new : Client State Exchange) (link link' : Link) → IsAsBefore old new → has_open_attempt old.standing.phase ≡ true →
       (packet : Packet) × moves (Gives (Some packet)) link link' → RunsOut moves Sent old new link link'
   lost_out old new link link' same listens h = record { turns = Gives (Some h.0) ∷ []; moved = (link', (h.1, refl)); stands = (refl, (listens, same)) }
 
@@ -68,7 +68,7 @@ module _ {State Exchange Link : Type 0} (moves : Turn → Link → Link → Type
   out_as (Err run.TimedOut) old new link link' says h = tt
   out_as (Err run.OutOfMemory) old new link link' says h = record { turns = h.turns; moved = h.moved; stands = stands_as old new says h.turns h.stands }
 
-  out_turns : (Sent : Handed → Type 0) (old new : Client State Exchange) (turns : List Turn) → StandsAfter Sent old new turns → AreOfOnePoll (is_listening old.standing.phase) turns
+  out_turns : (Sent : Handed → Type 0) (old new : Client State Exchange) (turns : List Turn) → StandsAfter Sent old new turns → AreOfOnePoll (has_open_attempt old.standing.phase) turns
   out_turns Sent old new [] h = tt
   out_turns Sent old new (Hands message sent ∷ []) h = tt
   out_turns Sent old new (Gives packet ∷ []) h = h.1.0
@@ -77,7 +77,7 @@ module _ {State Exchange Link : Type 0} (moves : Turn → Link → Link → Type
   out_turns Sent old new (Hands message sent ∷ Gives packet ∷ turn ∷ turns) h = absurd h
   out_turns Sent old new (Gives packet ∷ turn ∷ turns) h = absurd h
 
-listens_by : (refuse : Bool) → is_listening (phase_by refuse) ≡ not refuse
+listens_by : (refuse : Bool) → has_open_attempt (phase_by refuse) ≡ not refuse
 listens_by true = refl
 listens_by false = refl
 
@@ -100,11 +100,11 @@ module _ {PublicState State Exchange Answer Lease : Type 0} (p : Protocol Public
     -- the link took the message, and what it gave then is lost
     pub unheard_out : (now : ℕ) (first : List ℕ → View State Exchange) (old mid new : Client State Exchange) (words words₁ : Source) (link link₁ link' : Link) →
         ((rest : List ℕ) → has_come now (first rest).deadline ≡ true) → Transmits p gives moves now first (view_of mid) words words₁ link link₁ →
-        is_listening mid.standing.phase ≡ true → new.state ≡ mid.state → new.standing ≡ mid.standing → new.timeout_sec ≡ mid.timeout_sec →
+        has_open_attempt mid.standing.phase ≡ true → new.state ≡ mid.state → new.standing ≡ mid.standing → new.timeout_sec ≡ mid.timeout_sec →
         (packet : Packet) × moves (Gives (Some packet)) link₁ link' →
         RunsOut moves (λ message. WorksUnheard p gives now message first (view_of new) words) old new link link'
     unheard_out now first old mid new words words₁ link link₁ link' due t listens state standing timeout h =
-        let taken : t.refuse ≡ false = not_refused t.refuse (sym (ap (λ (view : View State Exchange). is_listening view.phase) (t.client []) ∙ listens_by t.refuse) ∙ listens) in
+        let taken : t.refuse ≡ false = not_refused t.refuse (sym (ap (λ (view : View State Exchange). has_open_attempt view.phase) (t.client []) ∙ listens_by t.refuse) ∙ listens) in
         let moved : moves (Hands t.message Taken) link link₁ = subst (λ (refuse : Bool). moves (Hands t.message (sent_by refuse)) link link₁) taken t.moved in
         let same : (rest : List ℕ) → view_of new rest ≡ view_of mid rest = λ rest. rw (state, standing, timeout) refl in
         record {
@@ -160,24 +160,24 @@ module _ {PublicState State Exchange Answer Lease : Type 0} (p : Protocol Public
 
   -- 2. The turns of a poll.
 
-  begun_listens : (now : ℕ) (view : View State Exchange) → is_listening (begin_stay p now view).phase ≡ is_listening view.phase
+  begun_listens : (now : ℕ) (view : View State Exchange) → has_open_attempt (begin_stay p now view).phase ≡ has_open_attempt view.phase
   begun_listens now view = go view.phase refl
     where
-      go : (phase : Phase) → view.phase ≡ phase → is_listening (begin_in p phase now view).phase ≡ is_listening phase
+      go : (phase : Phase) → view.phase ≡ phase → has_open_attempt (begin_in p phase now view).phase ≡ has_open_attempt phase
       go Unpolled e = refl
-      go Pausing e = ap is_listening e
-      go Listening e = ap is_listening e
-      go Resting e = ap is_listening e
-      go Stopped e = ap is_listening e
+      go Pausing e = ap has_open_attempt e
+      go Listening e = ap has_open_attempt e
+      go Resting e = ap has_open_attempt e
+      go Stopped e = ap has_open_attempt e
 
   module _ (now : ℕ) (refuse : Bool) (packet : Option Packet) (view : View State Exchange) where
     abbrev w : View State Exchange
     w = begin_stay p now view
 
     abbrev AreTurns : Option Handed → Bool → Type 0
-    AreTurns handed asking = AreOfOnePoll (is_listening view.phase) (made refuse handed ++ asked asking packet)
+    AreTurns handed asking = AreOfOnePoll (has_open_attempt view.phase) (made refuse handed ++ asked asking packet)
 
-    sent_turns : (r : Bool) → refuse ≡ r → (message : Handed) → AreOfOnePoll (is_listening view.phase) (made r (Some message) ++ asked (not r) packet)
+    sent_turns : (r : Bool) → refuse ≡ r → (message : Handed) → AreOfOnePoll (has_open_attempt view.phase) (made r (Some message) ++ asked (not r) packet)
     sent_turns true e message = tt
     sent_turns false e message = refl
 
@@ -185,7 +185,7 @@ module _ {PublicState State Exchange Answer Lease : Type 0} (p : Protocol Public
     or_none true = refl
     or_none false = refl
 
-    early_turns : (listens : Bool) → is_listening view.phase ≡ listens → AreOfOnePoll (is_listening view.phase) (asked listens packet)
+    early_turns : (listens : Bool) → has_open_attempt view.phase ≡ listens → AreOfOnePoll (has_open_attempt view.phase) (asked listens packet)
     early_turns true e = e
     early_turns false e = tt
 
@@ -199,9 +199,9 @@ module _ {PublicState State Exchange Answer Lease : Type 0} (p : Protocol Public
     work_turns false d =
         let handed : (transmit_and_receive p now refuse (input_of packet) w).handed ≡ None =
         rw d (ap (λ (once : PollEffect Packet Handed State Exchange). once.handed) (taken_with p now (input_of packet) None w)) in
-        let asking : asks_in p now refuse w ≡ is_listening view.phase = rw d (begun_listens now view) in
+        let asking : asks_in p now refuse w ≡ has_open_attempt view.phase = rw d (begun_listens now view) in
         subst (λ (o : Option Handed). AreTurns o (asks_in p now refuse w)) (sym handed)
-        (subst (λ (b : Bool). AreTurns None b) (sym asking) (early_turns (is_listening view.phase) refl))
+        (subst (λ (b : Bool). AreTurns None b) (sym asking) (early_turns (has_open_attempt view.phase) refl))
 
     poll_turns : AreTurns (poll p now refuse (input_of packet) view).handed (asks p now refuse view)
     poll_turns = by_phase (is_stopped view.phase) refl
@@ -220,12 +220,12 @@ module _ {PublicState State Exchange Answer Lease : Type 0} (p : Protocol Public
 
   -- over every link: one message and one packet at most
   pub turns_of_poll : (now : ℕ) (refuse : Bool) (packet : Option Packet) (turns : List Turn) (result : Result (Option PublicState) RunError) (old new : View State Exchange) →
-      IsPollBy p now refuse packet turns result old new → AreOfOnePoll (is_listening old.phase) turns
-  turns_of_poll now refuse packet turns result old new is = subst (λ (done : List Turn). AreOfOnePoll (is_listening old.phase) done) (sym is.turns) (poll_turns now refuse packet old)
+      IsPollBy p now refuse packet turns result old new → AreOfOnePoll (has_open_attempt old.phase) turns
+  turns_of_poll now refuse packet turns result old new is = subst (λ (done : List Turn). AreOfOnePoll (has_open_attempt old.phase) done) (sym is.turns) (poll_turns now refuse packet old)
 
   module _ {Source Link : Type 0} (gives : ℕ → Source → Source → Type 0) (moves : Turn → Link → Link → Type 0) where
     traced_turns : (now : ℕ) (result : Result (Option PublicState) RunError) (old new : Client State Exchange) (words words' : Source) (link link' : Link) →
-        Traces p gives moves now result old new words words' link link' → TakesTurns moves (is_listening old.standing.phase) link link'
+        Traces p gives moves now result old new words words' link link' → TakesTurns moves (has_open_attempt old.standing.phase) link link'
     traced_turns now result old new words words' link link' t = record {
       turns = t.turns;
       moved = t.moved;
@@ -234,7 +234,7 @@ module _ {PublicState State Exchange Answer Lease : Type 0} (p : Protocol Public
 
     pub takes_turns : (Sent : Handed → Type 0) (now : ℕ) (result : Result (Option PublicState) RunError) (old new : Client State Exchange) (words words' : Source) (link link' : Link) →
         UnlessNoMemory result (Traces p gives moves now result old new words words' link link') → OnNoMemory result (RunsOut moves Sent old new link link') →
-        TakesTurns moves (is_listening old.standing.phase) link link'
+        TakesTurns moves (has_open_attempt old.standing.phase) link link'
     takes_turns Sent now (Ok change) old new words words' link link' t out = traced_turns now (Ok change) old new words words' link link' t
     takes_turns Sent now (Err run.TimedOut) old new words words' link link' t out = traced_turns now (Err run.TimedOut) old new words words' link link' t
     takes_turns Sent now (Err run.OutOfMemory) old new words words' link link' t out =

@@ -11,16 +11,16 @@ use Rattle.dhcp_history.specs.declared.client.Client.{Client}
 use Rattle.dhcp_history.specs.declared.machine.RunError.{RunError}
 use Rattle.dhcp_history.specs.Protocol.{Lawful, Protocol, has_come}
 use Rattle.dhcp_history.specs.Script.{NumberedEvent, NumberedReport, Script, Nothing}
-use Rattle.dhcp_history.specs.Machine.{begin_stay, clean_up, first_view, is_listening, is_stopped, is_unpolled, limit_is_over, poll}
+use Rattle.dhcp_history.specs.Machine.{begin_stay, clean_up, first_view, has_open_attempt, is_stopped, is_unpolled, limit_is_over, poll}
 use Rattle.dhcp_history.specs.History.{history, outputs}
 use Rattle.dhcp_history.specs.Client.{unpolled, view_of}
 use Rattle.dhcp_history.specs.Errors.{release_answer, run_answer, send_refused, sent_of, timed_out}
 use Rattle.dhcp_history.specs.EventLoop.{HasReported, event_at, events_at, last_moment}
 use Rattle.dhcp_history.specs.Release as release
 use Rattle.dhcp_history.specs.Release.{HasReleased, OnOutOfMemory, UnlessOutOfMemory}
-use Rattle.dhcp_history.specs.Run.{input_of, quiet_poll, HasPolled, HasPolledQuietly, IsSent, IsUnsent, NeedsMemory, OnNoMemory, OnTimeout, UnlessNoMemory, UsesLink, WhereKnown}
+use Rattle.dhcp_history.specs.Run.{input_of, quiet_poll, HasPolled, HasPolledQuietly, IsSent, IsUnsent, OnNoMemory, OnTimeout, PacketMayAnswer, UnlessNoMemory, UsesLink, WhereKnown}
 use Rattle.dhcp_history.specs.Kept.{DropsLease, Keeps}
-use Rattle.dhcp_history.specs.Listening.{may_ask}
+use Rattle.dhcp_history.specs.Listening.{is_listening}
 use Rattle.dhcp_history.specs.Schedule.{HasNextAttempt, IsActive, IsIdle, IsSettled, next_poll}
 use Rattle.dhcp_history.specs.Seen.{Seen, seen}
 use Rattle.dhcp_history.specs.Traced.{asks}
@@ -30,7 +30,7 @@ use Rattle.dhcp_history.specs.Traced.{asks}
 module _ {PublicState State Exchange Answer Lease : Type 0}
     (p : Protocol PublicState Packet Handed State Exchange Answer Lease) where
   -- One poll. Its answer is given as the rules have it; words and link may be known or not.
-  pub record Polls (needs_memory : State → Exchange → Packet → Bool) (now : ℕ)
+  pub record Polls (may_answer : State → Exchange → Packet → Bool) (now : ℕ)
       (answer : Result (Option PublicState) RunError) (old new : Seen (Client State Exchange)) :
       Type 0 where
     -- where words and link are known, this is the poll of the protocol
@@ -64,14 +64,14 @@ module _ {PublicState State Exchange Answer Lease : Type 0}
     -- with no attempt due, only the reading of a packet needs memory
     pub needed : OnNoMemory answer (is_unpolled old.client.standing.phase ≡ false →
         has_come now old.client.standing.deadline ≡ false →
-        NeedsMemory needs_memory old.client old.shown)
+        PacketMayAnswer may_answer old.client old.shown)
     -- so too at the first poll of a state, where the words are known
     pub due : OnNoMemory answer (IfSome old.words (λ words.
         (has_come now (begin_stay p now (view_of old.client words)).deadline ≡ true)
-        ⊎ NeedsMemory needs_memory old.client old.shown))
+        ⊎ PacketMayAnswer may_answer old.client old.shown))
     -- one message and one packet at most
     pub uses : IfSome old.shown (λ before. IsSomeAnd new.shown (λ after.
-        UsesLink (is_listening old.client.standing.phase) before after))
+        UsesLink (has_open_attempt old.client.standing.phase) before after))
     pub later : old.faults ≤ new.faults
 
   -- A clean-up.
@@ -213,7 +213,7 @@ module _ {PublicState State Exchange Answer Lease : Type 0}
   -- sends.
   pub record HasListening (now : ℕ) (result : Bool) (client : Client State Exchange) :
       Type 0 where
-    pub listening : (available : List ℕ) → result ≡ may_ask p now (view_of client available)
+    pub listening : (available : List ℕ) → result ≡ is_listening p now (view_of client available)
     -- a client that was polled in its state asks if and only if this is true
     pub asking : is_unpolled client.standing.phase ≡ false → (available : List ℕ) →
         result ≡ asks p now false (view_of client available)
@@ -238,10 +238,10 @@ module _ {Config PublicState State Exchange Answer Lease : Type 0}
   -- One poll, with the errors of a client's calls, by a client whose protocol is lawful. What it
   -- returns is seen as a public state.
   pub record IsRun {Returned : Type 0} (view : Returned → PublicState)
-      (needs_memory : State → Exchange → Packet → Bool) (now : ℕ)
+      (may_answer : State → Exchange → Packet → Bool) (now : ℕ)
       (result : Result (Option Returned) ErrorParts)
       (old new : Seen (ClientParts Config State Exchange)) : Type 0 where
-    pub polls : Polls (protocol old.client.config) needs_memory now (run_answer view result)
+    pub polls : Polls (protocol old.client.config) may_answer now (run_answer view result)
         (rules_seen old) (rules_seen new)
     pub open polls use *
     -- without a change nothing is due

@@ -22,12 +22,12 @@ is_pausing Listening = false
 is_pausing Resting = false
 is_pausing Stopped = false
 
-abbrev pub is_listening : Phase → Bool
-is_listening Unpolled = false
-is_listening Pausing = false
-is_listening Listening = true
-is_listening Resting = false
-is_listening Stopped = false
+abbrev pub has_open_attempt : Phase → Bool
+has_open_attempt Unpolled = false
+has_open_attempt Pausing = false
+has_open_attempt Listening = true
+has_open_attempt Resting = false
+has_open_attempt Stopped = false
 
 abbrev pub is_stopped : Phase → Bool
 is_stopped Unpolled = false
@@ -124,7 +124,7 @@ module _ {PublicState Packet Message State Exchange Answer Lease : Type 0}
 
   -- whether the wait of an open attempt is over
   abbrev pub is_wait_over : ℕ → View State Exchange → Bool
-  is_wait_over now view = is_listening view.phase && has_come now view.deadline
+  is_wait_over now view = has_open_attempt view.phase && has_come now view.deadline
 
   -- the exchange of the next attempt, where one is made now
   abbrev pub exchange_at : ℕ → View State Exchange → Exchange
@@ -215,7 +215,7 @@ module _ {PublicState Packet Message State Exchange Answer Lease : Type 0}
   abbrev pub receive : ℕ → Input Packet → Option Message → View State Exchange →
       PollEffect Packet Message State Exchange
   receive now input handed view =
-      if is_listening view.phase
+      if has_open_attempt view.phase
       then (let read = reading_of p view.state view.exchange view.words input in
       take_answer now handed view read.value read.left)
       else record { view = view; handed = handed; left = input; change = None; failed = false }

@@ -15,7 +15,7 @@ use Rattle.dhcp_history.specs.Script.{Input, Nothing, Arrival, Release, CleanUp}
 use Rattle.dhcp_history.specs.History.{first_due}
 use Rattle.dhcp_history.specs.Client.{view_of}
 use Rattle.dhcp_history.specs.Seen.{Seen}
-use Rattle.dhcp_history.specs.Machine.{View, PollEffect, stop, begin_stay, end_state, attempt_now, transmit, is_unpolled, is_listening, is_stopped, limit_is_over, has_ended}
+use Rattle.dhcp_history.specs.Machine.{View, PollEffect, stop, begin_stay, end_state, attempt_now, transmit, is_unpolled, has_open_attempt, is_stopped, limit_is_over, has_ended}
 
 -- 1. The link.
 
@@ -104,7 +104,7 @@ module _ {PublicState State Exchange Answer Lease : Type 0}
   abbrev pub is_waiting : ℕ → View State Exchange → Bool
   is_waiting now view =
       if is_unpolled view.phase then not (p.has_attempts view.state)
-      else not (is_listening view.phase || has_come now view.deadline)
+      else not (has_open_attempt view.phase || has_come now view.deadline)
 
   -- what a poll does that uses neither words nor link: the client has stopped or stops now, its
   -- state ends, or it waits
@@ -171,7 +171,7 @@ module _ {PublicState State Exchange Answer Lease : Type 0}
   pub record IsSent (now : ℕ) (first : List ℕ → View State Exchange)
       (client : Client State Exchange) (available : Option (List ℕ))
       (before after : Option Shown) : Type 0 where
-    pub listens : is_listening client.standing.phase ≡ true
+    pub listens : has_open_attempt client.standing.phase ≡ true
     pub moment : client.last_moment ≡ now
     pub view : IfSome available (λ words. IfSome before (λ shown.
         view_of client (transmit p now shown.refuses (first words)).words ≡
@@ -202,9 +202,9 @@ pub record IsUnsent {State Exchange : Type 0} (old new : Client State Exchange)
   pub moment : new.last_moment ≡ old.last_moment
   pub link : IfSome before (λ shown. IsSomeAnd after (λ later. later.handed ≡ shown.handed))
 
--- The client listens, and a packet waits whose reading may need memory.
-pub record NeedsMemory {State Exchange : Type 0} (needs_memory : State → Exchange → Packet → Bool)
+-- An attempt is open, and a packet waits that may answer it.
+pub record PacketMayAnswer {State Exchange : Type 0} (may_answer : State → Exchange → Packet → Bool)
     (client : Client State Exchange) (shown : Option Shown) : Type 0 where
-  pub listens : is_listening client.standing.phase ≡ true
+  pub listens : has_open_attempt client.standing.phase ≡ true
   pub packet : IfSome shown (λ before. IsSomeAnd before.waiting (λ packet.
-      needs_memory client.state client.standing.exchange packet ≡ true))
+      may_answer client.state client.standing.exchange packet ≡ true))

@@ -12,7 +12,7 @@ use Rattle.dhcp_history.specs.Protocol.{Protocol, has_come, pause_of}
 use Rattle.dhcp_history.specs.Script.{Nothing}
 use Rattle.dhcp_history.specs.History.{first_due}
 use Rattle.dhcp_history.specs.Client.{view_of}
-use Rattle.dhcp_history.specs.Machine.{View, attempt_now, begin_stay, has_ended, is_listening, is_stopped, limit_is_over, poll, receive, transmit, transmit_and_receive}
+use Rattle.dhcp_history.specs.Machine.{View, attempt_now, begin_stay, has_ended, has_open_attempt, is_stopped, limit_is_over, poll, receive, transmit, transmit_and_receive}
 use Rattle.dhcp_history.specs.Run.{answer_of, input_of, sent_by}
 
 -- the turn of a link that is handed this message or none, and refuses it or not
@@ -46,7 +46,7 @@ module _ {PublicState State Exchange Answer Lease : Type 0}
   abbrev pub asks_in : ℕ → Bool → View State Exchange → Bool
   asks_in now refuse view =
       (has_come now view.deadline && not refuse) ||
-      (not (has_come now view.deadline) && is_listening view.phase)
+      (not (has_come now view.deadline) && has_open_attempt view.phase)
 
   -- whether a poll asks the link for a packet
   abbrev pub asks : ℕ → Bool → View State Exchange → Bool

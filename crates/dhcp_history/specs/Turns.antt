@@ -11,7 +11,7 @@ use Rattle.dhcp_history.specs.declared.client.Client.{Client}
 use Rattle.dhcp_history.specs.declared.release.ReleaseError.{ReleaseError}
 use Rattle.dhcp_history.specs.Protocol.{Protocol}
 use Rattle.dhcp_history.specs.Client.{view_of}
-use Rattle.dhcp_history.specs.Machine.{View, is_listening}
+use Rattle.dhcp_history.specs.Machine.{View, has_open_attempt}
 use Rattle.dhcp_history.specs.Errors.{sent_when}
 use Rattle.dhcp_history.specs.Release.{OnOutOfMemory, UnlessOutOfMemory}
 use Rattle.dhcp_history.specs.Traced.{IsPollBy, IsWorkBy}
@@ -54,7 +54,7 @@ abbrev pub StandsAfter : {State Exchange : Type 0} → (Handed → Type 0) →
 StandsAfter Sent old new [] = IsAsBefore old new
 StandsAfter Sent old new (Hands message sent ∷ []) = (sent ≡ NoMemory) × IsAsBefore old new
 StandsAfter Sent old new (Gives packet ∷ []) =
-    (is_some packet ≡ true) × ((is_listening old.standing.phase ≡ true) × IsAsBefore old new)
+    (is_some packet ≡ true) × ((has_open_attempt old.standing.phase ≡ true) × IsAsBefore old new)
 StandsAfter Sent old new (Hands message sent ∷ Gives packet ∷ []) =
     (sent ≡ Taken) × ((is_some packet ≡ true) × Sent message)
 StandsAfter Sent old new (Hands message sent ∷ Hands other later ∷ turns) = ⊥

@@ -5,7 +5,7 @@ ghost use Rattle.dhcp_clock.specs.declared.link.Handed.{Handed};
 ghost use Rattle.dhcp_clock.specs.declared.link.Packet.{Packet};
 ghost use Rattle.dhcp_clock.specs.Link.{Gives, Hands, HandsOver, with_message, without_packet};
 ghost use Rattle.dhcp_wire.specs.Fault.{HasCause};
-ghost use Rattle.dhcp_history.specs.Machine.{is_unpolled, is_pausing, is_listening, receive};
+ghost use Rattle.dhcp_history.specs.Machine.{is_unpolled, is_pausing, has_open_attempt, receive};
 ghost use Rattle.dhcp_history.specs.Client.{view_of, view_with};
 ghost use Rattle.dhcp_history.specs.Seen.{seen};
 ghost use Rattle.dhcp_history.specs.Traced.{Hears, Transmits};
@@ -15,7 +15,7 @@ ghost use Rattle.dhcp_history.specs.Run.{
   WhereKnown,
   HasReceived,
   HasTransmitted,
-  NeedsMemory,
+  PacketMayAnswer,
   IsShut,
   IsUnsent,
 };
@@ -46,8 +46,8 @@ fn is_pausing(phase: Phase) -> bool
 }
 
 // Whether an attempt is open.
-fn is_listening(phase: Phase) -> bool
-    ensures { result ≡ is_listening phase }
+fn has_open_attempt(phase: Phase) -> bool
+    ensures { result ≡ has_open_attempt phase }
 {
     phase == Phase::Listening
 }
@@ -84,7 +84,7 @@ pub(crate) fn transmit<R: Rules, W: Words, L: DhcpLink>(
         × (L.shown link.new ≡ Some (with_message message (sent_by before.refuses) before)))) }
     ensures armed { OnOk result (is_some client.new.standing.deadline ≡ true) }
     ensures listens { OnOk result (IfSome (L.shown link.old) (λ before.
-        is_listening client.new.standing.phase ≡ not before.refuses)) }
+        has_open_attempt client.new.standing.phase ≡ not before.refuses)) }
     ensures later { L.faults link.old ≤ L.faults link.new }
 {
     let start = AttemptStart {
@@ -130,13 +130,13 @@ pub(crate) fn receive<R: Rules, W: Words, L: DhcpLink>(
         (view_of client.old available))
         change (view_of client.new) (W.left words.new) before (L.shown link.new))) }
     ensures traced { IfOk result (λ change. Hears (R.protocol rules.now) W.gives L.moves
-        (is_listening client.old.standing.phase) now change
+        (has_open_attempt client.old.standing.phase) now change
         (view_of client.old) (view_of client.new) words.old words.new link.old link.new) }
     ensures timeout { client.new.timeout_sec ≡ client.old.timeout_sec }
     ensures moment { client.new.last_moment ≡ client.old.last_moment }
     ensures state { OnErr result (client.new.state ≡ client.old.state) }
     ensures standing { OnErr result (client.new.standing ≡ client.old.standing) }
-    ensures needed { OnErr result (NeedsMemory (R.needs_memory rules.now)
+    ensures needed { OnErr result (PacketMayAnswer (R.may_answer rules.now)
         client.old (L.shown link.old)) }
     ensures lost { OnErr result
         ((packet : Packet) × L.moves (Gives (Some packet)) link.old link.new) }
@@ -146,7 +146,7 @@ pub(crate) fn receive<R: Rules, W: Words, L: DhcpLink>(
     ensures stays { ((client.new.standing ≡ client.old.standing)
         × (client.new.state ≡ client.old.state))
         ⊎ (is_unpolled client.new.standing.phase ≡ true) }
-    ensures shut { is_listening client.old.standing.phase ≡ false → IsShut result
+    ensures shut { has_open_attempt client.old.standing.phase ≡ false → IsShut result
         client.old.standing
         (seen client.old (W.left words.old) (L.shown link.old) (L.faults link.old))
         (seen client.new (W.left words.new) (L.shown link.new) (L.faults link.new)) }
@@ -154,7 +154,7 @@ pub(crate) fn receive<R: Rules, W: Words, L: DhcpLink>(
         (L.shown link.new ≡ Some before) ⊎ (L.shown link.new ≡ Some (without_packet before))) }
     ensures later { L.faults link.old ≤ L.faults link.new }
 {
-    if !is_listening(client.standing.phase) {
+    if !has_open_attempt(client.standing.phase) {
         return Ok(None);
     }
     let Some(packet) = link.receive() else {

@@ -2,7 +2,7 @@
 
 ghost use Rattle.std.specs.Prelude.{◌<◌, ◌^◌};
 
-/// What a client is in the midst of, in the state that it is in.
+/// How far a client has come in its state.
 #[derive(Clone, Copy, Debug, PartialEq, Eq)]
 pub enum Phase {
     /// It was not polled in this state yet.
@@ -25,7 +25,7 @@ pub struct Standing<X> {
     pub exchange: X,
     /// The moment of the first poll in this state; 0 before it.
     pub entered: u64,
-    /// What the client is in the midst of.
+    /// How far the client has come in it.
     pub phase: Phase,
     /// The moment from which the next attempt is due; none before the first poll in this state, and
     /// in a state in which the client does not send.
@@ -35,15 +35,15 @@ pub struct Standing<X> {
 /// A client of some rules.
 #[derive(Drop)]
 pub struct Client<S, X> {
-    /// What it is in, with what that rests on.
+    /// The state it is in, with the offer or lease that the state rests on.
     pub state: S,
     /// Its time limit in each state in which it sends, in seconds from the first poll there; 0 is
     /// no limit.
     pub timeout_sec: u32,
     /// Where it stands in its state.
     pub standing: Standing<X>,
-    /// The last moment that was given to it, in milliseconds; 0 where there was none. A poll that
-    /// is out of memory leaves it, unless it has sent its message.
+    /// The last moment that was given to it, in milliseconds; 0 where there was none. A release
+    /// that is out of memory leaves it, and so does a poll, unless it has sent its message.
     pub last_moment: u64,
     ghost entered_in: { standing.entered < 2 ^ 60 },
 }

@@ -5,7 +5,7 @@
 ghost use Rattle.std.specs.Prelude.{◌≡◌, ◌<◌, ◌+◌, ◌^◌, ◌⊎◌, ◌&&◌, ◌||◌, ℕ, List, true, false, Option, Some, None, is_some, Ok, Err, OnErr, IfSome, IsSomeAnd};
 ghost use Rattle.dhcp_history.specs.Protocol.{has_come, pause_of};
 ghost use Rattle.dhcp_history.specs.History.{limit_moment, after_wait_if};
-ghost use Rattle.dhcp_history.specs.Machine.{is_unpolled, is_listening, is_stopped, limit_is_over, has_ended, exchange_at, enter, begin_stay, receive};
+ghost use Rattle.dhcp_history.specs.Machine.{is_unpolled, has_open_attempt, is_stopped, limit_is_over, has_ended, exchange_at, enter, begin_stay, receive};
 ghost use Rattle.dhcp_history.specs.Calls.{Polls};
 ghost use Rattle.dhcp_history.specs.Seen.{seen};
 ghost use Rattle.dhcp_history.specs.Work.{HasWorked};
@@ -14,7 +14,7 @@ ghost use Rattle.dhcp_history.specs.Client.{view_of, view_with, unpolled, silent
 ghost use Rattle.dhcp_clock.specs.Words.{DrawsBy};
 ghost use Rattle.dhcp_history.specs.Traced.{StepsBy, Traces, Works, due_of};
 ghost use Rattle.dhcp_history.specs.Turns.{PollsUnheard, RunsOut, TakesTurns, WorksUnheard};
-ghost use Rattle.dhcp_history.specs.Run.{UsesLink, UnlessNoMemory, OnNoMemory, HasDrawn, HasDue, IsShut, NeedsMemory, IsUnsent, IsSent};
+ghost use Rattle.dhcp_history.specs.Run.{UsesLink, UnlessNoMemory, OnNoMemory, HasDrawn, HasDue, IsShut, PacketMayAnswer, IsUnsent, IsSent};
 
 use crate::attempt::{receive, transmit};
 use crate::schedule::limit_moment;
@@ -61,7 +61,7 @@ pub(crate) fn limit_is_over<R: Rules>(
 
 // Whether the wait of an open attempt is over.
 fn is_wait_over<X: Copy>(standing: Standing<X>, now: u64) -> bool
-    ensures { result ≡ (is_listening standing.phase && has_come now standing.deadline) }
+    ensures { result ≡ (has_open_attempt standing.phase && has_come now standing.deadline) }
 {
     standing.phase == Phase::Listening && has_come(now, standing.deadline)
 }
@@ -88,7 +88,7 @@ pub(crate) fn exchange_at<R: Rules>(
     now: u64,
 ) -> R::Exchange
     ensures { result ≡ after_wait_if (R.protocol rules.now)
-        (is_listening standing.phase && has_come now standing.deadline) standing.exchange }
+        (has_open_attempt standing.phase && has_come now standing.deadline) standing.exchange }
 {
     if is_wait_over(standing, now) {
         rules.after_wait(standing.exchange)
@@ -161,8 +161,8 @@ fn begin_stay<R: Rules, W: Words>(
         (view_with client.now result) (W.left words.new)) }
     ensures taken { StepsBy W.gives (begin_stay (R.protocol rules.now) now)
         (view_of client.now) (view_with client.now result) words.old words.new }
-    ensures listens { is_listening result.phase ≡ is_listening client.now.standing.phase }
-    ensures open { is_listening result.phase ≡ true → result ≡ client.now.standing }
+    ensures listens { has_open_attempt result.phase ≡ has_open_attempt client.now.standing.phase }
+    ensures open { has_open_attempt result.phase ≡ true → result ≡ client.now.standing }
     ensures polled { is_unpolled client.now.standing.phase ≡ false →
         (result ≡ client.now.standing) × (W.left words.new ≡ W.left words.old) }
     ensures silent { is_unpolled client.now.standing.phase ≡ true →
@@ -196,17 +196,17 @@ fn receive_early<R: Rules, W: Words, L: DhcpLink>(
     requires moment { now < 2 ^ 60 }
     requires small { begun.entered < 2 ^ 60 }
     requires early { has_come now begun.deadline ≡ false }
-    requires open { is_listening begun.phase ≡ true → begun ≡ client.old.standing }
+    requires open { has_open_attempt begun.phase ≡ true → begun ≡ client.old.standing }
     ensures worked { HasWorked (R.protocol rules.now) now result begun
         (seen client.old (W.left words.old) (L.shown link.old) (L.faults link.old))
         (seen client.new (W.left words.new) (L.shown link.new) (L.faults link.new)) }
     ensures traced { UnlessNoMemory result (Works (R.protocol rules.now) W.gives L.moves now result
         (view_with client.old begun) (view_of client.new)
         words.old words.new link.old link.new) }
-    ensures shut { is_listening begun.phase ≡ false → IsShut result begun
+    ensures shut { has_open_attempt begun.phase ≡ false → IsShut result begun
         (seen client.old (W.left words.old) (L.shown link.old) (L.faults link.old))
         (seen client.new (W.left words.new) (L.shown link.new) (L.faults link.new)) }
-    ensures needed { OnErr result (NeedsMemory (R.needs_memory rules.now)
+    ensures needed { OnErr result (PacketMayAnswer (R.may_answer rules.now)
         client.old (L.shown link.old)) }
     ensures armed { ((R.protocol rules.now).has_attempts client.old.state ≡ true →
         is_some begun.deadline ≡ true) →
@@ -216,7 +216,7 @@ fn receive_early<R: Rules, W: Words, L: DhcpLink>(
     ensures ran_out { OnErr result (RunsOut L.moves (λ message. ⊥)
         client.old client.new link.old link.new) }
     ensures uses { IfSome (L.shown link.old) (λ before. IsSomeAnd (L.shown link.new) (λ after.
-        UsesLink (is_listening begun.phase) before after)) }
+        UsesLink (has_open_attempt begun.phase) before after)) }
 {
     client.standing = begun;
     let change = receive(rules, client, now, words, link)?;
@@ -272,7 +272,7 @@ pub fn run<R: Rules, W: Words, L: DhcpLink>(
     link: &mut L,
 ) -> Result<Option<R::PublicState>, RunError>
     requires { now < 2 ^ 60 }
-    ensures polls { Polls (R.protocol rules.now) (R.needs_memory rules.now) now result
+    ensures polls { Polls (R.protocol rules.now) (R.may_answer rules.now) now result
         (seen client.old (W.left words.old) (L.shown link.old) (L.faults link.old))
         (seen client.new (W.left words.new) (L.shown link.new) (L.faults link.new)) }
     ensures traced { UnlessNoMemory result (Traces (R.protocol rules.now) W.gives L.moves now result
@@ -280,7 +280,7 @@ pub fn run<R: Rules, W: Words, L: DhcpLink>(
     ensures ran_out { OnNoMemory result (RunsOut L.moves (λ message.
         PollsUnheard (R.protocol rules.now) W.gives now message client.old client.new words.old)
         client.old client.new link.old link.new) }
-    ensures used { TakesTurns L.moves (is_listening client.old.standing.phase)
+    ensures used { TakesTurns L.moves (has_open_attempt client.old.standing.phase)
         link.old link.new }
 {
     if is_stopped(client.standing.phase) {

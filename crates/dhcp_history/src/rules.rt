@@ -36,8 +36,8 @@ pub struct NewAttempt<X, M> {
 pub trait Rules {
     /// What the client reports of its state.
     type PublicState: Drop;
-    /// What the client is in, with what that rests on: an offer, or a lease and the moment at
-    /// which it was taken.
+    /// The state of the client, with what it rests on: an offer, or a lease and the moment at which
+    /// it was taken.
     type State: Drop;
     /// What is kept from one attempt to the next: the transaction id, how often the client has
     /// sent, its previous wait.
@@ -51,9 +51,9 @@ pub trait Rules {
     ghost protocol: { Self →
         Protocol Self.PublicState Packet Handed Self.State Self.Exchange Self.Answer Self.Lease };
 
-    /// Whether the reading of a packet may need memory. Where it needs none, the packet answers
-    /// nothing.
-    ghost needs_memory: { Self → Self.State → Self.Exchange → Packet → Bool };
+    /// Whether a packet may answer an open attempt. Of one that may not, the reading gives nothing
+    /// and is never out of memory.
+    ghost may_answer: { Self → Self.State → Self.Exchange → Packet → Bool };
 
     /// The moment at which a state ends.
     fn ending_moment(&self, state: &Self::State) -> Option<u64>
@@ -109,7 +109,7 @@ pub trait Rules {
         ensures taken { IfOk result (λ answer.
             DrawsBy W.gives ((protocol self.now).reading state.now exchange packet)
             words.old answer words.new) }
-        ensures free { needs_memory self.now state.now exchange packet ≡ false → result ≡ Ok None };
+        ensures free { may_answer self.now state.now exchange packet ≡ false → result ≡ Ok None };
 
     /// Goes to the state after an answer, and returns what is reported of it. When out of memory
     /// the state is unchanged.

@@ -2,7 +2,7 @@
 
 ghost use Rattle.std.specs.Prelude.{◌≡◌, ◌||◌, ℕ, List, if◌then◌else◌};
 ghost use Rattle.dhcp_history.specs.Protocol.{has_come};
-ghost use Rattle.dhcp_history.specs.Machine.{has_ended, is_listening, is_stopped, is_unpolled, limit_is_over};
+ghost use Rattle.dhcp_history.specs.Machine.{has_ended, has_open_attempt, is_stopped, is_unpolled, limit_is_over};
 ghost use Rattle.dhcp_history.specs.Client.{view_of};
 ghost use Rattle.dhcp_history.specs.Calls.{HasListening, HasNextPoll};
 ghost use Rattle.dhcp_history.specs.History.{limit_moment};
@@ -85,7 +85,7 @@ fn has_attempt<R: Rules>(rules: &R, client: &Client<R::State, R::Exchange>, now:
     ensures { result ≡ (if is_unpolled client.now.standing.phase
         then (R.protocol rules.now).has_attempts client.now.state
         else (has_come now client.now.standing.deadline
-        || is_listening client.now.standing.phase)) }
+        || has_open_attempt client.now.standing.phase)) }
 {
     if client.standing.phase == Phase::Unpolled {
         return rules.has_attempts(&client.state);

@@ -64,10 +64,7 @@ impl Phase {
         ensures { result ≡ standing.phase_anew self }
     {
         match self {
-            Phase::Unpolled => Phase::Unpolled,
-            Phase::Pausing => Phase::Unpolled,
-            Phase::Listening => Phase::Unpolled,
-            Phase::Resting => Phase::Unpolled,
+            Phase::Unpolled | Phase::Pausing | Phase::Listening | Phase::Resting => Phase::Unpolled,
             Phase::Stopped => Phase::Stopped,
         }
     }

@@ -38,7 +38,7 @@ type_text None = codes "none"
 -- the line of what a packet is; an answer has none
 abbrev pub dropped_line : ℕ → PlainVerdict → List ℕ
 dropped_line number verdicts.Answer = []
-dropped_line number verdicts.NotListening = reason_line number (codes "not-listening")
+dropped_line number verdicts.NoOpenAttempt = reason_line number (codes "no-open-attempt")
 dropped_line number verdicts.OtherCarrier = reason_line number (codes "other-carrier")
 dropped_line number verdicts.NoFrame = reason_line number (codes "no-frame")
 dropped_line number verdicts.NoMessage = reason_line number (codes "no-message")

@@ -9,7 +9,7 @@ use Rattle.dhcp_output.specs.declared.summary.OutputKind.TheVariants.{Changed}
 use Rattle.dhcp_replay.specs.Life.{input_of}
 use Rattle.dhcp_script.specs.declared.event.Event.{Event}
 use Rattle.dhcp_verdict.specs.declared.packet_verdict.PacketVerdict.{PacketVerdict}
-use Rattle.dhcp_verdict.specs.declared.packet_verdict.PacketVerdict.TheVariants.{Answer, NotListening, OtherCarrier, NoFrame, NoMessage, OtherTransactionId, OtherType, OtherServer, NoLease}
+use Rattle.dhcp_verdict.specs.declared.packet_verdict.PacketVerdict.TheVariants.{Answer, NoOpenAttempt, OtherCarrier, NoFrame, NoMessage, OtherTransactionId, OtherType, OtherServer, NoLease}
 use Rattle.dhcp4_client.specs.Client as client4
 use Rattle.dhcp4_client.specs.Verdict as verdicts4
 use Rattle.dhcp4_msg.specs.MessageType as types4
@@ -26,7 +26,7 @@ PlainVerdict = PacketVerdict (Option ℕ)
 -- the same of a verdict of one family, by the numbers of its types
 abbrev pub plain_verdict : {T : Type 0} → (T → Option ℕ) → PacketVerdict T → PlainVerdict
 plain_verdict number Answer = Answer
-plain_verdict number NotListening = NotListening
+plain_verdict number NoOpenAttempt = NoOpenAttempt
 plain_verdict number OtherCarrier = OtherCarrier
 plain_verdict number NoFrame = NoFrame
 plain_verdict number NoMessage = NoMessage

@@ -5,7 +5,7 @@ use Rattle.dhcp_clock.specs.declared.link.Packet.{Packet}
 use Rattle.dhcp_history.specs.Calls.{ClientParts}
 use Rattle.dhcp_history.specs.Client.{view_of}
 use Rattle.dhcp_history.specs.EventLoop.{event_at}
-use Rattle.dhcp_history.specs.Listening.{may_ask}
+use Rattle.dhcp_history.specs.Listening.{is_listening}
 use Rattle.dhcp_history.specs.Machine.{EventEffect}
 use Rattle.dhcp_history.specs.Protocol.{Protocol}
 use Rattle.dhcp_history.specs.Schedule.{next_poll}
@@ -84,7 +84,7 @@ module _ {Config PublicState State Exchange Answer Lease : Type 0}
   -- whether a packet that comes is read
   abbrev pub is_listening_in : LiveParts Config State Exchange → Bool
   is_listening_in here =
-      may_ask (protocol here.parts.config) here.moment (view_of here.parts.client here.words)
+      is_listening (protocol here.parts.config) here.moment (view_of here.parts.client here.words)
 
   -- what an answer says of a client that stands so
   pub record Tells (next : Option ℕ) (listening : Bool) (left : ℕ)

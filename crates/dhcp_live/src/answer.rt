@@ -69,7 +69,7 @@ fn push_verdict(text: &mut String, number: u32, verdict: PlainVerdict) -> Result
 {
     match verdict {
         PacketVerdict::Answer => Ok(()),
-        PacketVerdict::NotListening => push_reason(text, number, "not-listening"),
+        PacketVerdict::NoOpenAttempt => push_reason(text, number, "no-open-attempt"),
         PacketVerdict::OtherCarrier => push_reason(text, number, "other-carrier"),
         PacketVerdict::NoFrame => push_reason(text, number, "no-frame"),
         PacketVerdict::NoMessage => push_reason(text, number, "no-message"),

@@ -114,7 +114,7 @@ fn plain_verdict<T: TypeNumber>(verdict: PacketVerdict<T>) -> PlainVerdict
 {
     match verdict {
         PacketVerdict::Answer => PacketVerdict::Answer,
-        PacketVerdict::NotListening => PacketVerdict::NotListening,
+        PacketVerdict::NoOpenAttempt => PacketVerdict::NoOpenAttempt,
         PacketVerdict::OtherCarrier => PacketVerdict::OtherCarrier,
         PacketVerdict::NoFrame => PacketVerdict::NoFrame,
         PacketVerdict::NoMessage => PacketVerdict::NoMessage,

@@ -6,7 +6,7 @@ use Rattle.dhcp_clock.specs.declared.link.Handed.{Handed}
 use Rattle.dhcp_clock.specs.declared.link.Packet.{Packet}
 use Rattle.dhcp_history.specs.EventLoop.{call_at, event_at, events_at, polls_at}
 use Rattle.dhcp_history.specs.History.{reading_of}
-use Rattle.dhcp_history.specs.Machine.{EventEffect, PollEffect, View, after_poll, attempt_now, begin_stay, call, call_by, clean_up, end_state, failed_output, handed_output, has_ended, is_listening, is_stopped, limit_is_over, poll, polls, receive, release_of, stop, take_answer, transmit, transmit_and_receive}
+use Rattle.dhcp_history.specs.Machine.{EventEffect, PollEffect, View, after_poll, attempt_now, begin_stay, call, call_by, clean_up, end_state, failed_output, handed_output, has_ended, has_open_attempt, is_stopped, limit_is_over, poll, polls, receive, release_of, stop, take_answer, transmit, transmit_and_receive}
 use Rattle.dhcp_history.specs.Protocol.{Protocol, has_come}
 use Rattle.dhcp_history.specs.Script.{after_call}
 use Rattle.dhcp_history.specs.declared.script.NumberedEvent.{NumberedEvent}
@@ -86,7 +86,7 @@ module _ {PublicState State Exchange Answer Lease : Type 0} (p : Protocol Public
   receive_fine : (now : ℕ) (input : Input Packet) (message : Option Handed) (view : View State Exchange) → Fine (receive p now input message view)
   receive_fine now input message view =
       let read = reading_of p view.state view.exchange view.words input in
-      fine_if (is_listening view.phase) (take_answer p now message view read.value read.left) (record { view = view; handed = message; left = input; change = None; failed = false })
+      fine_if (has_open_attempt view.phase) (take_answer p now message view read.value read.left) (record { view = view; handed = message; left = input; change = None; failed = false })
       (take_fine now message view read.value read.left (λ answer e. read_said view input now answer e))
       (none_fine (record { view = view; handed = message; left = input; change = None; failed = false }) refl)
 

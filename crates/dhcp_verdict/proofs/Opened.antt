@@ -6,7 +6,7 @@ use Rattle.dhcp_history.specs.Client.{view_of}
 use Rattle.dhcp_history.specs.declared.client.Phase.{Phase}
 use Rattle.dhcp_history.specs.declared.client.Phase.TheVariants.{Unpolled, Pausing, Listening, Resting, Stopped}
 use Rattle.dhcp_history.specs.declared.script.Input.TheVariants.{Arrival}
-use Rattle.dhcp_history.specs.Machine.{View, has_ended, is_listening, limit_is_over, poll, take_answer}
+use Rattle.dhcp_history.specs.Machine.{View, has_ended, has_open_attempt, limit_is_over, poll, take_answer}
 use Rattle.dhcp_history.specs.Protocol.{Protocol, has_come}
 use Rattle.dhcp_verdict.specs.OpenAttempt.{IsAnswerTest, answers_with, changes_with, is_open}
 
@@ -25,7 +25,7 @@ neither false true e = absurd (cc e)
 neither false false e = (refl, refl)
 
 -- an attempt is open in one phase alone
-listens_in : (phase : Phase) → is_listening phase ≡ true → phase ≡ Listening
+listens_in : (phase : Phase) → has_open_attempt phase ≡ true → phase ≡ Listening
 listens_in Unpolled e = absurd (cc e)
 listens_in Pausing e = absurd (cc e)
 listens_in Listening e = refl
@@ -67,7 +67,7 @@ module _ {PublicState Packet Message State Exchange Answer Lease : Type 0}
     poll_opened : is_open p now client ≡ true → has_come now client.standing.deadline ≡ false → (refuse : Bool) (words : List ℕ) → changes_with p now refuse client packet words ≡ answers_with p client packet words
     poll_opened going early refuse words =
         let phase = listens_in client.standing.phase (left_of _ _ going) in
-        let lasts = neither _ _ (right_of (is_listening client.standing.phase) _ going) in
+        let lasts = neither _ _ (right_of (has_open_attempt client.standing.phase) _ going) in
         poll_reads now refuse packet (view_of client words) phase
         (same_limit words phase ∙ lasts.0) lasts.1 early
       where

@@ -2,7 +2,7 @@
 use Rattle.std.specs.Prelude.{◌≡◌, ℕ, Bool, true, false, not, ◌&&◌, ◌||◌, List, [], is_some}
 use Rattle.dhcp_history.specs.declared.client.Client.{Client}
 use Rattle.dhcp_history.specs.Client.{view_of}
-use Rattle.dhcp_history.specs.Machine.{has_ended, is_listening, limit_is_over, poll}
+use Rattle.dhcp_history.specs.Machine.{has_ended, has_open_attempt, limit_is_over, poll}
 use Rattle.dhcp_history.specs.Protocol.{Protocol, has_come}
 use Rattle.dhcp_history.specs.declared.script.Input.TheVariants.{Arrival}
 
@@ -13,7 +13,7 @@ module _ {PublicState Packet Message State Exchange Answer Lease : Type 0}
   -- matters.
   abbrev pub is_open : ℕ → Client State Exchange → Bool
   is_open now client =
-      is_listening client.standing.phase &&
+      has_open_attempt client.standing.phase &&
       not (limit_is_over p now (view_of client []) || has_ended p now (view_of client []))
 
   -- whether a packet answers the attempt of a client, if these random words are the next ones

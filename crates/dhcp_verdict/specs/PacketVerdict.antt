@@ -1,12 +1,12 @@
 -- What a packet is to a client as it stands.
 use Rattle.std.specs.Prelude.{Bool, true, false}
 use Rattle.dhcp_verdict.specs.declared.packet_verdict.PacketVerdict.{PacketVerdict}
-use Rattle.dhcp_verdict.specs.declared.packet_verdict.PacketVerdict.TheVariants.{Answer, NotListening, OtherCarrier, NoFrame, NoMessage, OtherTransactionId, OtherType, OtherServer, NoLease}
+use Rattle.dhcp_verdict.specs.declared.packet_verdict.PacketVerdict.TheVariants.{Answer, NoOpenAttempt, OtherCarrier, NoFrame, NoMessage, OtherTransactionId, OtherType, OtherServer, NoLease}
 
 -- whether it is the awaited answer
 abbrev pub is_answer : {MessageType : Type 0} → PacketVerdict MessageType → Bool
 is_answer Answer = true
-is_answer NotListening = false
+is_answer NoOpenAttempt = false
 is_answer OtherCarrier = false
 is_answer NoFrame = false
 is_answer NoMessage = false

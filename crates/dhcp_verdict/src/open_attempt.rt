@@ -11,7 +11,6 @@ use dhcp_history::{Client, Phase, Rules, is_listening};
 pub fn is_open<R: Rules>(rules: &R, client: &Client<R::State, R::Exchange>, now: u64) -> bool
     ensures { result ≡ is_open (R.protocol rules.now) now client.now }
 {
-    // `is_listening` alone is true, too, of a client that is still to send: a poll sends and then
-    // asks for a packet.
+    // `is_listening` alone is true, too, of an attempt that is due.
     client.standing.phase == Phase::Listening && is_listening(rules, client, now)
 }

@@ -13,7 +13,7 @@ pub enum PacketVerdict<T> {
     /// It is the awaited answer: a poll that reads it changes the state of the client.
     Answer,
     /// No attempt is open, or a poll at this moment ends the state, or finds its time limit over.
-    NotListening,
+    NoOpenAttempt,
     /// It is a frame where a payload is awaited, or a payload where a frame is.
     OtherCarrier,
     /// It is no Ethernet frame of a UDP datagram over IPv4, or is one to another port than the

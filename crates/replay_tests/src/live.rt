@@ -100,7 +100,7 @@ const SAID_OF_DROPPED6: &str = "
     next 1000 listening 0
     8 state done LEASE6 50 80 100 200 REST6
     next 50300 deaf 0
-    dropped 9 not-listening
+    dropped 9 no-open-attempt
     next 50300 deaf 0
     ok
 ";

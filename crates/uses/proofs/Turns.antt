@@ -14,23 +14,23 @@ use Rattle.dhcp_history.specs.Run.{UnlessNoMemory}
 use Rattle.dhcp_history.specs.Traced.{Traces}
 use Rattle.uses.specs.Manager.{Follows, Linked, Polled, calls_at}
 
--- a poll by an equal table, that needs memory as this one
+-- a poll by an equal table, which the same packets may answer
 pub polled_by : {PublicState State Exchange Answer Lease Source Link : Type 0} (one p : Protocol PublicState Packet Handed State Exchange Answer Lease)
-    (gives : ℕ → Source → Source → Type 0) (moves : Turn → Link → Link → Type 0) {Reported : Type 0} (view : Reported → PublicState) (own needs_memory : State → Exchange → Packet → Bool)
+    (gives : ℕ → Source → Source → Type 0) (moves : Turn → Link → Link → Type 0) {Reported : Type 0} (view : Reported → PublicState) (own may_answer : State → Exchange → Packet → Bool)
     (left : Source → Option (List ℕ)) (shown : Link → Option Shown) (faults : Link → ℕ) (now : ℕ) (result : Result (Option Reported) ErrorParts) (old new : Linked State Exchange Source Link) →
-    one ≡ p → own ≡ needs_memory → Polled one gives moves view own left shown faults now result old new → Polled p gives moves view needs_memory left shown faults now result old new
-polled_by {State = State} {Exchange = Exchange} one p gives moves view own needs_memory left shown faults now result old new same needs polled =
-    subst (λ (p : Protocol _ Packet Handed _ _ _ _). Polled p gives moves view needs_memory left shown faults now result old new) same
-    (subst (λ (needs : State → Exchange → Packet → Bool). Polled one gives moves view needs left shown faults now result old new) needs polled)
+    one ≡ p → own ≡ may_answer → Polled one gives moves view own left shown faults now result old new → Polled p gives moves view may_answer left shown faults now result old new
+polled_by {State = State} {Exchange = Exchange} one p gives moves view own may_answer left shown faults now result old new same answers polled =
+    subst (λ (p : Protocol _ Packet Handed _ _ _ _). Polled p gives moves view may_answer left shown faults now result old new) same
+    (subst (λ (own : State → Exchange → Packet → Bool). Polled one gives moves view own left shown faults now result old new) answers polled)
 
 module _ {PublicState State Exchange Answer Lease Source Link : Type 0} (p : Protocol PublicState Packet Handed State Exchange Answer Lease)
     (gives : ℕ → Source → Source → Type 0) (moves : Turn → Link → Link → Type 0) {Reported : Type 0} (view : Reported → PublicState) where
   -- what a poll with this answer did
-  pub traced_of : (needs_memory : State → Exchange → Packet → Bool) (left : Source → Option (List ℕ)) (shown : Link → Option Shown) (faults : Link → ℕ) (now : ℕ)
+  pub traced_of : (may_answer : State → Exchange → Packet → Bool) (left : Source → Option (List ℕ)) (shown : Link → Option Shown) (faults : Link → ℕ) (now : ℕ)
       (result : Result (Option Reported) ErrorParts) (change : Option Reported) (old new : Linked State Exchange Source Link) → result ≡ Ok change →
-      Polled p gives moves view needs_memory left shown faults now result old new →
+      Polled p gives moves view may_answer left shown faults now result old new →
       Traces p gives moves now (Ok (option_map view change)) old.client new.client old.words new.words old.link new.link
-  traced_of needs_memory left shown faults now result change old new is polled =
+  traced_of may_answer left shown faults now result change old new is polled =
       subst (λ (result : Result (Option Reported) ErrorParts). UnlessNoMemory (run_answer view result) (Traces p gives moves now (run_answer view result) old.client new.client old.words new.words old.link new.link))
       is polled.traced
 

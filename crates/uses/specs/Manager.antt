@@ -114,11 +114,11 @@ module _ {PublicState State Exchange Answer Lease Source Link : Type 0}
   -- One poll: what the clause of a client's `run` says. First what holds where the words are known
   -- that are left and what the link exposes, and what holds of every source and every link; then by
   -- which words of its source, and by which turns of its link, it is the poll of the protocol.
-  pub record Polled (needs_memory : State → Exchange → Packet → Bool)
+  pub record Polled (may_answer : State → Exchange → Packet → Bool)
       (left : Source → Option (List ℕ)) (shown : Link → Option Shown) (faults : Link → ℕ)
       (now : ℕ) (result : Result (Option Reported) ErrorParts)
       (old new : Linked State Exchange Source Link) : Type 0 where
-    pub polls : Polls p needs_memory now (run_answer view result)
+    pub polls : Polls p may_answer now (run_answer view result)
         (seen old.client (left old.words) (shown old.link) (faults old.link))
         (seen new.client (left new.words) (shown new.link) (faults new.link))
     -- without a change nothing is due

@@ -5,7 +5,7 @@ ghost use Rattle.std.specs.declared.alloc.Global.{Global};
 ghost use Rattle.dhcp_history.specs.Calls.{IsRun};
 ghost use Rattle.dhcp_history.specs.Seen.{seen};
 ghost use Rattle.dhcp4_client.specs.Granted.{HeardLease};
-ghost use Rattle.dhcp4_client.specs.Rules.{lease_end, needs_memory, protocol};
+ghost use Rattle.dhcp4_client.specs.Rules.{lease_end, may_answer, protocol};
 ghost use Rattle.dhcp4_client.specs.State.{plain_state};
 ghost use Rattle.dhcp4_lease.specs.declared.lease.DhcpV4Lease.{DhcpV4Lease};
 
@@ -23,7 +23,7 @@ pub fn hear<W: Words, L: DhcpLink>(
     link: &mut L,
 ) -> Result<Option<DhcpV4State>, DhcpError>
     requires { now < 2 ^ 60 }
-    ensures ran { IsRun protocol plain_state (needs_memory client.old.config.message_forms) now
+    ensures ran { IsRun protocol plain_state (may_answer client.old.config.message_forms) now
         result (seen client.old (W.left words.old) (L.shown link.old) (L.faults link.old))
         (seen client.new (W.left words.new) (L.shown link.new) (L.faults link.new)) }
     ensures heard { (held : Box DhcpV4Lease Global) → result ≡ Ok (Some (DhcpV4State.Done held)) →

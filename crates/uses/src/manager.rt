@@ -26,7 +26,7 @@ pub trait ManagedClient {
     /// A state that it reports.
     type State: Drop;
 
-    // What contracts see of a reported state, of what the client is in, of what it keeps from one
+    // What contracts see of a reported state, of the state of the client, of what it keeps from one
     // attempt to the next, of what a packet answers, and of a lease.
     ghost PublicState: { Type 0 };
 
@@ -48,8 +48,9 @@ pub trait ManagedClient {
     /// The client of its rules.
     ghost client: { Self → Client ClientState Exchange };
 
-    /// Whether the reading of a packet may need memory.
-    ghost needs_memory: { Self → ClientState → Exchange → Packet → Bool };
+    /// Whether a packet may answer an open attempt. Of one that may not, the reading gives nothing
+    /// and is never out of memory.
+    ghost may_answer: { Self → ClientState → Exchange → Packet → Bool };
 
     /// Whether a state lasts for ever, if no packet comes.
     ghost lasts_for_ever: { ClientState → Bool };
@@ -63,11 +64,11 @@ pub trait ManagedClient {
     ) -> Result<Option<Self::State>, DhcpError>
         requires { now < 2 ^ 60 }
         ensures polled { Polled (protocol self.old) W.gives L.moves public_state
-            (needs_memory self.old) W.left L.shown L.faults now result
+            (may_answer self.old) W.left L.shown L.faults now result
             (linked (client self.old) words.old link.old)
             (linked (client self.new) words.new link.new) }
         ensures same { protocol self.new ≡ protocol self.old }
-        ensures needs { needs_memory self.new ≡ needs_memory self.old }
+        ensures answers { may_answer self.new ≡ may_answer self.old }
         ensures errors { IfErr result (λ error. (error ≡ timed_out) ⊎ (error ≡ no_memory)) };
 
     /// The moment, in milliseconds, before which it has nothing to do without a packet; none if and
@@ -102,7 +103,7 @@ pub fn turn<C: ManagedClient, I: Follow<C::State>, W: Words, L: DhcpLink>(
     requires { now < 2 ^ 60 }
     ensures turned { HasTurned (C.protocol client.old) W.gives L.moves C.public_state
         I.follows now (Polled (C.protocol client.old) W.gives L.moves C.public_state
-        (C.needs_memory client.old) W.left L.shown L.faults now) result
+        (C.may_answer client.old) W.left L.shown L.faults now) result
         (linked (C.client client.old) words.old link.old) interface.old
         (linked (C.client client.new) words.new link.new) interface.new }
     ensures same { C.protocol client.new ≡ C.protocol client.old }

@@ -69,7 +69,7 @@ impl Rules for Repeater {
       release_message = λ lease count. Frame (2 ∷ []);
     } };
 
-    ghost needs_memory = { λ rules state count packet. is_none state };
+    ghost may_answer = { λ rules state count packet. is_none state };
 
     fn ending_moment(&self, state: &Option<u64>) -> Option<u64> {
         *state

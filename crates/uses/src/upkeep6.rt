@@ -6,7 +6,7 @@ ghost use Rattle.dhcp_wire.specs.Error.{no_memory};
 ghost use Rattle.dhcp_history.specs.Calls.{HasNextPoll, IsHeldRelease, IsRun};
 ghost use Rattle.dhcp_history.specs.Errors.{timed_out};
 ghost use Rattle.dhcp_history.specs.Seen.{seen};
-ghost use Rattle.dhcp6_client.specs.Rules.{held_lease, needs_memory, protocol};
+ghost use Rattle.dhcp6_client.specs.Rules.{held_lease, may_answer, protocol};
 ghost use Rattle.dhcp6_client.specs.State.{plain_state};
 ghost use Rattle.uses.specs.Upkeep6.{HeardAddress, address_in_use, interface_following};
 
@@ -28,7 +28,7 @@ pub fn follow_poll6<W: Words, L: DhcpLink>(
     link: &mut L,
 ) -> Result<Option<DhcpV6State>, DhcpError>
     requires { now < 2 ^ 60 }
-    ensures ran { IsRun protocol plain_state needs_memory now
+    ensures ran { IsRun protocol plain_state may_answer now
         result (seen client.old (W.left words.old) (L.shown link.old) (L.faults link.old))
         (seen client.new (W.left words.new) (L.shown link.new) (L.faults link.new)) }
     ensures followed { interface.new ≡ interface_following result interface.old }

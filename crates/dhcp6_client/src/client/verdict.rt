@@ -13,7 +13,7 @@ use dhcp6_msg::DhcpV6MessageType;
 impl DhcpV6Client {
     ghost use Rattle.dhcp_verdict.specs.OpenAttempt.{IsAnswerTest, is_open};
     ghost use Rattle.dhcp_verdict.specs.PacketVerdict.{is_answer};
-    ghost use Rattle.dhcp6_client.specs.Rules.{needs_memory, protocol};
+    ghost use Rattle.dhcp6_client.specs.Rules.{may_answer, protocol};
     ghost use Rattle.dhcp6_client.specs.Verdict.{packet_verdict};
 
     /// What a packet is to the client as it stands at a moment, in milliseconds: the answer that it
@@ -34,7 +34,7 @@ impl DhcpV6Client {
         ensures error { IfErr result (λ error. error ≡ no_memory) }
         ensures listening { OnErr result (is_open (protocol self.now.config) now self.now.client
             ≡ true) }
-        ensures needed { OnErr result (needs_memory self.now.client.state
+        ensures needed { OnErr result (may_answer self.now.client.state
             self.now.client.standing.exchange packet.now ≡ true) }
     {
         packet_verdict(&self.rules, &self.client, now, packet)

@@ -60,7 +60,7 @@ impl ManagedClient for DhcpV4Client {
 
     ghost client = { λ parts. parts.client };
 
-    ghost needs_memory = { λ parts. rules4.needs_memory parts.config.message_forms };
+    ghost may_answer = { λ parts. rules4.may_answer parts.config.message_forms };
 
     ghost lasts_for_ever = { λ state. false };
 
@@ -97,7 +97,7 @@ impl ManagedClient for DhcpV6Client {
 
     ghost client = { λ parts. parts.client };
 
-    ghost needs_memory = { λ parts. rules6.needs_memory };
+    ghost may_answer = { λ parts. rules6.may_answer };
 
     ghost lasts_for_ever = { λ state. false };
 
@@ -134,7 +134,7 @@ impl ManagedClient for DhcpV6InfoClient {
 
     ghost client = { λ parts. parts.client };
 
-    ghost needs_memory = { λ parts. rules_info.needs_memory };
+    ghost may_answer = { λ parts. rules_info.may_answer };
 
     ghost lasts_for_ever = { client_info.lasts_for_ever };
 

@@ -1,5 +1,5 @@
 use Rattle.std.proofs.Common.{rules}
-use Rattle.dhcp_history.specs.Machine.{is_listening}
+use Rattle.dhcp_history.specs.Machine.{has_open_attempt}
 use Rattle.dhcp_history.specs.Client.{view_of, view_with}
 use Rattle.dhcp_history.proofs.Running.{work_due}
 use Rattle.dhcp_history.proofs.Traced.{works_due, uses_due}
@@ -31,7 +31,7 @@ returns-clause-traced g c =
 
 pub returns-clause-uses : goal.returns-clause-uses
 returns-clause-uses g c =
-    uses_due (g.L.DhcpLink.shown c.args.link.now) (g.L.DhcpLink.shown c.transmit.new.link) (g.L.DhcpLink.shown c.receive.new.link) (is_listening c.transmit.new.client.standing.phase)
+    uses_due (g.L.DhcpLink.shown c.args.link.now) (g.L.DhcpLink.shown c.transmit.new.link) (g.L.DhcpLink.shown c.receive.new.link) (has_open_attempt c.transmit.new.client.standing.phase)
     c.in_ok-transmit.ensures.sent c.in_ok-transmit.ensures.listens c.receive.ensures.packet (λ shut. (c.receive.ensures.shut shut).link)
 
 pub returns-in_err-transmit-clause-ran_out : goal.returns-in_err-transmit-clause-ran_out

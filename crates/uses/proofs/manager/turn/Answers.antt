@@ -6,7 +6,7 @@ use Rattle.uses.proofs.manager.turn.Goals as goal
 use Rattle.uses.proofs.manager.turn.Goals.{else-loop-test, then-loop-test+in_ok-state+in_default}
 
 pub loop-init : goal.loop-init
-loop-init g c = record { polls = follows_none _ _ _ _ _ _ _ _; same = refl; needs = refl }
+loop-init g c = record { polls = follows_none _ _ _ _ _ _ _ _; same = refl; answers = refl }
 
 pub loop-preserved : goal.loop-preserved
 loop-preserved g c =
@@ -14,11 +14,11 @@ loop-preserved g c =
     record {
       polls =
           follows_more _ _ _ _ _ _ _ c.in-Some.state _ _ _ _ _ _ c.loop.invariant.polls
-          (traced_of _ _ _ _ (g.C.ManagedClient.needs_memory c.args.client.now) g.W.Words.left g.L.DhcpLink.shown g.L.DhcpLink.faults _ c.run.result (Some c.in-Some.state) _ _ is
-          (polled_by _ _ _ _ _ _ _ _ _ _ _ _ _ _ c.loop.invariant.same c.loop.invariant.needs c.run.ensures.polled))
+          (traced_of _ _ _ _ (g.C.ManagedClient.may_answer c.args.client.now) g.W.Words.left g.L.DhcpLink.shown g.L.DhcpLink.faults _ c.run.result (Some c.in-Some.state) _ _ is
+          (polled_by _ _ _ _ _ _ _ _ _ _ _ _ _ _ c.loop.invariant.same c.loop.invariant.answers c.run.ensures.polled))
           c.follow.ensures;
       same = c.run.ensures.same ∙ c.loop.invariant.same;
-      needs = c.run.ensures.needs ∙ c.loop.invariant.needs;
+      answers = c.run.ensures.answers ∙ c.loop.invariant.answers;
     }
 
 pub returns-in_err-state-clause-turned : goal.returns-in_err-state-clause-turned
@@ -30,7 +30,7 @@ returns-in_err-state-clause-turned g c =
       few = omega arith;
       between = linked (g.C.ManagedClient.client c.loop.client) c.loop.words c.loop.link;
       reported = c.loop.invariant.polls;
-      last = polled_by _ _ _ _ _ _ _ _ _ _ _ _ _ _ c.loop.invariant.same c.loop.invariant.needs c.in_err-state.ensures.polled;
+      last = polled_by _ _ _ _ _ _ _ _ _ _ _ _ _ _ c.loop.invariant.same c.loop.invariant.answers c.in_err-state.ensures.polled;
     })
 
 pub returns-clause-turned : goal.returns-clause-turned
@@ -47,8 +47,8 @@ returns-clause-turned g c = elim c.loop-test.branch [
         (
           omega arith,
           follows_last _ _ _ _ _ _ _ _ _ _ _ _ c.loop.invariant.polls
-              (traced_of _ _ _ _ (g.C.ManagedClient.needs_memory c.args.client.now) g.W.Words.left g.L.DhcpLink.shown g.L.DhcpLink.faults _ w.run.result None _ _ is
-              (polled_by _ _ _ _ _ _ _ _ _ _ _ _ _ _ c.loop.invariant.same c.loop.invariant.needs w.run.ensures.polled)),
+              (traced_of _ _ _ _ (g.C.ManagedClient.may_answer c.args.client.now) g.W.Words.left g.L.DhcpLink.shown g.L.DhcpLink.faults _ w.run.result None _ _ is
+              (polled_by _ _ _ _ _ _ _ _ _ _ _ _ _ _ c.loop.invariant.same c.loop.invariant.answers w.run.ensures.polled)),
         ),
       ))
 ]

@@ -2,7 +2,7 @@ use Rattle.std.proofs.Common.{◌≡◌, []}
 use Rattle.uses.specs.Manager.{Follows, linked}
 use Rattle.uses.proofs.manager.turn.Given as goal
 
--- each poll so far reported a state that the interface followed, and the table and what needs memory
+-- each poll so far reported a state that the interface followed, and the table and what may answer
 -- are as they were
 abbrev pub invariant-loop : goal.invariant-loop
 invariant-loop g l = record {
@@ -12,5 +12,5 @@ invariant-loop g l = record {
       (linked (g.C.ManagedClient.client l.fn.client) l.fn.words l.fn.link) l.fn.interface
       (linked (g.C.ManagedClient.client l.client) l.words l.link) l.interface;
   same : g.C.ManagedClient.protocol l.client ≡ g.C.ManagedClient.protocol l.fn.client;
-  needs : g.C.ManagedClient.needs_memory l.client ≡ g.C.ManagedClient.needs_memory l.fn.client;
+  answers : g.C.ManagedClient.may_answer l.client ≡ g.C.ManagedClient.may_answer l.fn.client;
 }
