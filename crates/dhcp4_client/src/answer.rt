@@ -49,18 +49,19 @@ pub enum Refuser {
     Nobody,
     /// Any server.
     AnyServer,
-    /// The server with this identifier, option 54 (RFC 2132, section 9.7); 0.0.0.0 is that of a
-    /// message without the option.
+    /// The server with this identifier, option 54 (RFC 2132, section 9.7).
     Server(Ipv4Addr),
 }
 
 impl Refuser {
-    // Who may refuse a request of this offer or lease.
+    // Who may refuse a request of this offer or lease: by RFC 2131 section 3.1 the server that is
+    // asked, or that granted the lease; if none is known by name, any server, as by mozim.
     fn of(forms: DhcpV4MessageForms, lease: &DhcpV4Lease) -> Refuser
         ensures { result ≡ answers.refuser_of forms lease.now }
     {
         match forms {
             DhcpV4MessageForms::Mozim => Refuser::AnyServer,
+            DhcpV4MessageForms::Rfc2131 if lease.srv_id.is_unspecified() => Refuser::AnyServer,
             DhcpV4MessageForms::Rfc2131 => Refuser::Server(lease.srv_id),
         }
     }
@@ -194,12 +195,10 @@ fn concerns(awaited: Awaited, xid: u32, message: &DhcpV4View) -> bool
 }
 
 // Whether a message is from the server with this identifier.
-#[tactic(auto, using(std::proofs::lemmas::Grind::common_steps))]
 fn is_from(server: Ipv4Addr, message: &DhcpV4View) -> bool
     ensures { result ≡ answers.is_from server message.now }
 {
-    let identifier = message.server_identifier().unwrap_or(Ipv4Addr::UNSPECIFIED);
-    identifier.octets() == server.octets()
+    message.server_identifier() == Some(server)
 }
 
 /// Whether a message is of this type.

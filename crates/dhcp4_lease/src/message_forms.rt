@@ -16,8 +16,9 @@ pub enum DhcpV4MessageForms {
     /// by which servers renew, rebind and free a lease: a Request that renews or rebinds, and a
     /// Release, name the address in `ciaddr` alone. A Release and a Request that renews go to the
     /// server identifier of the lease; where it has none, the Release goes to `siaddr` and the
-    /// Request to all. A Nack counts only from that server, but of a lease that was held before
-    /// from any. An offer is requested four times at most. Option 61 is left out if no identifier
-    /// is set (RFC 2132, section 9.14: at least two bytes).
+    /// Request to all. A Nack counts only from that server, but of an offer or lease without an
+    /// identifier, and of a lease that was held before, from any. An offer is requested four times
+    /// at most. Option 61 is left out if no identifier is set (RFC 2132, section 9.14: at least two
+    /// bytes).
     Rfc2131,
 }
