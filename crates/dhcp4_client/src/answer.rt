@@ -166,12 +166,13 @@ pub fn read_answer<W: Words>(
 pub fn payload_in(carrier: PacketKind, packet: &Packet) -> Option<&[u8]>
     ensures { Finds (λ bytes. bytes.now) result (answers.payload_in carrier packet.now) }
 {
+    if packet.kind != carrier {
+        return None;
+    }
     let bytes = packet.bytes.as_slice();
-    match (carrier, packet.kind) {
-        (PacketKind::Frame, PacketKind::Frame) => payload_of_frame(bytes),
-        (PacketKind::Payload, PacketKind::Payload) => Some(bytes),
-        (PacketKind::Frame, PacketKind::Payload) => None,
-        (PacketKind::Payload, PacketKind::Frame) => None,
+    match carrier {
+        PacketKind::Frame => payload_of_frame(bytes),
+        PacketKind::Payload => Some(bytes),
     }
 }
 
