@@ -58,8 +58,7 @@ pub fn release_message(
     let payload = release_bytes(alloc, xid, config, lease)?;
     match held {
         Some(held) if !config.is_proxy => Ok(payload_release(config, held, lease, payload)),
-        Some(_) => framed_release(alloc, config, lease, payload),
-        None => framed_release(alloc, config, lease, payload),
+        Some(_) | None => framed_release(alloc, config, lease, payload),
     }
 }
 
@@ -218,12 +217,13 @@ fn with_carrier(
         (messages.with_carrier config.now state.now payload) }
 {
     match state {
-        ClientState::InitReboot => broadcast(alloc, config, payload),
-        ClientState::Selecting(_) => broadcast(alloc, config, payload),
-        ClientState::Rebooting(_) => broadcast(alloc, config, payload),
-        ClientState::Done(bound) => renewal(alloc, config, bound.lease(), payload),
-        ClientState::Renewing(bound) => renewal(alloc, config, bound.lease(), payload),
-        ClientState::Rebinding(_) => broadcast(alloc, config, payload),
+        ClientState::InitReboot
+        | ClientState::Selecting(_)
+        | ClientState::Rebooting(_)
+        | ClientState::Rebinding(_) => broadcast(alloc, config, payload),
+        ClientState::Done(bound) | ClientState::Renewing(bound) => {
+            renewal(alloc, config, bound.lease(), payload)
+        }
     }
 }
 

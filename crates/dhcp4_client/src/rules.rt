@@ -61,9 +61,7 @@ impl Rules for ClientRules {
 
     fn ending_moment(&self, state: &ClientState) -> Option<u64> {
         match state {
-            ClientState::InitReboot => None,
-            ClientState::Selecting(_) => None,
-            ClientState::Rebooting(_) => None,
+            ClientState::InitReboot | ClientState::Selecting(_) | ClientState::Rebooting(_) => None,
             ClientState::Done(bound) => Some(bound.after(bound.lease().t1_sec)),
             ClientState::Renewing(bound) => Some(bound.after(bound.lease().t2_sec)),
             ClientState::Rebinding(bound) => Some(bound.after(bound.lease().lease_time_sec)),
@@ -72,12 +70,12 @@ impl Rules for ClientRules {
 
     fn has_attempts(&self, state: &ClientState) -> bool {
         match state {
-            ClientState::InitReboot => true,
-            ClientState::Selecting(_) => true,
-            ClientState::Rebooting(_) => true,
+            ClientState::InitReboot
+            | ClientState::Selecting(_)
+            | ClientState::Rebooting(_)
+            | ClientState::Renewing(_)
+            | ClientState::Rebinding(_) => true,
             ClientState::Done(_) => false,
-            ClientState::Renewing(_) => true,
-            ClientState::Rebinding(_) => true,
         }
     }
 
@@ -85,12 +83,12 @@ impl Rules for ClientRules {
     // held before, and of an offer as `is_last_request` says.
     fn is_last_attempt(&self, state: &ClientState, exchange: Exchange) -> bool {
         match state {
-            ClientState::InitReboot => false,
             ClientState::Selecting(_) => is_last_request(self.config.message_forms(), exchange),
             ClientState::Rebooting(_) => exchange.retry_count >= MOST_RETRIES,
-            ClientState::Done(_) => false,
-            ClientState::Renewing(_) => false,
-            ClientState::Rebinding(_) => false,
+            ClientState::InitReboot
+            | ClientState::Done(_)
+            | ClientState::Renewing(_)
+            | ClientState::Rebinding(_) => false,
         }
     }
 
@@ -104,11 +102,11 @@ impl Rules for ClientRules {
     fn pause<W: Words>(&self, state: &ClientState, exchange: Exchange, words: &mut W) -> u64 {
         match state {
             ClientState::InitReboot => first_pause(exchange, words),
-            ClientState::Selecting(_) => 0,
-            ClientState::Rebooting(_) => 0,
-            ClientState::Done(_) => 0,
-            ClientState::Renewing(_) => 0,
-            ClientState::Rebinding(_) => 0,
+            ClientState::Selecting(_)
+            | ClientState::Rebooting(_)
+            | ClientState::Done(_)
+            | ClientState::Renewing(_)
+            | ClientState::Rebinding(_) => 0,
         }
     }
 
@@ -212,11 +210,11 @@ impl ClientRules {
                 *exchange = requesting(self.config.message_forms(), *exchange);
                 Ok(StateReport::new(DhcpV4State::Selecting))
             }
-            ClientState::Selecting(_) => self.bind(state, lease, now, exchange),
-            ClientState::Rebooting(_) => self.bind(state, lease, now, exchange),
-            ClientState::Done(_) => self.bind(state, lease, now, exchange),
-            ClientState::Renewing(_) => self.bind(state, lease, now, exchange),
-            ClientState::Rebinding(_) => self.bind(state, lease, now, exchange),
+            ClientState::Selecting(_)
+            | ClientState::Rebooting(_)
+            | ClientState::Done(_)
+            | ClientState::Renewing(_)
+            | ClientState::Rebinding(_) => self.bind(state, lease, now, exchange),
         }
     }
 

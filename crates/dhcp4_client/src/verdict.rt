@@ -115,8 +115,7 @@ fn verdict_of_other(refuser: Refuser, message: &DhcpV4View) -> Verdict
     ensures { result ≡ verdicts.verdict_of_other refuser message.now }
 {
     match refuser {
-        Refuser::Nobody => PacketVerdict::OtherType(message.message_type()),
-        Refuser::AnyServer => PacketVerdict::OtherType(message.message_type()),
+        Refuser::Nobody | Refuser::AnyServer => PacketVerdict::OtherType(message.message_type()),
         Refuser::Server(_) => {
             if is_of_type(DhcpV4MessageType::Nack, message) {
                 PacketVerdict::OtherServer

@@ -57,34 +57,31 @@ impl Rules for ClientRules {
 
     fn ending_moment(&self, state: &ClientState) -> Option<u64> {
         match state {
-            ClientState::Solicit => None,
-            ClientState::Request(_) => None,
+            ClientState::Solicit | ClientState::Request(_) => None,
             ClientState::Done(bound) => Some(renewal(bound)),
-            ClientState::Temporary(bound) => Some(expiry(bound)),
             ClientState::Renew(bound) => Some(rebinding(bound)),
-            ClientState::Rebind(bound) => Some(expiry(bound)),
+            ClientState::Temporary(bound) | ClientState::Rebind(bound) => Some(expiry(bound)),
         }
     }
 
     fn has_attempts(&self, state: &ClientState) -> bool {
         match state {
-            ClientState::Solicit => true,
-            ClientState::Request(_) => true,
-            ClientState::Done(_) => false,
-            ClientState::Temporary(_) => false,
-            ClientState::Renew(_) => true,
-            ClientState::Rebind(_) => true,
+            ClientState::Solicit
+            | ClientState::Request(_)
+            | ClientState::Renew(_)
+            | ClientState::Rebind(_) => true,
+            ClientState::Done(_) | ClientState::Temporary(_) => false,
         }
     }
 
     fn is_last_attempt(&self, state: &ClientState, exchange: Exchange) -> bool {
         match state {
-            ClientState::Solicit => false,
             ClientState::Request(_) => exchange.retransmit_count >= REQ_MAX_RC,
-            ClientState::Done(_) => false,
-            ClientState::Temporary(_) => false,
-            ClientState::Renew(_) => false,
-            ClientState::Rebind(_) => false,
+            ClientState::Solicit
+            | ClientState::Done(_)
+            | ClientState::Temporary(_)
+            | ClientState::Renew(_)
+            | ClientState::Rebind(_) => false,
         }
     }
 
@@ -100,11 +97,11 @@ impl Rules for ClientRules {
     fn pause<W: Words>(&self, state: &ClientState, exchange: Exchange, words: &mut W) -> u64 {
         match state {
             ClientState::Solicit => draw(0, SOL_MAX_DELAY, words.next_word()),
-            ClientState::Request(_) => 0,
-            ClientState::Done(_) => 0,
-            ClientState::Temporary(_) => 0,
-            ClientState::Renew(_) => 0,
-            ClientState::Rebind(_) => 0,
+            ClientState::Request(_)
+            | ClientState::Done(_)
+            | ClientState::Temporary(_)
+            | ClientState::Renew(_)
+            | ClientState::Rebind(_) => 0,
         }
     }
 
@@ -162,11 +159,11 @@ impl Rules for ClientRules {
                 *exchange = restarted(*exchange);
                 Ok(StateReport::new(DhcpV6State::Request))
             }
-            ClientState::Request(_) => self.bind(state, answer, now, exchange),
-            ClientState::Done(_) => self.bind(state, answer, now, exchange),
-            ClientState::Temporary(_) => self.bind(state, answer, now, exchange),
-            ClientState::Renew(_) => self.bind(state, answer, now, exchange),
-            ClientState::Rebind(_) => self.bind(state, answer, now, exchange),
+            ClientState::Request(_)
+            | ClientState::Done(_)
+            | ClientState::Temporary(_)
+            | ClientState::Renew(_)
+            | ClientState::Rebind(_) => self.bind(state, answer, now, exchange),
         }
     }
 
