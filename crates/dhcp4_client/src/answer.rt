@@ -11,8 +11,8 @@ ghost use Rattle.dhcp4_lease.specs.Lease.{read_lease};
 ghost use Rattle.dhcp4_client.specs.Answer as answers;
 ghost use Rattle.dhcp4_client.specs.Message.{renewal_server};
 
+use crate::boxed_lease::BoxedLease;
 use crate::client_state::ClientState;
-use crate::granted_lease::GrantedLease;
 use crate::message::{CLIENT_PORT, renewal_server};
 use dhcp_clock::{Packet, PacketKind, Words};
 use dhcp_frame::FrameView;
@@ -26,7 +26,7 @@ use std::net::Ipv4Addr;
 #[derive(Drop)]
 pub enum Answer {
     /// A server offers or grants this lease.
-    Granted(GrantedLease),
+    Granted(BoxedLease),
     /// A server refuses the request.
     Refused,
 }
@@ -235,7 +235,7 @@ pub fn lease_of<W: Words>(
     alloc: Global,
     message: &DhcpV4View,
     words: &mut W,
-) -> Result<Option<GrantedLease>, DhcpError>
+) -> Result<Option<BoxedLease>, DhcpError>
     ensures drawn { IfOk result (λ lease. GivesDrawn (read_lease message.now)
         (W.left words.old) lease (W.left words.new)) }
     ensures taken { IfOk result (λ lease. DrawsBy W.gives (read_lease message.now)
@@ -244,7 +244,7 @@ pub fn lease_of<W: Words>(
 {
     let message = message.to_message(alloc)?;
     match DhcpV4Lease::from_message(alloc, message, words) {
-        Ok(lease) => Ok(Some(GrantedLease::new(alloc, lease)?)),
+        Ok(lease) => Ok(Some(BoxedLease::new(alloc, lease)?)),
         Err(error) => none_if_refused(Err(error)),
     }
 }

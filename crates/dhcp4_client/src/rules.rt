@@ -13,8 +13,8 @@ ghost use Rattle.dhcp4_client.specs.declared.client_state.Exchange.{Exchange};
 
 use crate::DhcpV4State;
 use crate::answer::{Answer, Awaited, read_answer};
+use crate::boxed_lease::BoxedLease;
 use crate::client_state::{ClientState, Exchange};
-use crate::granted_lease::GrantedLease;
 use crate::message::{attempt_message, release_message};
 use dhcp_clock::{Handed, Packet, Words, discovery_wait, draw, half_wait};
 use dhcp_history::{AttemptStart, BoundLease, NewAttempt, Rules, StateReport, enter};
@@ -163,7 +163,7 @@ impl Rules for ClientRules {
     ) -> StateReport<DhcpV4State> {
         let reported = reported_after_end(state);
         *exchange = exchange_after_end(state, *exchange);
-        let next = ended(mem::replace(state, ClientState::InitReboot));
+        let next = state_after_end(mem::replace(state, ClientState::InitReboot));
         enter(state, next);
         StateReport::new(reported)
     }
@@ -192,7 +192,7 @@ impl ClientRules {
     fn after_grant(
         &self,
         state: &mut ClientState,
-        lease: GrantedLease,
+        lease: BoxedLease,
         now: u64,
         exchange: &mut Exchange,
     ) -> Result<StateReport<DhcpV4State>, AllocError>
@@ -222,7 +222,7 @@ impl ClientRules {
     fn bind(
         &self,
         state: &mut ClientState,
-        lease: GrantedLease,
+        lease: BoxedLease,
         now: u64,
         exchange: &mut Exchange,
     ) -> Result<StateReport<DhcpV4State>, AllocError>
@@ -250,7 +250,7 @@ fn out_of_memory(_error: DhcpError) -> AllocError {
 }
 
 // The state after the end of one.
-fn ended(state: ClientState) -> ClientState
+fn state_after_end(state: ClientState) -> ClientState
     ensures { (exchange : Exchange) → result ≡ (table.after_end state exchange).state }
 {
     match state {

@@ -173,9 +173,9 @@ impl Rules for ClientRules {
         exchange: &mut Exchange,
     ) -> StateReport<DhcpV6State> {
         *exchange = restarted(*exchange);
-        let reported = reported_after(state);
+        let reported = reported_after_end(state);
         let ended = mem::replace(state, ClientState::Solicit);
-        enter(state, state_after(ended));
+        enter(state, state_after_end(ended));
         reported
     }
 
@@ -228,7 +228,7 @@ fn out_of_memory(_error: DhcpError) -> AllocError {
 }
 
 // The state after the end of one.
-fn state_after(state: ClientState) -> ClientState
+fn state_after_end(state: ClientState) -> ClientState
     ensures { (exchange : Exchange) → result ≡ (table.after_end state exchange).state }
 {
     match state {
@@ -249,8 +249,8 @@ fn search_without<T: Drop>(lease: T) -> ClientState
     ClientState::Solicit
 }
 
-// What is reported of that state.
-fn reported_after(state: &ClientState) -> StateReport<DhcpV6State>
+// What is reported after the end of a state.
+fn reported_after_end(state: &ClientState) -> StateReport<DhcpV6State>
     ensures { (exchange : Exchange) → result ≡
         table.public_state (table.after_end state.now exchange).state }
 {
