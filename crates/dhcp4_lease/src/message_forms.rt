@@ -5,10 +5,10 @@
 /// are the same in both (RFC 2131, sections 4.4.1 and 4.3.2), but for option 61.
 #[derive(Clone, Copy, Debug, Default, PartialEq, Eq)]
 pub enum DhcpV4MessageForms {
-    /// The messages of mozim, byte for byte, for who needs those: a Request that renews or rebinds
-    /// names address and server in options 50 and 54, and a Release has no `ciaddr`; a Release and
-    /// a Request that renews go to `siaddr`; a Nack of any server counts; an offer is requested
-    /// until an answer comes or the time limit is over; and option 61 is there even if no
+    /// The messages of mozim, byte for byte, for callers that need them: a Request that renews or
+    /// rebinds names address and server in options 50 and 54, and a Release has no `ciaddr`; a
+    /// Release and a Request that renews go to `siaddr`; a Nack of any server counts; an offer is
+    /// requested until an answer comes or the time limit is over; and option 61 is there even if no
     /// identifier is set.
     #[default]
     Mozim,
