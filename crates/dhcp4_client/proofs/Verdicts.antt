@@ -3,6 +3,7 @@ use Rattle.std.proofs.Common.{◌≡◌, ℕ, List, [], Bool, true, false, refl,
 use Rattle.std.specs.Prelude.{◌==◌, ◌||◌, Option, Some, None, is_some, option_map, Result, Ok, Err, IfOk, if◌then◌else◌}
 use Rattle.dhcp_wire.specs.Error.{ErrorParts}
 use Rattle.dhcp_wire.specs.Field.{◌>>=◌}
+use Rattle.dhcp_clock.specs.contracts.link.PacketKindPartialEq.TheImpl as kinds
 use Rattle.dhcp_clock.specs.declared.link.Packet.{Packet}
 use Rattle.dhcp_clock.specs.declared.link.PacketKind.{PacketKind}
 use Rattle.dhcp_clock.specs.declared.link.PacketKind.TheVariants as carriers
@@ -24,7 +25,7 @@ use Rattle.dhcp4_client.specs.declared.answer.Refuser.{Refuser}
 use Rattle.dhcp4_client.specs.declared.answer.Refuser.TheVariants.{Nobody, AnyServer, Server}
 use Rattle.dhcp4_client.specs.Answer.{awaited, concerning, is_of_type, is_refusal, framed_payload, message_for, payload_by, reading_of}
 use Rattle.dhcp4_client.specs.Rules.{protocol}
-use Rattle.dhcp4_client.specs.Verdict.{Verdict, always_grants, is_same_carrier, packet_verdict, verdict_by, verdict_of_grant, verdict_of_message, verdict_of_other, verdict_of_payload, verdict_of_reply}
+use Rattle.dhcp4_client.specs.Verdict.{Verdict, always_grants, packet_verdict, verdict_by, verdict_of_grant, verdict_of_message, verdict_of_other, verdict_of_payload, verdict_of_reply}
 use Rattle.dhcp4_client.proofs.Granting.{always_granted, not_granted}
 
 -- whether a packet answers whose message this is, with these words
@@ -89,7 +90,7 @@ module _ (awaits : Awaited) (xid : ℕ) where
 
   -- a packet that is carried so
   tells_carried : (carrier kind : PacketKind) (bytes : List ℕ) → Tells (Some awaits) (payload_by carrier kind bytes >>= read_message >>= concerning awaits xid)
-      (if is_same_carrier carrier kind then verdict_of_payload awaits xid (payload_by carrier kind bytes) else verdicts.OtherCarrier)
+      (if kinds.ghosts.eq kind carrier then verdict_of_payload awaits xid (payload_by carrier kind bytes) else verdicts.OtherCarrier)
   tells_carried carriers.Frame carriers.Frame bytes = tells_payload (framed_payload bytes)
   tells_carried carriers.Frame carriers.Payload bytes = tells_none (Some awaits) verdicts.OtherCarrier refl
   tells_carried carriers.Payload carriers.Frame bytes = tells_none (Some awaits) verdicts.OtherCarrier refl

@@ -1,7 +1,7 @@
 -- What a packet answers to an open attempt, RFC 2131 sections 3.1 and 4.4: it is carried as the
 -- state awaits, to port 68; it has the transaction id of the attempt; and it is of the awaited
 -- type, or a refusal.
-use Rattle.std.specs.Prelude.{ℕ, ◌==◌, ◌&&◌, ◌||◌, Bool, false, List, Option, Some, None, option_map, unwrap_or, if◌then◌else◌}
+use Rattle.std.specs.Prelude.{ℕ, ◌==◌, ◌&&◌, ◌||◌, Bool, false, List, Option, Some, None, option_map, if◌then◌else◌}
 use Rattle.std.specs.Net.Addr.{ipv4_octets}
 use Rattle.std.specs.Option.{option_map_or}
 use Rattle.std.specs.Str.{bytes_eq}
@@ -16,12 +16,13 @@ use Rattle.dhcp_frame.specs.declared.frame.Frame.{Frame}
 use Rattle.dhcp4_msg.specs.declared.message.DhcpV4Message.{DhcpV4Message}
 use Rattle.dhcp4_msg.specs.declared.message_type.DhcpV4MessageType.{DhcpV4MessageType}
 use Rattle.dhcp4_msg.specs.declared.message_type.DhcpV4MessageType.TheVariants.{Offer, Ack, Nack}
-use Rattle.dhcp4_msg.specs.Message.{no_address, read_message}
+use Rattle.dhcp4_msg.specs.Message.{read_message}
 use Rattle.dhcp4_msg.specs.MessageType.{type_number}
 use Rattle.dhcp4_msg.specs.Options.{message_type, server_identifier}
 use Rattle.dhcp4_lease.specs.declared.message_forms.DhcpV4MessageForms.{DhcpV4MessageForms}
 use Rattle.dhcp4_lease.specs.declared.message_forms.DhcpV4MessageForms.TheVariants.{Mozim, Rfc2131}
 use Rattle.dhcp4_lease.specs.Lease.{Lease, read_lease}
+use Rattle.dhcp4_lease.specs.MessageTable.{is_unspecified}
 use Rattle.dhcp4_client.specs.declared.answer.Answer.{Answer}
 use Rattle.dhcp4_client.specs.declared.answer.Answer.TheVariants.{Granted, Refused}
 use Rattle.dhcp4_client.specs.declared.answer.Awaited.{Awaited}
@@ -32,10 +33,12 @@ use Rattle.dhcp4_client.specs.declared.client_state.ClientState.TheVariants.{Ini
 use Rattle.dhcp4_client.specs.Message.{renewal_server}
 
 -- Who may refuse a request of this offer or lease, RFC 2131 section 3.1: by its forms the server
--- that is asked, or that granted the lease; by mozim's any server.
+-- that is asked, or that granted the lease, if its identifier is known; else, and by mozim's forms,
+-- any server.
 abbrev pub refuser_of : DhcpV4MessageForms → Lease → Refuser
 refuser_of Mozim lease = AnyServer
-refuser_of Rfc2131 lease = Server lease.srv_id
+refuser_of Rfc2131 lease =
+    if is_unspecified lease.srv_id then AnyServer else Server lease.srv_id
 
 -- how the answer to a renewal is carried: as the renewal is that goes to this server, or to any
 abbrev pub renewal_carrier : Option Ipv4Addr → PacketKind
@@ -83,11 +86,11 @@ is_of_type kind message =
     (message_type message.options) false
 
 -- whether a message is from the server with this identifier, option 54 (RFC 2132, section 9.7); one
--- without it is from 0.0.0.0
+-- without that option is from none
 abbrev pub is_from : Ipv4Addr → DhcpV4Message → Bool
 is_from server message =
-    bytes_eq (ipv4_octets (unwrap_or (server_identifier message.options) no_address))
-    (ipv4_octets server)
+    option_map_or (λ found. bytes_eq (ipv4_octets found) (ipv4_octets server))
+    (server_identifier message.options) false
 
 -- whether a message is a Nack of one who may refuse
 abbrev pub is_refusal : Refuser → DhcpV4Message → Bool

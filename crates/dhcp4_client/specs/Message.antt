@@ -114,8 +114,9 @@ payload_release xid config held lease =
     handed.Udp4 held.yiaddr (release_server config.message_forms held.siaddr lease)
     (release_bytes xid config lease)
 
--- The release of a lease by a client that holds this one or none: as a proxy, whose lease is for
--- another host, or without a lease that it holds, in a frame; else in a payload.
+-- The release of `lease` by a client that holds the lease `held`, or none. As a proxy, whose lease
+-- is for another host, or without a held lease, it goes in a frame; else as a payload from the
+-- address of `held`.
 abbrev pub release_message : ℕ → Config → Option Lease → Lease → Handed
 release_message xid config None lease = framed_release xid config lease
 release_message xid config (Some held) lease =

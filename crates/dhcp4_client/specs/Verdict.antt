@@ -1,11 +1,10 @@
 -- What a packet is to a client as it stands, RFC 2131 sections 3.1 and 4.4: its answer, or what a
 -- packet of its kind lacks. A packet is tested as its reading does: its carrier and its port, its
 -- message, its transaction id, its type, its server, its lease.
-use Rattle.std.specs.Prelude.{ℕ, ◌∷◌, ◌==◌, ◌&&◌, Bool, true, false, List, [], Option, Some, None, is_some, if◌then◌else◌}
+use Rattle.std.specs.Prelude.{ℕ, ◌∷◌, ◌==◌, ◌&&◌, Bool, List, [], Option, Some, None, is_some, if◌then◌else◌}
 use Rattle.dhcp_wire.specs.declared.error.ErrorKind.TheVariants.{InvalidDhcpMessage}
+use Rattle.dhcp_clock.specs.contracts.link.PacketKindPartialEq.TheImpl as carriers
 use Rattle.dhcp_clock.specs.declared.link.Packet.{Packet}
-use Rattle.dhcp_clock.specs.declared.link.PacketKind.{PacketKind}
-use Rattle.dhcp_clock.specs.declared.link.PacketKind.TheVariants as carriers
 use Rattle.dhcp_verdict.specs.declared.packet_verdict.PacketVerdict.{PacketVerdict}
 use Rattle.dhcp_verdict.specs.declared.packet_verdict.PacketVerdict.TheVariants as verdicts
 use Rattle.dhcp_verdict.specs.OpenAttempt.{is_open}
@@ -73,17 +72,10 @@ verdict_of_payload awaited xid None = verdicts.NoFrame
 verdict_of_payload awaited xid (Some payload) =
     verdict_of_message awaited xid (read_message payload)
 
--- whether two carriers are the same
-abbrev pub is_same_carrier : PacketKind → PacketKind → Bool
-is_same_carrier carriers.Frame carriers.Frame = true
-is_same_carrier carriers.Frame carriers.Payload = false
-is_same_carrier carriers.Payload carriers.Frame = false
-is_same_carrier carriers.Payload carriers.Payload = true
-
 -- a packet for an attempt with this transaction id
 abbrev pub verdict_of_packet : Awaited → ℕ → Packet → Verdict
 verdict_of_packet awaited xid packet =
-    if is_same_carrier awaited.carrier packet.kind
+    if carriers.ghosts.eq packet.kind awaited.carrier
     then verdict_of_payload awaited xid (payload_in awaited.carrier packet)
     else verdicts.OtherCarrier
 

@@ -11,8 +11,8 @@ ghost use Rattle.dhcp4_lease.specs.Lease.{read_lease};
 ghost use Rattle.dhcp4_client.specs.Answer as answers;
 ghost use Rattle.dhcp4_client.specs.Message.{renewal_server};
 
+use crate::boxed_lease::BoxedLease;
 use crate::client_state::ClientState;
-use crate::granted_lease::GrantedLease;
 use crate::message::{CLIENT_PORT, renewal_server};
 use dhcp_clock::{Packet, PacketKind, Words};
 use dhcp_frame::FrameView;
@@ -26,7 +26,7 @@ use std::net::Ipv4Addr;
 #[derive(Drop)]
 pub enum Answer {
     /// A server offers or grants this lease.
-    Granted(GrantedLease),
+    Granted(BoxedLease),
     /// A server refuses the request.
     Refused,
 }
@@ -49,18 +49,19 @@ pub enum Refuser {
     Nobody,
     /// Any server.
     AnyServer,
-    /// The server with this identifier, option 54 (RFC 2132, section 9.7); 0.0.0.0 is that of a
-    /// message without the option.
+    /// The server with this identifier, option 54 (RFC 2132, section 9.7).
     Server(Ipv4Addr),
 }
 
 impl Refuser {
-    // Who may refuse a request of this offer or lease.
+    // Who may refuse a request of this offer or lease: by RFC 2131 section 3.1 the server that is
+    // asked, or that granted the lease; if none is known by name, any server, as by mozim.
     fn of(forms: DhcpV4MessageForms, lease: &DhcpV4Lease) -> Refuser
         ensures { result ≡ answers.refuser_of forms lease.now }
     {
         match forms {
             DhcpV4MessageForms::Mozim => Refuser::AnyServer,
+            DhcpV4MessageForms::Rfc2131 if lease.srv_id.is_unspecified() => Refuser::AnyServer,
             DhcpV4MessageForms::Rfc2131 => Refuser::Server(lease.srv_id),
         }
     }
@@ -165,12 +166,13 @@ pub fn read_answer<W: Words>(
 pub fn payload_in(carrier: PacketKind, packet: &Packet) -> Option<&[u8]>
     ensures { Finds (λ bytes. bytes.now) result (answers.payload_in carrier packet.now) }
 {
+    if packet.kind != carrier {
+        return None;
+    }
     let bytes = packet.bytes.as_slice();
-    match (carrier, packet.kind) {
-        (PacketKind::Frame, PacketKind::Frame) => payload_of_frame(bytes),
-        (PacketKind::Payload, PacketKind::Payload) => Some(bytes),
-        (PacketKind::Frame, PacketKind::Payload) => None,
-        (PacketKind::Payload, PacketKind::Frame) => None,
+    match carrier {
+        PacketKind::Frame => payload_of_frame(bytes),
+        PacketKind::Payload => Some(bytes),
     }
 }
 
@@ -194,12 +196,10 @@ fn concerns(awaited: Awaited, xid: u32, message: &DhcpV4View) -> bool
 }
 
 // Whether a message is from the server with this identifier.
-#[tactic(auto, using(std::proofs::lemmas::Grind::common_steps))]
 fn is_from(server: Ipv4Addr, message: &DhcpV4View) -> bool
     ensures { result ≡ answers.is_from server message.now }
 {
-    let identifier = message.server_identifier().unwrap_or(Ipv4Addr::UNSPECIFIED);
-    identifier.octets() == server.octets()
+    message.server_identifier() == Some(server)
 }
 
 /// Whether a message is of this type.
@@ -235,7 +235,7 @@ pub fn lease_of<W: Words>(
     alloc: Global,
     message: &DhcpV4View,
     words: &mut W,
-) -> Result<Option<GrantedLease>, DhcpError>
+) -> Result<Option<BoxedLease>, DhcpError>
     ensures drawn { IfOk result (λ lease. GivesDrawn (read_lease message.now)
         (W.left words.old) lease (W.left words.new)) }
     ensures taken { IfOk result (λ lease. DrawsBy W.gives (read_lease message.now)
@@ -244,7 +244,7 @@ pub fn lease_of<W: Words>(
 {
     let message = message.to_message(alloc)?;
     match DhcpV4Lease::from_message(alloc, message, words) {
-        Ok(lease) => Ok(Some(GrantedLease::new(alloc, lease)?)),
+        Ok(lease) => Ok(Some(BoxedLease::new(alloc, lease)?)),
         Err(error) => none_if_refused(Err(error)),
     }
 }

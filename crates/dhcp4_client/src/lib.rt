@@ -3,9 +3,9 @@
 #![tactic(auto)]
 
 mod answer;
+mod boxed_lease;
 mod client;
 mod client_state;
-mod granted_lease;
 pub mod laws;
 mod message;
 mod rules;

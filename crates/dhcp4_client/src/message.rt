@@ -24,7 +24,7 @@ use std::net::Ipv4Addr;
 /// The UDP port of a client, RFC 2131 section 4.1.
 pub const CLIENT_PORT: u16 = 68;
 
-// That of a server.
+// The UDP port of a server.
 const SERVER_PORT: u16 = 67;
 
 /// What is handed to the link at an attempt in a state. Out of memory is the only error.
@@ -42,8 +42,9 @@ pub fn attempt_message(
     with_carrier(alloc, config, state, payload)
 }
 
-/// The release of a lease by a client that holds this one or none: as a proxy, or without a lease
-/// that it holds, in a frame; else in a payload. Out of memory is the only error.
+/// The release of `lease` by a client that holds the lease `held`, or none. As a proxy, or without
+/// a held lease, it goes in a frame; else as a payload from the address of `held`. Out of memory is
+/// the only error.
 pub fn release_message(
     alloc: Global,
     xid: u32,
@@ -58,8 +59,7 @@ pub fn release_message(
     let payload = release_bytes(alloc, xid, config, lease)?;
     match held {
         Some(held) if !config.is_proxy => Ok(payload_release(config, held, lease, payload)),
-        Some(_) => framed_release(alloc, config, lease, payload),
-        None => framed_release(alloc, config, lease, payload),
+        Some(_) | None => framed_release(alloc, config, lease, payload),
     }
 }
 
@@ -218,12 +218,13 @@ fn with_carrier(
         (messages.with_carrier config.now state.now payload) }
 {
     match state {
-        ClientState::InitReboot => broadcast(alloc, config, payload),
-        ClientState::Selecting(_) => broadcast(alloc, config, payload),
-        ClientState::Rebooting(_) => broadcast(alloc, config, payload),
-        ClientState::Done(bound) => renewal(alloc, config, bound.lease(), payload),
-        ClientState::Renewing(bound) => renewal(alloc, config, bound.lease(), payload),
-        ClientState::Rebinding(_) => broadcast(alloc, config, payload),
+        ClientState::InitReboot
+        | ClientState::Selecting(_)
+        | ClientState::Rebooting(_)
+        | ClientState::Rebinding(_) => broadcast(alloc, config, payload),
+        ClientState::Done(bound) | ClientState::Renewing(bound) => {
+            renewal(alloc, config, bound.lease(), payload)
+        }
     }
 }
 

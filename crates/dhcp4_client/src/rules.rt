@@ -13,8 +13,8 @@ ghost use Rattle.dhcp4_client.specs.declared.client_state.Exchange.{Exchange};
 
 use crate::DhcpV4State;
 use crate::answer::{Answer, Awaited, read_answer};
+use crate::boxed_lease::BoxedLease;
 use crate::client_state::{ClientState, Exchange};
-use crate::granted_lease::GrantedLease;
 use crate::message::{attempt_message, release_message};
 use dhcp_clock::{Handed, Packet, Words, discovery_wait, draw, half_wait};
 use dhcp_history::{AttemptStart, BoundLease, NewAttempt, Rules, StateReport, enter};
@@ -61,9 +61,7 @@ impl Rules for ClientRules {
 
     fn ending_moment(&self, state: &ClientState) -> Option<u64> {
         match state {
-            ClientState::InitReboot => None,
-            ClientState::Selecting(_) => None,
-            ClientState::Rebooting(_) => None,
+            ClientState::InitReboot | ClientState::Selecting(_) | ClientState::Rebooting(_) => None,
             ClientState::Done(bound) => Some(bound.after(bound.lease().t1_sec)),
             ClientState::Renewing(bound) => Some(bound.after(bound.lease().t2_sec)),
             ClientState::Rebinding(bound) => Some(bound.after(bound.lease().lease_time_sec)),
@@ -72,12 +70,12 @@ impl Rules for ClientRules {
 
     fn has_attempts(&self, state: &ClientState) -> bool {
         match state {
-            ClientState::InitReboot => true,
-            ClientState::Selecting(_) => true,
-            ClientState::Rebooting(_) => true,
+            ClientState::InitReboot
+            | ClientState::Selecting(_)
+            | ClientState::Rebooting(_)
+            | ClientState::Renewing(_)
+            | ClientState::Rebinding(_) => true,
             ClientState::Done(_) => false,
-            ClientState::Renewing(_) => true,
-            ClientState::Rebinding(_) => true,
         }
     }
 
@@ -85,12 +83,12 @@ impl Rules for ClientRules {
     // held before, and of an offer as `is_last_request` says.
     fn is_last_attempt(&self, state: &ClientState, exchange: Exchange) -> bool {
         match state {
-            ClientState::InitReboot => false,
             ClientState::Selecting(_) => is_last_request(self.config.message_forms(), exchange),
             ClientState::Rebooting(_) => exchange.retry_count >= MOST_RETRIES,
-            ClientState::Done(_) => false,
-            ClientState::Renewing(_) => false,
-            ClientState::Rebinding(_) => false,
+            ClientState::InitReboot
+            | ClientState::Done(_)
+            | ClientState::Renewing(_)
+            | ClientState::Rebinding(_) => false,
         }
     }
 
@@ -104,11 +102,11 @@ impl Rules for ClientRules {
     fn pause<W: Words>(&self, state: &ClientState, exchange: Exchange, words: &mut W) -> u64 {
         match state {
             ClientState::InitReboot => first_pause(exchange, words),
-            ClientState::Selecting(_) => 0,
-            ClientState::Rebooting(_) => 0,
-            ClientState::Done(_) => 0,
-            ClientState::Renewing(_) => 0,
-            ClientState::Rebinding(_) => 0,
+            ClientState::Selecting(_)
+            | ClientState::Rebooting(_)
+            | ClientState::Done(_)
+            | ClientState::Renewing(_)
+            | ClientState::Rebinding(_) => 0,
         }
     }
 
@@ -165,7 +163,7 @@ impl Rules for ClientRules {
     ) -> StateReport<DhcpV4State> {
         let reported = reported_after_end(state);
         *exchange = exchange_after_end(state, *exchange);
-        let next = ended(mem::replace(state, ClientState::InitReboot));
+        let next = state_after_end(mem::replace(state, ClientState::InitReboot));
         enter(state, next);
         StateReport::new(reported)
     }
@@ -194,7 +192,7 @@ impl ClientRules {
     fn after_grant(
         &self,
         state: &mut ClientState,
-        lease: GrantedLease,
+        lease: BoxedLease,
         now: u64,
         exchange: &mut Exchange,
     ) -> Result<StateReport<DhcpV4State>, AllocError>
@@ -212,11 +210,11 @@ impl ClientRules {
                 *exchange = requesting(self.config.message_forms(), *exchange);
                 Ok(StateReport::new(DhcpV4State::Selecting))
             }
-            ClientState::Selecting(_) => self.bind(state, lease, now, exchange),
-            ClientState::Rebooting(_) => self.bind(state, lease, now, exchange),
-            ClientState::Done(_) => self.bind(state, lease, now, exchange),
-            ClientState::Renewing(_) => self.bind(state, lease, now, exchange),
-            ClientState::Rebinding(_) => self.bind(state, lease, now, exchange),
+            ClientState::Selecting(_)
+            | ClientState::Rebooting(_)
+            | ClientState::Done(_)
+            | ClientState::Renewing(_)
+            | ClientState::Rebinding(_) => self.bind(state, lease, now, exchange),
         }
     }
 
@@ -224,7 +222,7 @@ impl ClientRules {
     fn bind(
         &self,
         state: &mut ClientState,
-        lease: GrantedLease,
+        lease: BoxedLease,
         now: u64,
         exchange: &mut Exchange,
     ) -> Result<StateReport<DhcpV4State>, AllocError>
@@ -252,7 +250,7 @@ fn out_of_memory(_error: DhcpError) -> AllocError {
 }
 
 // The state after the end of one.
-fn ended(state: ClientState) -> ClientState
+fn state_after_end(state: ClientState) -> ClientState
     ensures { (exchange : Exchange) → result ≡ (table.after_end state exchange).state }
 {
     match state {

@@ -11,7 +11,7 @@ ghost use Rattle.dhcp4_client.specs.Verdict as verdicts;
 use crate::answer::{Awaited, Refuser, is_of_type, lease_of, payload_in};
 use crate::client_state::{ClientState, Exchange};
 use crate::rules::ClientRules;
-use dhcp_clock::{Packet, PacketKind, WordList};
+use dhcp_clock::{Packet, WordList};
 use dhcp_history::Client;
 use dhcp_verdict::{PacketVerdict, is_open};
 use dhcp_wire::{DhcpError, ErrorKind};
@@ -64,7 +64,7 @@ fn verdict_of_packet(
     ensures needed { OnErr result
         (is_some (answers.message_for (Some awaited) xid packet.now) ≡ true) }
 {
-    if !is_same_carrier(awaited.carrier, packet.kind) {
+    if packet.kind != awaited.carrier {
         return Ok(PacketVerdict::OtherCarrier);
     }
     let Some(payload) = payload_in(awaited.carrier, packet) else {
@@ -77,18 +77,6 @@ fn verdict_of_packet(
         return Ok(PacketVerdict::OtherTransactionId);
     }
     verdict_of_reply(alloc, awaited, &view)
-}
-
-// Whether two carriers are the same.
-fn is_same_carrier(first: PacketKind, second: PacketKind) -> bool
-    ensures { result ≡ verdicts.is_same_carrier first second }
-{
-    match (first, second) {
-        (PacketKind::Frame, PacketKind::Frame) => true,
-        (PacketKind::Frame, PacketKind::Payload) => false,
-        (PacketKind::Payload, PacketKind::Frame) => false,
-        (PacketKind::Payload, PacketKind::Payload) => true,
-    }
 }
 
 // What a message is that has the transaction id of the attempt.
@@ -127,8 +115,7 @@ fn verdict_of_other(refuser: Refuser, message: &DhcpV4View) -> Verdict
     ensures { result ≡ verdicts.verdict_of_other refuser message.now }
 {
     match refuser {
-        Refuser::Nobody => PacketVerdict::OtherType(message.message_type()),
-        Refuser::AnyServer => PacketVerdict::OtherType(message.message_type()),
+        Refuser::Nobody | Refuser::AnyServer => PacketVerdict::OtherType(message.message_type()),
         Refuser::Server(_) => {
             if is_of_type(DhcpV4MessageType::Nack, message) {
                 PacketVerdict::OtherServer

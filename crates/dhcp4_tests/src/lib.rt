@@ -12,6 +12,8 @@ mod message;
 #[cfg(test)]
 mod message_table;
 #[cfg(test)]
+mod nack;
+#[cfg(test)]
 mod option;
 #[cfg(test)]
 mod route;

@@ -11,11 +11,11 @@ use std::alloc::Global;
 
 type Verdict = PacketVerdict<Option<DhcpV4MessageType>>;
 
-// The port of the client, the first byte of the cookie, and the last byte of the transaction id.
-const PLAIN: [u8; 3] = [68, 0x63, 0];
+/// The port of the client, the first byte of the cookie, and the last byte of the transaction id.
+pub const PLAIN: [u8; 3] = [68, 0x63, 0];
 
-// An offer of 192.0.2.10 by 192.0.2.1 for 100 seconds: options 53, 54 and 51.
-const OFFER: [u8; 15] = [53, 1, 2, 54, 4, 192, 0, 2, 1, 51, 4, 0, 0, 0, 100];
+/// An offer of 192.0.2.10 by 192.0.2.1 for 100 seconds: options 53, 54 and 51.
+pub const OFFER: [u8; 15] = [53, 1, 2, 54, 4, 192, 0, 2, 1, 51, 4, 0, 0, 0, 100];
 
 // The same, as an Ack.
 const ACK: [u8; 15] = [53, 1, 5, 54, 4, 192, 0, 2, 1, 51, 4, 0, 0, 0, 100];
@@ -39,8 +39,8 @@ fn frame(alloc: Global, head: [u8; 3], options: &[u8]) -> Result<Bytes, DhcpErro
     Ok(bytes.into_bytes())
 }
 
-// A packet of this kind, with the bytes of such a frame.
-fn packet(
+/// A packet of this kind, with the bytes of such a frame.
+pub fn packet(
     alloc: Global,
     kind: PacketKind,
     head: [u8; 3],
@@ -50,9 +50,9 @@ fn packet(
     Ok(Packet { kind, bytes })
 }
 
-// A client that names the server that it asks, with a time limit of 100 seconds. It draws zeros, so
-// its transaction id is 0.
-fn client(alloc: Global) -> Result<Box<DhcpV4Client>, DhcpError> {
+/// A client that names the server that it asks, with a time limit of 100 seconds. It draws zeros,
+/// so its transaction id is 0.
+pub fn client(alloc: Global) -> Result<Box<DhcpV4Client>, DhcpError> {
     let mut config = DhcpV4Config::new(alloc, "eth0")?;
     config
         .set_iface_index(1)
@@ -63,8 +63,8 @@ fn client(alloc: Global) -> Result<Box<DhcpV4Client>, DhcpError> {
     boxed(alloc, client)
 }
 
-// A poll at this moment, in milliseconds, where this packet waits.
-fn poll(
+/// A poll at this moment, in milliseconds, where this packet waits.
+pub fn poll(
     alloc: Global,
     client: &mut DhcpV4Client,
     now: u64,
@@ -79,9 +79,9 @@ fn poll(
     Ok(())
 }
 
-// Brings a client that began into REQUESTING, and has it request the offer.
-fn request(alloc: Global, client: &mut DhcpV4Client) -> Result<(), DhcpError> {
-    let offer = packet(alloc, PacketKind::Frame, PLAIN, &OFFER)?;
+/// Brings a client that began into REQUESTING, and has it request this offer.
+pub fn request(alloc: Global, client: &mut DhcpV4Client, offer: &[u8]) -> Result<(), DhcpError> {
+    let offer = packet(alloc, PacketKind::Frame, PLAIN, offer)?;
     poll(alloc, client, 0, None)?;
     poll(alloc, client, 1, Some(offer))?;
     poll(alloc, client, 1, None)
@@ -110,7 +110,7 @@ fn are_when_requesting(
 ) -> Result<bool, DhcpError> {
     match client(alloc) {
         Ok(mut client) => {
-            request(alloc, &mut client)?;
+            request(alloc, &mut client, &OFFER)?;
             are(alloc, &client, 2, cases)
         }
         Err(error) => Err(error),

@@ -57,34 +57,31 @@ impl Rules for ClientRules {
 
     fn ending_moment(&self, state: &ClientState) -> Option<u64> {
         match state {
-            ClientState::Solicit => None,
-            ClientState::Request(_) => None,
+            ClientState::Solicit | ClientState::Request(_) => None,
             ClientState::Done(bound) => Some(renewal(bound)),
-            ClientState::Temporary(bound) => Some(expiry(bound)),
             ClientState::Renew(bound) => Some(rebinding(bound)),
-            ClientState::Rebind(bound) => Some(expiry(bound)),
+            ClientState::Temporary(bound) | ClientState::Rebind(bound) => Some(expiry(bound)),
         }
     }
 
     fn has_attempts(&self, state: &ClientState) -> bool {
         match state {
-            ClientState::Solicit => true,
-            ClientState::Request(_) => true,
-            ClientState::Done(_) => false,
-            ClientState::Temporary(_) => false,
-            ClientState::Renew(_) => true,
-            ClientState::Rebind(_) => true,
+            ClientState::Solicit
+            | ClientState::Request(_)
+            | ClientState::Renew(_)
+            | ClientState::Rebind(_) => true,
+            ClientState::Done(_) | ClientState::Temporary(_) => false,
         }
     }
 
     fn is_last_attempt(&self, state: &ClientState, exchange: Exchange) -> bool {
         match state {
-            ClientState::Solicit => false,
             ClientState::Request(_) => exchange.retransmit_count >= REQ_MAX_RC,
-            ClientState::Done(_) => false,
-            ClientState::Temporary(_) => false,
-            ClientState::Renew(_) => false,
-            ClientState::Rebind(_) => false,
+            ClientState::Solicit
+            | ClientState::Done(_)
+            | ClientState::Temporary(_)
+            | ClientState::Renew(_)
+            | ClientState::Rebind(_) => false,
         }
     }
 
@@ -100,11 +97,11 @@ impl Rules for ClientRules {
     fn pause<W: Words>(&self, state: &ClientState, exchange: Exchange, words: &mut W) -> u64 {
         match state {
             ClientState::Solicit => draw(0, SOL_MAX_DELAY, words.next_word()),
-            ClientState::Request(_) => 0,
-            ClientState::Done(_) => 0,
-            ClientState::Temporary(_) => 0,
-            ClientState::Renew(_) => 0,
-            ClientState::Rebind(_) => 0,
+            ClientState::Request(_)
+            | ClientState::Done(_)
+            | ClientState::Temporary(_)
+            | ClientState::Renew(_)
+            | ClientState::Rebind(_) => 0,
         }
     }
 
@@ -162,11 +159,11 @@ impl Rules for ClientRules {
                 *exchange = restarted(*exchange);
                 Ok(StateReport::new(DhcpV6State::Request))
             }
-            ClientState::Request(_) => self.bind(state, answer, now, exchange),
-            ClientState::Done(_) => self.bind(state, answer, now, exchange),
-            ClientState::Temporary(_) => self.bind(state, answer, now, exchange),
-            ClientState::Renew(_) => self.bind(state, answer, now, exchange),
-            ClientState::Rebind(_) => self.bind(state, answer, now, exchange),
+            ClientState::Request(_)
+            | ClientState::Done(_)
+            | ClientState::Temporary(_)
+            | ClientState::Renew(_)
+            | ClientState::Rebind(_) => self.bind(state, answer, now, exchange),
         }
     }
 
@@ -176,9 +173,9 @@ impl Rules for ClientRules {
         exchange: &mut Exchange,
     ) -> StateReport<DhcpV6State> {
         *exchange = restarted(*exchange);
-        let reported = reported_after(state);
+        let reported = reported_after_end(state);
         let ended = mem::replace(state, ClientState::Solicit);
-        enter(state, state_after(ended));
+        enter(state, state_after_end(ended));
         reported
     }
 
@@ -231,7 +228,7 @@ fn out_of_memory(_error: DhcpError) -> AllocError {
 }
 
 // The state after the end of one.
-fn state_after(state: ClientState) -> ClientState
+fn state_after_end(state: ClientState) -> ClientState
     ensures { (exchange : Exchange) → result ≡ (table.after_end state exchange).state }
 {
     match state {
@@ -252,8 +249,8 @@ fn search_without<T: Drop>(lease: T) -> ClientState
     ClientState::Solicit
 }
 
-// What is reported of that state.
-fn reported_after(state: &ClientState) -> StateReport<DhcpV6State>
+// What is reported after the end of a state.
+fn reported_after_end(state: &ClientState) -> StateReport<DhcpV6State>
     ensures { (exchange : Exchange) → result ≡
         table.public_state (table.after_end state.now exchange).state }
 {

@@ -12,7 +12,7 @@ const LEASED_AT_ONCE: &str = "
       state done LEASE 300 525 600 REST
 ";
 
-const LIVES: [Life; 8] = [
+const LIVES: [Life; 9] = [
     Life {
         name: "an Offer never acknowledged, a Nack of another server, renewal, rebinding, release",
         line: USUAL,
@@ -74,11 +74,29 @@ const LIVES: [Life; 8] = [
               state renewing
               handed frame RFC_REBIND
             at 300020 ok payload ACK_OF_600_PAYLOAD
-            at 300030 ok frame NACK
             at 300040 ok frame ACK_OF_NOBODY
               state done LEASE_OF_NOBODY 300 525 600 REST
             at 300050 ok release
               handed UNICAST RFC_RELEASE
+              handed frame RFC_DISCOVER
+        ",
+    },
+    Life {
+        name: "any server refuses to renew a lease without a server identifier",
+        line: USUAL,
+        begins: "",
+        goes_on: "
+            at 0 ok frame OFFER
+              handed frame RFC_DISCOVER
+              state selecting
+              handed frame RFC_REQUEST
+            at 10 ok frame ACK_OF_NOBODY
+              state done LEASE_OF_NOBODY 300 525 600 REST
+            at 300010 ok none
+              state renewing
+              handed frame RFC_REBIND
+            at 300020 ok frame NACK_OF_2
+              state init_reboot
               handed frame RFC_DISCOVER
         ",
     },

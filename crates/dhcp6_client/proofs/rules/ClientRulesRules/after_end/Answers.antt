@@ -7,4 +7,4 @@ use Rattle.dhcp6_client.proofs.rules.ClientRulesRules.after_end.Goals as goal
 pub returns-clause-reported : goal.returns-clause-reported
 returns-clause-reported c =
     let next = λ (state : ClientState). (table.after_end state c.restarted.result).state in
-    c.reported_after-reported.ensures c.restarted.result ∙ sym (ap table.public_state (c.enter.ensures ∙ c.state_after.ensures c.restarted.result ∙ ap next c.replace-ended.ensures.value))
+    c.reported_after_end-reported.ensures c.restarted.result ∙ sym (ap table.public_state (c.enter.ensures ∙ c.state_after_end.ensures c.restarted.result ∙ ap next c.replace-ended.ensures.value))

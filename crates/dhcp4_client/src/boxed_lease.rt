@@ -9,11 +9,11 @@ use std::marker::Model;
 /// A lease that a server offers or grants, in a box of its own: a lease is large, and this one is
 /// handed on from call to call. Contracts see it as the lease.
 #[derive(Drop)]
-pub struct GrantedLease {
+pub struct BoxedLease {
     lease: Box<DhcpV4Lease>,
 }
 
-impl Model for GrantedLease {
+impl Model for BoxedLease {
     ghost use Rattle.std.specs.Coded.{codes};
     ghost use Rattle.dhcp4_lease.specs.contracts.lease.DhcpV4Lease as lease_model;
     ghost use Rattle.dhcp4_lease.specs.Lease.{Lease};
@@ -22,15 +22,15 @@ impl Model for GrantedLease {
 
     ghost coded = { Prim.hlevel (codes, lease_model.the_row.coded) };
 
-    ghost view = { λ granted. granted.lease.value };
+    ghost view = { λ boxed. boxed.lease.value };
 }
 
-impl GrantedLease {
+impl BoxedLease {
     /// A lease that is granted. Out of memory is the only error.
     pub fn new(alloc: Global, lease: DhcpV4Lease) -> Result<Self, AllocError>
-        ensures { IfOk result (λ granted. granted ≡ lease) }
+        ensures { IfOk result (λ boxed. boxed ≡ lease) }
     {
-        Ok(GrantedLease {
+        Ok(BoxedLease {
             lease: Box::new(alloc, lease)?,
         })
     }
