@@ -20,8 +20,8 @@ use std::net::Ipv4Addr;
 const MOST_OPTIONS: usize = 6;
 
 /// The Discover that searches for servers, with this transaction id (RFC 2131, section 4.4.1). The
-/// configuration is within its limits, as `is_within_limits` tests; so for each message below. Out
-/// of memory is the only error.
+/// configuration is within its limits, as `is_within_limits` tests. Out of memory is the only
+/// error.
 pub fn new_discovery(
     alloc: Global,
     xid: u32,
@@ -33,7 +33,8 @@ pub fn new_discovery(
     message_of(alloc, xid, config, Row::discover())
 }
 
-/// The Request of the lease of an offer, in state SELECTING (RFC 2131, section 4.3.2).
+/// The Request of the lease of an offer, in state SELECTING (RFC 2131, section 4.3.2). The
+/// configuration is within its limits. Out of memory is the only error.
 pub fn new_request(
     alloc: Global,
     xid: u32,
@@ -48,7 +49,8 @@ pub fn new_request(
 }
 
 /// The Request of a lease that the client held before, in state INIT-REBOOT: it names the address
-/// and no server (RFC 2131, section 4.3.2).
+/// and no server (RFC 2131, section 4.3.2). The configuration is within its limits. Out of memory
+/// is the only error.
 pub fn new_reboot_request(
     alloc: Global,
     xid: u32,
@@ -63,7 +65,8 @@ pub fn new_reboot_request(
 }
 
 /// The Request that renews a lease that is held, from T1 on (RFC 2131, section 4.4.5). By the forms
-/// of `Rfc2131` it has neither option 50 nor option 54; by those of `Mozim` it has both.
+/// of `Rfc2131` it has neither option 50 nor option 54; by those of `Mozim` it has both. The
+/// configuration is within its limits. Out of memory is the only error.
 pub fn new_renew(
     alloc: Global,
     xid: u32,
@@ -78,7 +81,7 @@ pub fn new_renew(
 }
 
 /// The Request that rebinds a lease that is held, from T2 on: the same message as to renew it (RFC
-/// 2131, section 4.4.5).
+/// 2131, section 4.4.5). The configuration is within its limits. Out of memory is the only error.
 pub fn new_rebind(
     alloc: Global,
     xid: u32,
@@ -93,7 +96,8 @@ pub fn new_rebind(
 }
 
 /// The Release of a lease that is held (RFC 2131, section 4.4.6). By the forms of `Rfc2131` its
-/// address is `ciaddr`; by those of `Mozim` it is option 50.
+/// address is `ciaddr`; by those of `Mozim` it is option 50. The configuration is within its
+/// limits. Out of memory is the only error.
 pub fn new_release(
     alloc: Global,
     xid: u32,

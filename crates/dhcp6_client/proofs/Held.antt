@@ -16,10 +16,11 @@ use Rattle.dhcp_history.specs.Run.{UnlessNoMemory}
 use Rattle.dhcp_history.specs.Traced.{Traces}
 use Rattle.dhcp_history.proofs.Heard.{comes_from}
 use Rattle.dhcp6_msg.specs.Config.{Config}
-use Rattle.dhcp6_msg.specs.Lease.{Lease, are_times_in_order, granted_lease, is_duid, is_grant, is_no_duid, is_typed, is_unspecified, is_within_limits, lease_of, read_lease, said_by, status_said}
+use Rattle.dhcp6_msg.specs.Lease.{Lease, are_times_in_order, granted_lease, is_duid, is_grant, is_no_duid, is_typed, is_unspecified, is_within_limits, lease_of, read_lease}
 use Rattle.dhcp6_msg.specs.declared.message.DhcpV6Message.{DhcpV6Message}
 use Rattle.dhcp6_msg.specs.declared.mode.DhcpV6Mode.{DhcpV6Mode}
 use Rattle.dhcp6_msg.specs.declared.mode.DhcpV6Mode.TheVariants.{NonTemporaryAddresses, TemporaryAddresses, PrefixDelegation}
+use Rattle.dhcp6_opt.specs.Said.{said_by, status_said}
 use Rattle.dhcp6_opt.specs.Status.{is_no_failure}
 use Rattle.dhcp6_client.specs.declared.client_state.ClientState.{ClientState}
 use Rattle.dhcp6_client.specs.declared.client_state.ClientState.TheVariants.{Solicit, Request, Done, Temporary, Renew, Rebind}

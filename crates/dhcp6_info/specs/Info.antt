@@ -9,29 +9,11 @@ use Rattle.dhcp_wire.specs.Value.{number_in}
 use Rattle.dhcp_wire.specs.declared.raw_option.OptionFormat.TheVariants.{DhcpV6}
 use Rattle.dhcp6_opt.specs.declared.duid.DhcpV6Duid.{DhcpV6Duid}
 use Rattle.dhcp6_opt.specs.declared.ntp_server.DhcpV6OptionNtpServer.{DhcpV6OptionNtpServer}
-use Rattle.dhcp6_opt.specs.declared.option.DhcpV6Option.{DhcpV6Option}
-use Rattle.dhcp6_opt.specs.declared.option.DhcpV6Option.TheVariants.{DnsServers, DomainList, NtpServer}
+use Rattle.dhcp6_opt.specs.Duid.{no_duid}
 use Rattle.dhcp6_opt.specs.Options.{OptionLists}
+use Rattle.dhcp6_opt.specs.Said.{dns_servers_said, domain_list_said, ntp_servers_said, said_by, server_id_said, status_said}
 use Rattle.dhcp6_opt.specs.Status.{is_no_failure}
-use Rattle.dhcp6_msg.specs.Lease.{no_duid, said_by, server_said, status_said}
 use Rattle.dhcp6_info.specs.declared.info.DhcpV6Info.{DhcpV6Info}
-
--- ---- what an option of each kind says
-
--- the addresses of name servers
-abbrev pub name_servers_said : DhcpV6Option → Option (List Ipv6Addr)
-name_servers_said (DnsServers addresses) = Some addresses
-name_servers_said _ = None
-
--- the domains in which host names are looked up
-abbrev pub domains_said : DhcpV6Option → Option (List (List ℕ))
-domains_said (DomainList names) = Some names
-domains_said _ = None
-
--- time servers
-abbrev pub time_servers_said : DhcpV6Option → Option (List DhcpV6OptionNtpServer)
-time_servers_said (NtpServer servers) = Some servers
-time_servers_said _ = None
 
 -- ---- the refresh time
 
@@ -67,11 +49,11 @@ info_of srv_duid dns_srvs domains ntp refresh_sec = record {
 -- what the first readable option of each kind says, with this refresh time
 abbrev pub info_with : OptionLists → ℕ → DhcpV6Info
 info_with options refresh_sec =
-    info_of (said_by server_said options 2) (said_by name_servers_said options 23)
-    (said_by domains_said options 24) (said_by time_servers_said options 56) refresh_sec
+    info_of (said_by server_id_said options 2) (said_by dns_servers_said options 23)
+    (said_by domain_list_said options 24) (said_by ntp_servers_said options 56) refresh_sec
 
 -- whether the options of a Reply give a configuration: the first readable status, if there is one,
 -- is Success, and a server is named
 abbrev pub is_given : OptionLists → Bool
 is_given options =
-    is_no_failure (said_by status_said options 13) && is_some (said_by server_said options 2)
+    is_no_failure (said_by status_said options 13) && is_some (said_by server_id_said options 2)

@@ -4,17 +4,15 @@
 
 ghost use Rattle.std.specs.Prelude.{◌≡◌, IfErr, IfOk, None, Ok, false, is_some};
 ghost use Rattle.dhcp_wire.specs.Error.{no_memory};
-ghost use Rattle.dhcp6_msg.specs.Lease.{said_by, status_said};
-ghost use Rattle.dhcp6_opt.specs.Status as statuses;
 ghost use Rattle.dhcp6_info.specs.Answer as answers;
 ghost use Rattle.dhcp6_info.specs.Info as infos;
 
-use crate::given_info::{GivenInfo, server_of};
+use crate::given_info::GivenInfo;
 use crate::refresh_time::refresh_time;
 use dhcp_clock::Packet;
 use dhcp_wire::DhcpError;
 use dhcp6_msg::{DhcpV6MessageType, DhcpV6View, concerns, payload_in};
-use dhcp6_opt::{DhcpV6Option, DhcpV6OptionCode, DhcpV6OptionStatusCode, DhcpV6Options};
+use dhcp6_opt::DhcpV6Options;
 use std::alloc::Global;
 
 /// The configuration that a packet gives to an attempt with this transaction id, if it gives one.
@@ -56,18 +54,5 @@ fn given_by(
 fn is_given(options: &DhcpV6Options) -> bool
     ensures { result ≡ infos.is_given options.now }
 {
-    is_no_failure(options) && server_of(options).is_some()
-}
-
-// Whether the first readable status is absent or says success.
-#[tactic(auto, unfolding(dhcp6_opt::specs::OptionCode::number_of))]
-fn is_no_failure(options: &DhcpV6Options) -> bool
-    ensures { result ≡ statuses.is_no_failure (said_by status_said options.now 13) }
-{
-    match options.get_first(DhcpV6OptionCode::StatusCode) {
-        Some(DhcpV6Option::StatusCode(status)) => {
-            matches!(status.status, DhcpV6OptionStatusCode::Success)
-        }
-        _ => true,
-    }
+    !options.has_failed() && options.server_id().is_some()
 }

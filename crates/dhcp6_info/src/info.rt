@@ -1,11 +1,10 @@
 //! The configuration that a client gets without an address.
 
-ghost use Rattle.std.specs.Prelude.{option_copied, unwrap_or};
+ghost use Rattle.std.specs.Prelude.{option_copied};
 ghost use Rattle.dhcp_wire.specs.Outcome.{Makes};
-ghost use Rattle.dhcp6_msg.specs.Lease.{no_duid};
 ghost use Rattle.dhcp6_info.specs.Info.{info_of};
 
-use dhcp_wire::{Bytes, DhcpError, Sequence, Text, TryClone, beside, copied, copied_list};
+use dhcp_wire::{DhcpError, Sequence, Text, TryClone, beside, copied, copied_list};
 use dhcp6_opt::{DhcpV6Duid, DhcpV6OptionNtpServer};
 use std::alloc::Global;
 use std::net::Ipv6Addr;
@@ -64,7 +63,7 @@ pub(crate) fn copied_info(
         (option_copied dns_srvs.entry) (option_copied domains.entry) (option_copied ntp.entry)
         refresh_sec) }
 {
-    let made = copied_duid(alloc, srv_duid)?;
+    let made = DhcpV6Duid::copied_or_empty(alloc, srv_duid)?;
     let made = beside(made, copied_list(alloc, dns_srvs))?;
     let made = beside(made, copied(alloc, domains))?;
     let (((srv_duid, dns_srvs), domains), ntp) = beside(made, copied(alloc, ntp))?;
@@ -75,14 +74,4 @@ pub(crate) fn copied_info(
         ntp,
         refresh_sec,
     })
-}
-
-// A copy of an identifier; the one without bytes if there is none.
-fn copied_duid(alloc: Global, duid: Option<&DhcpV6Duid>) -> Result<DhcpV6Duid, DhcpError>
-    ensures { Makes (λ made. made) result (unwrap_or (option_copied duid.entry) no_duid) }
-{
-    match duid {
-        Some(duid) => duid.try_clone(alloc),
-        None => Ok(DhcpV6Duid::Raw(Bytes::new(alloc))),
-    }
 }

@@ -1,26 +1,20 @@
 -- What every lease that is read has.
 use Rattle.std.proofs.Common.{◌≡◌, ℕ, ◌≤◌, true, false, not, length, IsTrue, IfOk, IfSome, Option, Some, None, unwrap_or, Result, Ok, Err, cond, refl, sym, ap, subst, ◌∙◌, lit≤}
-use Rattle.std.proofs.lemmas.Bool.{and_parts, leb-true}
+use Rattle.std.proofs.lemmas.Bool.{and_parts}
 use Rattle.dhcp_wire.specs.declared.error.ErrorKind.{ErrorKind}
 use Rattle.dhcp_wire.specs.declared.error.ErrorKind.TheVariants.{InvalidDhcpMessage, NoLease}
 use Rattle.dhcp_wire.specs.Error.{ErrorParts}
 use Rattle.dhcp_wire.specs.Outcome.{Answers, Gives}
 use Rattle.dhcp6_opt.specs.declared.duid.DhcpV6Duid.{DhcpV6Duid}
-use Rattle.dhcp6_opt.specs.declared.option.DhcpV6Option.TheVariants.{ServerId}
-use Rattle.dhcp6_opt.specs.Duid.{written_duid}
+use Rattle.dhcp6_opt.specs.Duid.{no_duid, written_duid}
 use Rattle.dhcp6_opt.specs.Options.{OptionLists}
+use Rattle.dhcp6_opt.specs.Said.{said_by, status_said}
 use Rattle.dhcp6_opt.specs.Status.{is_no_failure}
-use Rattle.dhcp6_opt.specs.Value.{fits, written_value}
 use Rattle.dhcp6_msg.specs.declared.message.DhcpV6Message.{DhcpV6Message}
-use Rattle.dhcp6_msg.specs.Lease.{Lease, are_times_in_order, granted_lease, is_grant, lease_of, lease_with, no_duid, read_lease, said_by, status_said, terms_of}
+use Rattle.dhcp6_msg.specs.Lease.{Lease, are_times_in_order, granted_lease, is_grant, lease_of, lease_with, read_lease, terms_of}
 use Rattle.dhcp6_msg.specs.Message.{id_number}
 
--- an identifier that can be written is short
-pub server_is_short : (duid : DhcpV6Duid) → IsTrue (fits (ServerId duid)) → length (written_duid duid) ≤ 65535
-unfolding fits written_value
-server_is_short duid fit = leb-true _ _ (and_parts _ _ (and_parts _ _ fit).0).0
-
--- the identifier without bytes is short too
+-- an identifier that is short, or else the one without bytes, is short
 pub kept_is_short : (said : Option DhcpV6Duid) → IfSome said (λ duid. length (written_duid duid) ≤ 65535) → length (written_duid (unwrap_or said no_duid)) ≤ 65535
 unfolding written_duid
 kept_is_short None short = lit≤ tt

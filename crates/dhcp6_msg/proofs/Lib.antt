@@ -9,4 +9,3 @@ pub mod LimitLemmas
 pub mod OptionLemmas
 pub mod StandardFacts
 pub mod TableLemmas
-pub use Rattle.dhcp6_msg.proofs.LeaseLemmas.{server_is_short}

@@ -14,7 +14,7 @@ use Rattle.dhcp6_opt.specs.declared.duid.DhcpV6Duid.{DhcpV6Duid}
 use Rattle.dhcp6_opt.specs.declared.duid.DhcpV6Duid.TheVariants.{LinkLayerAddressPlusTime, EnterpriseNumber, LinkLayerAddress, UUID, Raw}
 use Rattle.dhcp6_opt.specs.declared.option.DhcpV6Option.{DhcpV6Option}
 use Rattle.dhcp6_opt.specs.declared.option.DhcpV6Option.TheVariants as options
-use Rattle.dhcp6_opt.specs.Duid.{duid_in, enterprise_in, link_layer_in, link_layer_time_in, typed_duid, uuid_in, written_duid}
+use Rattle.dhcp6_opt.specs.Duid.{duid_in, enterprise_in, link_layer_in, link_layer_time_in, no_duid, typed_duid, uuid_in, written_duid}
 use Rattle.dhcp6_opt.specs.declared.ia.DhcpV6OptionIaNa.{DhcpV6OptionIaNa}
 use Rattle.dhcp6_opt.specs.declared.ia.DhcpV6OptionIaTa.{DhcpV6OptionIaTa}
 use Rattle.dhcp6_opt.specs.declared.ia.pd.DhcpV6OptionIaPd.{DhcpV6OptionIaPd}
@@ -25,16 +25,17 @@ use Rattle.dhcp6_opt.specs.Status.{is_no_failure}
 use Rattle.dhcp6_opt.specs.OptionCode.{code_of, number_of}
 use Rattle.dhcp6_opt.specs.OptionIndex.{has_number}
 use Rattle.dhcp6_opt.specs.Options.{OptionLists, first_in, first_of, read_options, reading_of}
+use Rattle.dhcp6_opt.specs.Said.{ia_na_said, said_by, server_id_said, status_said}
 use Rattle.dhcp6_opt.specs.Value.{has_short_value, option_code, said_in, value_of}
 use Rattle.dhcp6_opt.proofs.OptionReadLemmas.{options_under-read_options}
-use Rattle.dhcp6_opt.proofs.ValueLemmas.{fits-value_of, option_number-value_of}
+use Rattle.dhcp6_opt.proofs.ValueLemmas.{fits-value_of, option_number-value_of, server_is_short}
 use Rattle.dhcp6_msg.specs.declared.lease.terms.LeaseTerms.{LeaseTerms}
 use Rattle.dhcp6_msg.specs.declared.message.DhcpV6Message.{DhcpV6Message}
 use Rattle.dhcp6_msg.specs.declared.mode.DhcpV6IaType.TheVariants as types
-use Rattle.dhcp6_msg.specs.Lease.{Lease, granted_lease, is_duid, is_grant, is_no_duid, is_typed, is_unspecified, is_within_limits, lease_of, na_said, no_duid, no_terms, read_lease, said_by, server_said, status_said, terms_of, with_na, with_na_address, with_pd, with_pd_prefix, with_ta, with_ta_address}
+use Rattle.dhcp6_msg.specs.Lease.{Lease, granted_lease, is_duid, is_grant, is_no_duid, is_typed, is_unspecified, is_within_limits, lease_of, no_terms, read_lease, terms_of, with_na, with_na_address, with_pd, with_pd_prefix, with_ta, with_ta_address}
 use Rattle.dhcp6_msg.specs.Message.{read_message}
 use Rattle.dhcp6_msg.specs.MessageType.{type_of}
-use Rattle.dhcp6_msg.proofs.LeaseLemmas.{granted-grant, server_is_short}
+use Rattle.dhcp6_msg.proofs.LeaseLemmas.{granted-grant}
 
 -- what a type reads is not kept as its bytes alone
 not_raw : (kind : ℕ) (rest bytes : List ℕ) → typed_duid kind rest ≡ Some (Raw bytes) → ⊥
@@ -123,36 +124,36 @@ first_reading n (raw ∷ raws) option is = by_reading (λ later. first_reading n
     by_reading later (Some found) read is = by_number later (has_number n found) found read is
 
 -- which option names a server
-server_said_is : (option : DhcpV6Option) (duid : DhcpV6Duid) → server_said option ≡ Some duid → option ≡ options.ServerId duid
-server_said_is (options.ServerId server) duid is = ap options.ServerId (same_Some _ _ is)
-server_said_is (options.ClientId x) duid is = cc
-server_said_is (options.IANA x) duid is = cc
-server_said_is (options.IATA x) duid is = cc
-server_said_is (options.IAPD x) duid is = cc
-server_said_is (options.OptionRequestOption x) duid is = cc
-server_said_is (options.IAAddr x) duid is = cc
-server_said_is (options.IAPrefix x) duid is = cc
-server_said_is (options.Preference x) duid is = cc
-server_said_is (options.ElapsedTime x) duid is = cc
-server_said_is (options.ServerUnicast x) duid is = cc
-server_said_is (options.StatusCode x) duid is = cc
-server_said_is options.RapidCommit duid is = cc
-server_said_is (options.DnsServers x) duid is = cc
-server_said_is (options.DomainList x) duid is = cc
-server_said_is (options.NtpServer x) duid is = cc
-server_said_is (options.Unknown x) duid is = cc
+server_id_said_is : (option : DhcpV6Option) (duid : DhcpV6Duid) → server_id_said option ≡ Some duid → option ≡ options.ServerId duid
+server_id_said_is (options.ServerId server) duid is = ap options.ServerId (same_Some _ _ is)
+server_id_said_is (options.ClientId x) duid is = cc
+server_id_said_is (options.IANA x) duid is = cc
+server_id_said_is (options.IATA x) duid is = cc
+server_id_said_is (options.IAPD x) duid is = cc
+server_id_said_is (options.OptionRequestOption x) duid is = cc
+server_id_said_is (options.IAAddr x) duid is = cc
+server_id_said_is (options.IAPrefix x) duid is = cc
+server_id_said_is (options.Preference x) duid is = cc
+server_id_said_is (options.ElapsedTime x) duid is = cc
+server_id_said_is (options.ServerUnicast x) duid is = cc
+server_id_said_is (options.StatusCode x) duid is = cc
+server_id_said_is options.RapidCommit duid is = cc
+server_id_said_is (options.DnsServers x) duid is = cc
+server_id_said_is (options.DomainList x) duid is = cc
+server_id_said_is (options.NtpServer x) duid is = cc
+server_id_said_is (options.Unknown x) duid is = cc
 
 -- the server of a list of options, if it has one, has an identifier that can be sent
-server_of_bytes : (bytes : List ℕ) → IsTrue (not (is_no_duid (unwrap_or (said_by server_said (read_options bytes) 2) no_duid))) → IsTrue (is_duid (unwrap_or (said_by server_said (read_options bytes) 2) no_duid))
-server_of_bytes bytes some = by_said (said_by server_said (read_options bytes) 2) refl some
+server_of_bytes : (bytes : List ℕ) → IsTrue (not (is_no_duid (unwrap_or (said_by server_id_said (read_options bytes) 2) no_duid))) → IsTrue (is_duid (unwrap_or (said_by server_id_said (read_options bytes) 2) no_duid))
+server_of_bytes bytes some = by_said (said_by server_id_said (read_options bytes) 2) refl some
   where
-    by_said : (said : Option DhcpV6Duid) → said_by server_said (read_options bytes) 2 ≡ said → IsTrue (not (is_no_duid (unwrap_or said no_duid))) → IsTrue (is_duid (unwrap_or said no_duid))
+    by_said : (said : Option DhcpV6Duid) → said_by server_id_said (read_options bytes) 2 ≡ said → IsTrue (not (is_no_duid (unwrap_or said no_duid))) → IsTrue (is_duid (unwrap_or said no_duid))
     by_said None is some = cc
     by_said (Some duid) is some =
         option_and_then_some _ (first_of (read_options bytes) 2) _ is (λ option at_option says.
         let listed = sym (ap first_in (options_under-read_options bytes 2)) ∙ at_option in
         let read = first_reading 2 (raw_options DhcpV6 bytes) option listed in
-        server_of_raw read.0 duid (read.1 ∙ ap Some (server_said_is option duid says)))
+        server_of_raw read.0 duid (read.1 ∙ ap Some (server_id_said_is option duid says)))
 
 -- ---- the type of an association
 
@@ -200,7 +201,7 @@ pd_typed terms (Some ia) typed =
 
 terms_typed : (options : OptionLists) → IsTyped (terms_of options)
 unfolding terms_of
-terms_typed options = pd_typed _ _ (ta_typed _ _ (na_typed no_terms (said_by na_said options 3) (inr refl)))
+terms_typed options = pd_typed _ _ (ta_typed _ _ (na_typed no_terms (said_by ia_na_said options 3) (inr refl)))
 
 -- where the address is not ::, the type is there
 typed_if_specified : (terms : LeaseTerms) → IsTyped terms → IsTrue (not (is_unspecified terms.address)) → IsTrue (is_typed terms.ia_type)
@@ -248,7 +249,7 @@ within_limits payload message lease reads grants =
     let first = and_parts _ _ parts.0 in
     let bytes = options_of_payload payload message reads in
     let server : IsTrue (is_duid (lease_of message).srv_duid) =
-    subst (λ options. IsTrue (not (is_no_duid (unwrap_or (said_by server_said options 2) no_duid))) → IsTrue (is_duid (unwrap_or (said_by server_said options 2) no_duid)))
+    subst (λ options. IsTrue (not (is_no_duid (unwrap_or (said_by server_id_said options 2) no_duid))) → IsTrue (is_duid (unwrap_or (said_by server_id_said options 2) no_duid)))
     bytes.1 (server_of_bytes bytes.0) first.1 in
     let typed : IsTrue (is_typed (lease_of message).ia_type) = typed_if_specified (terms_of message.options) (terms_typed message.options) parts.1 in
     subst (λ lease. IsTrue (is_within_limits lease)) same (and_from _ _ (and_from _ _ (and_from _ _ first.0 parts.1) typed) server)

@@ -6,7 +6,6 @@ use Rattle.std.specs.Net.Addr.{ipv6_segments}
 use Rattle.std.specs.declared.net.Ipv6Addr.{Ipv6Addr}
 use Rattle.dhcp_wire.specs.declared.error.ErrorKind.{ErrorKind}
 use Rattle.dhcp_wire.specs.declared.error.ErrorKind.TheVariants.{InvalidDhcpMessage, NoLease}
-use Rattle.dhcp_wire.specs.Field.{◌>>=◌}
 use Rattle.dhcp6_opt.specs.declared.duid.DhcpV6Duid.{DhcpV6Duid}
 use Rattle.dhcp6_opt.specs.declared.duid.DhcpV6Duid.TheVariants.{Raw}
 use Rattle.dhcp6_opt.specs.declared.ia.DhcpV6OptionIaNa.{DhcpV6OptionIaNa}
@@ -14,12 +13,10 @@ use Rattle.dhcp6_opt.specs.declared.ia.DhcpV6OptionIaTa.{DhcpV6OptionIaTa}
 use Rattle.dhcp6_opt.specs.declared.ia.pd.DhcpV6OptionIaPd.{DhcpV6OptionIaPd}
 use Rattle.dhcp6_opt.specs.declared.ia.address.DhcpV6OptionIaAddr.{DhcpV6OptionIaAddr}
 use Rattle.dhcp6_opt.specs.declared.ia.prefix.DhcpV6OptionIaPrefix.{DhcpV6OptionIaPrefix}
-use Rattle.dhcp6_opt.specs.declared.status.DhcpV6OptionStatus.{DhcpV6OptionStatus}
-use Rattle.dhcp6_opt.specs.declared.option.DhcpV6Option.{DhcpV6Option}
-use Rattle.dhcp6_opt.specs.declared.option.DhcpV6Option.TheVariants.{ClientId, ServerId, IANA, IATA, IAPD, ServerUnicast, StatusCode}
-use Rattle.dhcp6_opt.specs.Duid.{written_duid}
+use Rattle.dhcp6_opt.specs.Duid.{no_duid, written_duid}
 use Rattle.dhcp6_opt.specs.Ia.{is_delegated, is_granted, unspecified}
-use Rattle.dhcp6_opt.specs.Options.{OptionLists, first_of}
+use Rattle.dhcp6_opt.specs.Options.{OptionLists}
+use Rattle.dhcp6_opt.specs.Said.{client_id_said, ia_na_said, ia_pd_said, ia_ta_said, said_by, server_id_said, server_unicast_said, status_said}
 use Rattle.dhcp6_opt.specs.Status.{is_no_failure}
 use Rattle.dhcp6_msg.specs.declared.lease.terms.LeaseTerms.{LeaseTerms}
 use Rattle.dhcp6_msg.specs.declared.message.DhcpV6Message.{DhcpV6Message}
@@ -43,44 +40,6 @@ pub record Lease : Type 0 where
   pub srv_ip : Ipv6Addr
   pub ntp_srvs : List (List ℕ)
   pub options : OptionLists
-
--- ---- what an option of each kind says
-
--- the identifier of a client, or of a server
-abbrev pub client_said : DhcpV6Option → Option DhcpV6Duid
-client_said (ClientId duid) = Some duid
-client_said _ = None
-
-abbrev pub server_said : DhcpV6Option → Option DhcpV6Duid
-server_said (ServerId duid) = Some duid
-server_said _ = None
-
--- the address of a server
-abbrev pub unicast_said : DhcpV6Option → Option Ipv6Addr
-unicast_said (ServerUnicast address) = Some address
-unicast_said _ = None
-
--- a status
-abbrev pub status_said : DhcpV6Option → Option DhcpV6OptionStatus
-status_said (StatusCode status) = Some status
-status_said _ = None
-
--- an identity association of each type
-abbrev pub na_said : DhcpV6Option → Option DhcpV6OptionIaNa
-na_said (IANA ia) = Some ia
-na_said _ = None
-
-abbrev pub ta_said : DhcpV6Option → Option DhcpV6OptionIaTa
-ta_said (IATA ia) = Some ia
-ta_said _ = None
-
-abbrev pub pd_said : DhcpV6Option → Option DhcpV6OptionIaPd
-pd_said (IAPD ia) = Some ia
-pd_said _ = None
-
--- what the first option of this number says
-abbrev pub said_by : {X : Type 0} → (DhcpV6Option → Option X) → OptionLists → ℕ → Option X
-said_by says options number = first_of options number >>= says
 
 -- ---- the terms that the identity associations grant
 
@@ -167,19 +126,15 @@ with_pd terms (Some ia) =
     let typed = record terms { ia_type = Some PrefixDelegation } in
     if is_delegated ia.prefix ia.status then with_pd_prefix typed ia ia.prefix else typed
 
--- The terms that the options of a message grant: those of its first readable IA_NA, then those of
--- its first IA_TA, then those of its first IA_PD, each over those before.
+-- The terms of a lease of these options: those of the first readable IA_NA, then those of the first
+-- IA_TA, then those of the first IA_PD, each over those before.
 unfoldable pub terms_of : OptionLists → LeaseTerms
 terms_of options =
-    let addresses = with_na no_terms (said_by na_said options 3) in
-    let temporary = with_ta addresses (said_by ta_said options 4) in
-    with_pd temporary (said_by pd_said options 25)
+    let addresses = with_na no_terms (said_by ia_na_said options 3) in
+    let temporary = with_ta addresses (said_by ia_ta_said options 4) in
+    with_pd temporary (said_by ia_pd_said options 25)
 
 -- ---- the lease
-
--- the identifier without bytes
-abbrev pub no_duid : DhcpV6Duid
-no_duid = Raw []
 
 -- a lease with this transaction id, these options and these terms
 abbrev pub lease_with : ℕ → OptionLists → LeaseTerms → Lease
@@ -193,9 +148,9 @@ lease_with xid options terms = record {
   ia_type = terms.ia_type;
   address = terms.address;
   prefix_len = terms.prefix_len;
-  cli_duid = unwrap_or (said_by client_said options 1) no_duid;
-  srv_duid = unwrap_or (said_by server_said options 2) no_duid;
-  srv_ip = unwrap_or (said_by unicast_said options 12) unspecified;
+  cli_duid = unwrap_or (said_by client_id_said options 1) no_duid;
+  srv_duid = unwrap_or (said_by server_id_said options 2) no_duid;
+  srv_ip = unwrap_or (said_by server_unicast_said options 12) unspecified;
   ntp_srvs = [];
   options = options;
 }

@@ -2,34 +2,18 @@
 
 mod terms;
 
-ghost use Rattle.std.specs.Prelude.{◌≡◌, ◌≤◌, IfOk, IfSome, IsTrue, length, map, not, option_copied, option_map, unwrap_or, vec_items};
+ghost use Rattle.std.specs.Prelude.{◌≡◌, ◌≤◌, IfOk, IsTrue, length, map, option_map, vec_items};
 ghost use Rattle.std.specs.FinMap as maps;
 ghost use Rattle.dhcp_wire.specs.Outcome.{Answers, Gives, Makes};
 ghost use Rattle.dhcp6_opt.specs.Duid.{written_duid};
-ghost use Rattle.dhcp6_opt.specs.Ia.{unspecified};
-ghost use Rattle.dhcp6_opt.specs.Status.{is_no_failure};
 ghost use Rattle.dhcp6_opt.specs.Value.{written_option};
 ghost use Rattle.dhcp6_msg.specs.Lease as Lease;
-ghost use Rattle.dhcp6_msg.specs.Lease.{
-  are_times_in_order,
-  client_said,
-  empty_lease,
-  is_within_limits,
-  no_duid,
-  read_lease,
-  said_by,
-  server_said,
-  status_said,
-  unicast_said,
-};
+ghost use Rattle.dhcp6_msg.specs.Lease.{are_times_in_order, empty_lease, is_within_limits, read_lease};
 
 use self::terms::terms_of;
 use crate::{DhcpV6IaType, DhcpV6Message};
 use dhcp_wire::{Bytes, DhcpError, ErrorKind, FixedText, Sequence, Text, TryClone, both};
-use dhcp6_opt::{
-    DhcpV6Duid, DhcpV6Option, DhcpV6OptionCode, DhcpV6OptionStatus, DhcpV6OptionStatusCode,
-    DhcpV6Options,
-};
+use dhcp6_opt::{DhcpV6Duid, DhcpV6Options};
 use std::alloc::Global;
 use std::marker::Model;
 use std::net::Ipv6Addr;
@@ -43,16 +27,18 @@ pub struct DhcpV6Lease {
     /// sections 21.4 and 21.21).
     pub t2_sec: u32,
     /// For how many seconds the address is preferred; not longer than it is valid where a message
-    /// granted it.
+    /// granted it. Of a temporary address always 86,400, whatever the server gives.
     pub preferred_time_sec: u32,
-    /// For how many seconds it is valid; not before T2 where a message granted it.
+    /// For how many seconds it is valid; not before T2 where a message granted it. Of a temporary
+    /// address always 604,800, whatever the server gives.
     pub valid_time_sec: u32,
     /// The transaction id of the message that granted it.
     pub xid: u32,
     /// The identifier of its identity association.
     pub iaid: u32,
-    /// The type of its identity association, if it is known: of IA_NA, IA_TA and IA_PD the last
-    /// that the message has, also one that grants nothing.
+    /// The type of its identity association, if it is known: of IA_NA, IA_TA and IA_PD, in this
+    /// order, the last of which the message has a readable one, wherever it stands, also one that
+    /// grants nothing.
     pub ia_type: Option<DhcpV6IaType>,
     /// The address or the prefix that is leased.
     pub address: Ipv6Addr,
@@ -139,17 +125,18 @@ impl DhcpV6Lease {
         }
     }
 
-    /// The lease that a message grants (RFC 8415, section 18.2.10.1): what its first readable IA_NA
-    /// grants, then its first IA_TA, then its first IA_PD, each over those before. `NoLease` if and
-    /// only if the first readable status is not `Success`. Else `InvalidDhcpMessage` if and only if
-    /// T1 is after T2, T2 or the preferred lifetime after the valid one, there is no server
-    /// identifier, or the address is ::, as it is if nothing is granted.
+    /// The lease of a message (RFC 8415, section 18.2.10.1): what its first readable IA_NA grants,
+    /// then the address of its first IA_TA with lifetimes of this library's own, then what its
+    /// first IA_PD grants, each over those before. `NoLease` if and only if the first readable
+    /// status is not `Success`. Else `InvalidDhcpMessage` if and only if T1 is after T2, T2 or the
+    /// preferred lifetime after the valid one, there is no server identifier, or the address is ::,
+    /// as it is if nothing is granted.
     pub fn new_from_msg(alloc: Global, msg: &DhcpV6Message) -> Result<Self, DhcpError>
         ensures reads { Gives (λ lease. lease) result (read_lease msg.now) }
         ensures in_order { IfOk result (λ lease. IsTrue (are_times_in_order lease)) }
         ensures server { IfOk result (λ lease. length (written_duid lease.srv_duid) ≤ 65535) }
     {
-        if has_failed(&msg.options) {
+        if msg.options.has_failed() {
             return Err(no_lease());
         }
         let options = msg.options.try_clone(alloc)?;
@@ -163,7 +150,7 @@ impl DhcpV6Lease {
         ensures in_order { IfOk result (λ lease. IsTrue (are_times_in_order lease)) }
         ensures server { IfOk result (λ lease. length (written_duid lease.srv_duid) ≤ 65535) }
     {
-        if has_failed(&msg.options) {
+        if msg.options.has_failed() {
             return Err(no_lease());
         }
         let xid = msg.xid();
@@ -303,76 +290,10 @@ fn lease_with(alloc: Global, xid: u32, options: DhcpV6Options) -> Result<DhcpV6L
         ia_type: terms.ia_type,
         address: terms.address,
         prefix_len: terms.prefix_len,
-        cli_duid: copied_duid(alloc, client_of(&options))?,
-        srv_duid: copied_duid(alloc, server_of(&options))?,
-        srv_ip: unicast_of(&options),
+        cli_duid: DhcpV6Duid::copied_or_empty(alloc, options.client_id())?,
+        srv_duid: DhcpV6Duid::copied_or_empty(alloc, options.server_id())?,
+        srv_ip: options.server_unicast().unwrap_or(Ipv6Addr::UNSPECIFIED),
         ntp_srvs: Sequence::new(alloc),
         options,
     })
-}
-
-// Whether the first readable status says that something failed.
-fn has_failed(options: &DhcpV6Options) -> bool
-    ensures { result ≡ not (is_no_failure (said_by status_said options.now 13)) }
-{
-    match status_of(options) {
-        Some(status) => !matches!(status.status, DhcpV6OptionStatusCode::Success),
-        None => false,
-    }
-}
-
-// The first readable status, if there is one.
-#[tactic(auto, unfolding(dhcp6_opt::specs::OptionCode::number_of))]
-fn status_of(options: &DhcpV6Options) -> Option<&DhcpV6OptionStatus>
-    ensures { option_copied result ≡ said_by status_said options.now 13 }
-{
-    match options.get_first(DhcpV6OptionCode::StatusCode) {
-        Some(DhcpV6Option::StatusCode(status)) => Some(status),
-        _ => None,
-    }
-}
-
-// The client's identifier, if the options say one.
-#[tactic(auto, unfolding(dhcp6_opt::specs::OptionCode::number_of))]
-fn client_of(options: &DhcpV6Options) -> Option<&DhcpV6Duid>
-    ensures { option_copied result ≡ said_by client_said options.now 1 }
-{
-    match options.get_first(DhcpV6OptionCode::ClientId) {
-        Some(DhcpV6Option::ClientId(duid)) => Some(duid),
-        _ => None,
-    }
-}
-
-// The server's identifier, if the options say one.
-#[tactic(auto, unfolding(dhcp6_opt::specs::number_of), using(crate::proofs::server_is_short))]
-fn server_of(options: &DhcpV6Options) -> Option<&DhcpV6Duid>
-    ensures said { option_copied result ≡ said_by server_said options.now 2 }
-    ensures short { IfSome (option_copied result)
-        (λ duid. length (written_duid duid) ≤ 65535) }
-{
-    match options.get_first(DhcpV6OptionCode::ServerId) {
-        Some(DhcpV6Option::ServerId(duid)) => Some(duid),
-        _ => None,
-    }
-}
-
-// The address to which a client may send, :: if the options say none.
-#[tactic(auto, unfolding(dhcp6_opt::specs::OptionCode::number_of))]
-fn unicast_of(options: &DhcpV6Options) -> Ipv6Addr
-    ensures { result ≡ unwrap_or (said_by unicast_said options.now 12) unspecified }
-{
-    match options.get_first(DhcpV6OptionCode::ServerUnicast) {
-        Some(DhcpV6Option::ServerUnicast(address)) => *address,
-        _ => Ipv6Addr::UNSPECIFIED,
-    }
-}
-
-// A copy of an identifier; the one without bytes if there is none.
-fn copied_duid(alloc: Global, duid: Option<&DhcpV6Duid>) -> Result<DhcpV6Duid, DhcpError>
-    ensures { Makes (λ made. made) result (unwrap_or (option_copied duid.entry) no_duid) }
-{
-    match duid {
-        Some(duid) => duid.try_clone(alloc),
-        None => Ok(DhcpV6Duid::Raw(Bytes::new(alloc))),
-    }
 }

@@ -14,9 +14,6 @@ mod view;
 
 pub use config::DhcpV6Config;
 pub use exchange::{concerns, new_id, payload_in};
-pub use laws::{
-    built_message_reads_back, ids_read_back, leases_are_within_limits, messages_read_back,
-};
 pub use lease::{DhcpV6Lease, is_duid};
 pub use message::DhcpV6Message;
 pub use message_table::{

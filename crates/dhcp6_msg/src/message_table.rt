@@ -26,9 +26,8 @@ use std::marker::Model;
 
 /// The Solicit that searches for servers, with the lower 24 bits of this transaction id, the time
 /// since when the client tries, in milliseconds, and this identifier of its identity association
-/// (RFC 8415, section 18.2.1). The configuration is within its limits, as `is_within_limits` tests,
-/// and the server's identifier of a lease has at most 65,535 bytes; so for each message below. Out
-/// of memory is the only error.
+/// (RFC 8415, section 18.2.1). The configuration is within its limits, as `is_within_limits` tests.
+/// Out of memory is the only error.
 pub fn new_solicit_msg(
     alloc: Global,
     xid: u32,
@@ -48,7 +47,8 @@ pub fn new_solicit_msg(
     )
 }
 
-/// The Request of the lease of an offer (RFC 8415, section 18.2.2).
+/// The Request of the lease of an offer (RFC 8415, section 18.2.2). The configuration is within its
+/// limits, and the server's identifier has at most 65,535 bytes. Out of memory is the only error.
 pub fn new_request_msg(
     alloc: Global,
     xid: u32,
@@ -65,7 +65,8 @@ pub fn new_request_msg(
 }
 
 /// The Renew of a lease that is held, to the server that gave it, from T1 on (RFC 8415, section
-/// 18.2.4).
+/// 18.2.4). The configuration is within its limits, and the server's identifier has at most 65,535
+/// bytes. Out of memory is the only error.
 pub fn new_renew_msg(
     alloc: Global,
     xid: u32,
@@ -82,7 +83,7 @@ pub fn new_renew_msg(
 }
 
 /// The Rebind of a lease that is held, to any server, from T2 on: it names no server (RFC 8415,
-/// section 18.2.5).
+/// section 18.2.5). The configuration is within its limits. Out of memory is the only error.
 pub fn new_rebind_msg(
     alloc: Global,
     xid: u32,
@@ -98,7 +99,8 @@ pub fn new_rebind_msg(
 }
 
 /// The Release of a lease that is held: it asks for no options, and its elapsed time is 0 (RFC
-/// 8415, section 18.2.7).
+/// 8415, section 18.2.7). The configuration is within its limits, and the server's identifier has
+/// at most 65,535 bytes. Out of memory is the only error.
 pub fn new_release_msg(
     alloc: Global,
     xid: u32,

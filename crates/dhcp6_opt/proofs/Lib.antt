@@ -20,4 +20,5 @@ pub mod StandardFacts
 pub mod ValueLemmas
 pub mod WidthLemmas
 pub mod WrittenLemmas
+pub use Rattle.dhcp6_opt.proofs.ValueLemmas.{server_is_short}
 pub use Rattle.dhcp6_opt.proofs.WrittenLemmas.{option_len}

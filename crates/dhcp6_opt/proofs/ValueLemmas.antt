@@ -8,6 +8,7 @@ use Rattle.dhcp_wire.specs.Value.{ipv6_address_in, ipv6_addresses_in}
 use Rattle.dhcp_wire.specs.RawOption.{RawOptionParts, filling_options}
 use Rattle.dhcp_wire.specs.declared.raw_option.OptionFormat.TheVariants.{DhcpV6}
 use Rattle.dhcp_wire.proofs.FieldLemmas.{mapped}
+use Rattle.dhcp6_opt.specs.declared.duid.DhcpV6Duid.{DhcpV6Duid}
 use Rattle.dhcp6_opt.specs.declared.ntp_server.DhcpV6OptionNtpServer.{DhcpV6OptionNtpServer}
 use Rattle.dhcp6_opt.specs.declared.ntp_server.DhcpV6OptionNtpServer.TheVariants.{ServerAddr, MulticastAddr, ServerFqdn, Other}
 use Rattle.dhcp6_opt.specs.declared.option_code.DhcpV6OptionCode.{DhcpV6OptionCode}
@@ -15,6 +16,7 @@ use Rattle.dhcp6_opt.specs.declared.option_code.DhcpV6OptionCode.TheVariants as 
 use Rattle.dhcp6_opt.specs.declared.option.DhcpV6Option.{DhcpV6Option}
 use Rattle.dhcp6_opt.specs.declared.option.DhcpV6Option.TheVariants.{ClientId, ServerId, IANA, IATA, IAPD, OptionRequestOption, IAAddr, IAPrefix, Preference, ElapsedTime, ServerUnicast, StatusCode, DnsServers, DomainList, NtpServer}
 use Rattle.dhcp6_opt.specs.DomainName.{name_in}
+use Rattle.dhcp6_opt.specs.Duid.{written_duid}
 use Rattle.dhcp6_opt.specs.NtpServer.{ntp_server_of, ntp_servers_of, ntp_servers_in, ntp_server_fits}
 use Rattle.dhcp6_opt.specs.OptionCode.{code_of, number_of}
 use Rattle.dhcp6_opt.specs.Value.{codes_in, fits, has_own_code, has_short_value, is_nameless, names_fit, option_code, option_number, said_in, value_of, written_value}
@@ -111,3 +113,8 @@ option_number-value_of number value option is =
 pub short_value : (option : DhcpV6Option) → IsTrue (fits option) → length (written_value option) ≤ 65535
 unfolding fits
 short_value option fit = leb-true _ _ (and_parts (has_short_value option) (names_fit option) (and_parts (has_short_value option && names_fit option) (has_own_code option) fit).0).0
+
+-- an identifier of a server that can be written is short
+pub server_is_short : (duid : DhcpV6Duid) → IsTrue (fits (ServerId duid)) → length (written_duid duid) ≤ 65535
+unfolding written_value
+server_is_short duid fit = short_value (ServerId duid) fit

@@ -1,5 +1,5 @@
 -- DHCP unique identifiers, RFC 8415 section 11: a type, and what the type has after it.
-use Rattle.std.specs.Prelude.{ℕ, ◌-◌, ◌%◌, ◌^◌, ◌==◌, List, ◌++◌, length, drop, Option, Some, None, unwrap_or, if◌then◌else◌}
+use Rattle.std.specs.Prelude.{ℕ, ◌-◌, ◌%◌, ◌^◌, ◌==◌, List, [], ◌++◌, length, drop, Option, Some, None, unwrap_or, if◌then◌else◌}
 use Rattle.std.specs.Int.{w16, w32, w128, to_be_bytes}
 use Rattle.dhcp_wire.specs.Field.{◌>>=◌, number_at}
 use Rattle.dhcp_clock.specs.Words.{Drawn, drawn_then, drawn_word, undrawn}
@@ -52,6 +52,10 @@ unfoldable pub duid_in : List ℕ → Option DhcpV6Duid
 duid_in bytes = do
   kind ← number_at w16 bytes
   Some (unwrap_or (typed_duid kind.0 kind.1) (Raw bytes))
+
+-- the identifier without bytes
+abbrev pub no_duid : DhcpV6Duid
+no_duid = Raw []
 
 -- the bytes of an identifier
 unfoldable pub written_duid : DhcpV6Duid → List ℕ

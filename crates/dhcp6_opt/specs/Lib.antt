@@ -11,6 +11,7 @@ pub mod OptionIndex
 pub mod OptionOrder
 pub mod Options
 pub mod RawOption
+pub mod Said
 pub mod Status
 pub mod Value
 pub mod VariantOrder

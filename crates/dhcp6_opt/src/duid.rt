@@ -4,11 +4,11 @@ mod enterprise;
 mod link_layer;
 mod uuid;
 
-ghost use Rattle.std.specs.Prelude.{◌≡◌, ◌↔◌, [], length, ok_or, IsTrue};
+ghost use Rattle.std.specs.Prelude.{◌≡◌, ◌↔◌, [], length, ok_or, option_copied, unwrap_or, IsTrue};
 ghost use Rattle.dhcp_clock.specs.Words.{Draws};
 ghost use Rattle.dhcp_wire.specs.Outcome.{Emits, Gives, Makes};
 ghost use Rattle.dhcp6_opt.specs.DrawnDuid.{DrawsDuid};
-ghost use Rattle.dhcp6_opt.specs.Duid.{drawn_duid, duid_in, random_duid, written_duid};
+ghost use Rattle.dhcp6_opt.specs.Duid.{drawn_duid, duid_in, no_duid, random_duid, written_duid};
 ghost use Rattle.dhcp6_opt.specs.Duid as duids;
 
 use crate::written::{emit_all, pair};
@@ -59,7 +59,7 @@ impl DhcpV6Duid {
     {
         let mut rest = Buffer::new(raw);
         let kind = rest.get_u16_be()?;
-        match typed(alloc, kind, rest.get_remains())? {
+        match typed_duid(alloc, kind, rest.get_remains())? {
             Some(duid) => Ok(duid),
             None => Ok(DhcpV6Duid::Raw(Bytes::from_slice(alloc, raw)?)),
         }
@@ -148,6 +148,17 @@ impl DhcpV6Duid {
         Ok(DhcpV6Duid::Raw(buf.into_bytes()))
     }
 
+    /// A copy of an identifier, or the one without bytes if there is none. Out of memory is the
+    /// only error.
+    pub fn copied_or_empty(alloc: Global, duid: Option<&DhcpV6Duid>) -> Result<Self, DhcpError>
+        ensures { Makes (λ made. made) result (unwrap_or (option_copied duid.entry) no_duid) }
+    {
+        match duid {
+            Some(duid) => duid.try_clone(alloc),
+            None => Ok(DhcpV6Duid::Raw(Bytes::new(alloc))),
+        }
+    }
+
     /// A copy; out of memory is the only error.
     pub fn try_clone(&self, alloc: Global) -> Result<Self, DhcpError>
         ensures { Makes (λ made. made) result self.now }
@@ -176,7 +187,7 @@ impl TryClone for DhcpV6Duid {
 
 // The identifier of a type that has a name, in the bytes after the type; none where they do not
 // have its fields.
-fn typed(alloc: Global, kind: u16, bytes: &[u8]) -> Result<Option<DhcpV6Duid>, DhcpError>
+fn typed_duid(alloc: Global, kind: u16, bytes: &[u8]) -> Result<Option<DhcpV6Duid>, DhcpError>
     ensures { Makes (λ duid. duid) result (duids.typed_duid kind bytes.now) }
 {
     match kind {

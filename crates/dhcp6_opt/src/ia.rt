@@ -101,10 +101,7 @@ impl DhcpV6OptionIaNa {
     pub fn is_success(&self) -> bool
         ensures { result ≡ ia.is_granted self.now.address self.now.status }
     {
-        match &self.address {
-            Some(address) => is_no_failure(&address.status) && is_no_failure(&self.status),
-            None => false,
-        }
+        is_granted(&self.address, &self.status)
     }
 
     /// A copy; out of memory is the only error.
@@ -212,10 +209,7 @@ impl DhcpV6OptionIaTa {
     pub fn is_success(&self) -> bool
         ensures { result ≡ ia.is_granted self.now.address self.now.status }
     {
-        match &self.address {
-            Some(address) => is_no_failure(&address.status) && is_no_failure(&self.status),
-            None => false,
-        }
+        is_granted(&self.address, &self.status)
     }
 
     /// A copy; out of memory is the only error.
@@ -253,5 +247,16 @@ impl DhcpV6OptionIaTa {
 impl TryClone for DhcpV6OptionIaTa {
     fn try_clone(&self, alloc: Global) -> Result<Self, DhcpError> {
         DhcpV6OptionIaTa::try_clone(self, alloc)
+    }
+}
+
+// Whether the address of an association is there, and neither it nor the association has a status
+// other than `Success`.
+fn is_granted(address: &Option<DhcpV6OptionIaAddr>, status: &Option<DhcpV6OptionStatus>) -> bool
+    ensures { result ≡ ia.is_granted address.now status.now }
+{
+    match address {
+        Some(address) => is_no_failure(&address.status) && is_no_failure(status),
+        None => false,
     }
 }

@@ -31,9 +31,9 @@ pub fn codes_read_back()
     ensures statuses { (number : ℕ) → status_number (status_of number) ≡ number }
 {}
 
-/// Status codes are ordered as RFC 8415, section 21.13 numbers them, identifiers and time servers by
-/// the number of their type; those without a name are the greatest. Of options of one number, one
-/// that this library does not read is the greatest.
+/// Status codes are ordered as RFC 8415, section 21.13 numbers them, identifiers and time servers
+/// by the number of their type; those without a name are the greatest. Of options of one number,
+/// one that this library does not read is the greatest.
 #[tactic(auto, unfolding(crate::specs::fields_of))]
 pub fn variants_are_ordered_as_declared()
     ensures statuses { (number : ℕ) → StatusesRise number }

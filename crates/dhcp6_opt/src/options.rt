@@ -2,6 +2,7 @@
 
 mod equality;
 mod index;
+mod said;
 
 ghost use Rattle.std.specs.Prelude.{◌≡◌, ◌+◌, ◌-◌, ◌*◌, ◌^◌, ◌<◌, ◌≤◌, [], ◌∷◌, ◌++◌, map, IfErr, IfOk, IfSome, IsTrue, OnOk, option_copied, option_map, vec_capacity, vec_items, vec_len};
 ghost use Rattle.std.specs.List.{filter, flat_map, All, AllByRecursion};
@@ -26,7 +27,7 @@ use crate::widths::all_have;
 use crate::{DhcpV6Option, DhcpV6OptionCode, Steps};
 use dhcp_wire::{BufferMut, DhcpError, OptionFormat, RawOption, TryClone, none_if_refused};
 use equality::{same_in_order, same_lists};
-use index::{IndexEntry, entry_of, first_of, index_of, set_firsts};
+use index::{IndexEntry, entry_of, first_place, index_of, set_firsts};
 use std::alloc::Global;
 use std::marker::Model;
 use std::sync::ledger::Ledger;
@@ -203,7 +204,7 @@ impl DhcpV6Options {
         if are_in_code_order(&self.kept) {
             emit_kept(&self.kept, buf)
         } else {
-            emit_all(&self.in_code_order()?, buf)
+            emit_references(&self.in_code_order()?, buf)
         }
     }
 
@@ -226,7 +227,7 @@ impl DhcpV6Options {
         ensures { Makes (option_map (λ written. map vec_items written.items)) result
             (option_map (map written_option) (map.get self.now code)) }
     {
-        match first_of(&self.index, code) {
+        match first_place(&self.index, code) {
             Some(_) => written_numbered(alloc, &self.kept, code).map(Some),
             None => Ok(None),
         }
@@ -351,7 +352,7 @@ fn emit_kept(options: &[DhcpV6Option], buf: &mut BufferMut) -> Result<(), DhcpEr
 }
 
 // Writes options behind references one after the other.
-fn emit_all(options: &[&DhcpV6Option], buf: &mut BufferMut) -> Result<(), DhcpError>
+fn emit_references(options: &[&DhcpV6Option], buf: &mut BufferMut) -> Result<(), DhcpError>
     requires { All (λ option. IsTrue (fits option.now)) options.now }
     ensures { Emits result buf.old buf.new
         (flat_map (λ option. written_option option.now) options.now) }

@@ -1,8 +1,8 @@
 //! The values of options, RFC 8415 section 21, RFC 3646 and RFC 5908: what the value of each code
 //! says.
 
-ghost use Rattle.std.specs.Prelude.{◌≡◌, ◌-◌, ◌^◌, Err, Ok, if◌then◌else◌, length, min, ok_or};
-ghost use Rattle.dhcp_wire.specs.Outcome.{Answers, Emits, Gives, Makes};
+ghost use Rattle.std.specs.Prelude.{◌≡◌, ◌-◌, ◌^◌, length, min, ok_or};
+ghost use Rattle.dhcp_wire.specs.Outcome.{Emits, Gives, Makes};
 ghost use Rattle.dhcp6_opt.specs.Value as values;
 
 use crate::domain_name::{names_fit, names_in};
@@ -108,20 +108,9 @@ pub(crate) fn read_value(
 {
     let option = said_in(alloc, code, value)?;
     let is_short = option.has_short_value();
-    unless_refused(is_short, option)
-}
-
-// A value that was read, unless it is refused. Its type is a parameter, so that a refusal does not
-// drop it field by field.
-fn unless_refused<T: Drop>(is_kept: bool, value: T) -> Result<T, DhcpError>
-    ensures { Answers (λ value. value) result
-        (if is_kept then Ok value else Err ErrorKind.InvalidDhcpMessage) }
-{
-    if is_kept {
-        Ok(value)
-    } else {
-        Err(DhcpError::invalid_message(FixedText::Unreadable))
-    }
+    is_short
+        .then_some(option)
+        .ok_or(DhcpError::invalid_message(FixedText::Unreadable))
 }
 
 // The most bytes of a value.

@@ -116,7 +116,7 @@ fn written(
     }
 }
 
-// Whether some bytes are these, and there are some.
+// Whether one option is written, and as these bytes.
 fn are_equal(written: &[Vec<u8>], wanted: &[&[u8]]) -> bool {
     match (written, wanted) {
         ([written], [wanted]) => written.as_slice() == *wanted,
@@ -125,7 +125,7 @@ fn are_equal(written: &[Vec<u8>], wanted: &[&[u8]]) -> bool {
 }
 
 #[test]
-fn temporary_addresses_and_prefixes_have_their_terms(rt: HostRuntime) {
+fn a_temporary_address_has_fixed_lifetimes(rt: HostRuntime) {
     let temporary = [0, 4, 0, 32, 0, 0, 0, 5, 0, 5, 0, 24];
     let lifetimes = [0, 0, 0, 1, 0, 0, 0, 2];
     let lease = lease(rt.alloc(), [&SERVER, &temporary, &ADDRESS, &lifetimes]).expect(
@@ -153,7 +153,7 @@ fn a_prefix_has_its_length(rt: HostRuntime) {
 }
 
 #[test]
-fn prefixes_of_a_reply_give_no_lease(rt: HostRuntime) {
+fn a_truncated_reply_gives_no_lease(rt: HostRuntime) {
     let alloc = rt.alloc();
     let payload = reply(alloc).expect(&rt, "memory");
     for len in 0..payload.len() {

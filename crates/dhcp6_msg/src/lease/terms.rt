@@ -1,29 +1,28 @@
 //! What the identity associations of a message grant: RFC 8415 sections 21.4 to 21.6, 21.21 and
 //! 21.22.
 
-ghost use Rattle.std.specs.Prelude.{◌≡◌, ◌+◌, ◌/◌};
+ghost use Rattle.std.specs.Prelude.{◌≡◌, ◌+◌, ◌/◌, option_copied};
 ghost use Rattle.dhcp6_msg.specs.Lease as leases;
-ghost use Rattle.dhcp6_msg.specs.Lease.{na_said, pd_said, said_by, ta_said};
 
 use crate::DhcpV6IaType;
-use dhcp6_opt::{
-    DhcpV6Option, DhcpV6OptionCode, DhcpV6OptionIaNa, DhcpV6OptionIaPd, DhcpV6OptionIaTa,
-    DhcpV6Options,
-};
+use dhcp6_opt::{DhcpV6OptionIaNa, DhcpV6OptionIaPd, DhcpV6OptionIaTa, DhcpV6Options};
 use std::net::Ipv6Addr;
 
-// For how long a temporary address is preferred, in seconds: a day.
+// For how long a temporary address is preferred, in seconds: a day. RFC 8415 section 21.6 has the
+// server's lifetimes; mozim ignores them, and so does this library.
 const TEMPORARY_PREFERRED_SEC: u32 = 86400;
 
 // For how long it is valid, in seconds: a week.
 const TEMPORARY_VALID_SEC: u32 = 604800;
 
-/// What identity associations grant; times are in seconds.
+/// What identity associations grant; times are in seconds. Of the first readable IA_NA, IA_TA and
+/// IA_PD, taken in this order wherever they stand in the message, a later one counts over those
+/// before.
 #[derive(Clone, Copy)]
 pub struct LeaseTerms {
-    /// The type of the last association that there is.
+    /// The type of the last of the three that there is, also if it granted nothing.
     pub ia_type: Option<DhcpV6IaType>,
-    /// The identifier of the last association that granted something.
+    /// The identifier of the last of them that granted something.
     pub iaid: u32,
     /// Its address or prefix.
     pub address: Ipv6Addr,
@@ -33,9 +32,9 @@ pub struct LeaseTerms {
     pub t1_sec: u32,
     /// T2: when it is rebound.
     pub t2_sec: u32,
-    /// For how long it is preferred.
+    /// For how long it is preferred; a temporary address always 86,400, whatever the server gives.
     pub preferred_time_sec: u32,
-    /// For how long it is valid.
+    /// For how long it is valid; a temporary address always 604,800, whatever the server gives.
     pub valid_time_sec: u32,
 }
 
@@ -66,11 +65,14 @@ impl LeaseTerms {
         }
     }
 
-    // These terms, and over them those of an IA_NA.
+    // These terms, and over them those of an IA_NA, if there is one.
     #[tactic(auto, unfolding(crate::specs::Lease::with_na))]
-    fn with_na(self, ia: &DhcpV6OptionIaNa) -> Self
-        ensures { result ≡ leases.with_na self (Some ia.now) }
+    fn with_na(self, ia: Option<&DhcpV6OptionIaNa>) -> Self
+        ensures { result ≡ leases.with_na self (option_copied ia.entry) }
     {
+        let Some(ia) = ia else {
+            return self;
+        };
         let typed = self.of_type(DhcpV6IaType::NonTemporaryAddresses);
         match &ia.address {
             Some(address) if ia.is_success() => LeaseTerms {
@@ -86,11 +88,15 @@ impl LeaseTerms {
         }
     }
 
-    // These terms, and over them those of an IA_TA.
+    // These terms, and over them the identifier and the address of an IA_TA, if there is one: its
+    // lifetimes are this library's own.
     #[tactic(auto, unfolding(crate::specs::Lease::with_ta))]
-    fn with_ta(self, ia: &DhcpV6OptionIaTa) -> Self
-        ensures { result ≡ leases.with_ta self (Some ia.now) }
+    fn with_ta(self, ia: Option<&DhcpV6OptionIaTa>) -> Self
+        ensures { result ≡ leases.with_ta self (option_copied ia.entry) }
     {
+        let Some(ia) = ia else {
+            return self;
+        };
         let typed = self.of_type(DhcpV6IaType::TemporaryAddresses);
         match &ia.address {
             Some(temporary) if ia.is_success() => LeaseTerms {
@@ -104,11 +110,14 @@ impl LeaseTerms {
         }
     }
 
-    // These terms, and over them those of an IA_PD.
+    // These terms, and over them those of an IA_PD, if there is one.
     #[tactic(auto, unfolding(crate::specs::Lease::with_pd))]
-    fn with_pd(self, ia: &DhcpV6OptionIaPd) -> Self
-        ensures { result ≡ leases.with_pd self (Some ia.now) }
+    fn with_pd(self, ia: Option<&DhcpV6OptionIaPd>) -> Self
+        ensures { result ≡ leases.with_pd self (option_copied ia.entry) }
     {
+        let Some(ia) = ia else {
+            return self;
+        };
         let typed = self.of_type(DhcpV6IaType::PrefixDelegation);
         match &ia.prefix {
             Some(prefix) if ia.is_success() => LeaseTerms {
@@ -126,48 +135,16 @@ impl LeaseTerms {
     }
 }
 
-/// The terms that the options of a message grant: those of its first readable IA_NA, then those of
-/// its first IA_TA, then those of its first IA_PD, each over those before.
+/// The terms of a lease of these options: those of the first readable IA_NA, then those of the
+/// first IA_TA, then those of the first IA_PD, each over those before.
 #[tactic(auto, unfolding(crate::specs::Lease::terms_of))]
 pub fn terms_of(options: &DhcpV6Options) -> LeaseTerms
     ensures { result ≡ leases.terms_of options.now }
 {
-    let addresses = na_terms(options, LeaseTerms::none());
-    let temporary = ta_terms(options, addresses);
-    pd_terms(options, temporary)
-}
-
-// These terms, and over them those of the first IA_NA, if there is one.
-#[tactic(auto, unfolding(crate::specs::Lease::with_na, dhcp6_opt::specs::OptionCode::number_of))]
-fn na_terms(options: &DhcpV6Options, terms: LeaseTerms) -> LeaseTerms
-    ensures { result ≡ leases.with_na terms (said_by na_said options.now 3) }
-{
-    match options.get_first(DhcpV6OptionCode::IANA) {
-        Some(DhcpV6Option::IANA(ia)) => terms.with_na(ia),
-        _ => terms,
-    }
-}
-
-// These terms, and over them those of the first IA_TA, if there is one.
-#[tactic(auto, unfolding(crate::specs::Lease::with_ta, dhcp6_opt::specs::OptionCode::number_of))]
-fn ta_terms(options: &DhcpV6Options, terms: LeaseTerms) -> LeaseTerms
-    ensures { result ≡ leases.with_ta terms (said_by ta_said options.now 4) }
-{
-    match options.get_first(DhcpV6OptionCode::IATA) {
-        Some(DhcpV6Option::IATA(ia)) => terms.with_ta(ia),
-        _ => terms,
-    }
-}
-
-// These terms, and over them those of the first IA_PD, if there is one.
-#[tactic(auto, unfolding(crate::specs::Lease::with_pd, dhcp6_opt::specs::OptionCode::number_of))]
-fn pd_terms(options: &DhcpV6Options, terms: LeaseTerms) -> LeaseTerms
-    ensures { result ≡ leases.with_pd terms (said_by pd_said options.now 25) }
-{
-    match options.get_first(DhcpV6OptionCode::IAPD) {
-        Some(DhcpV6Option::IAPD(ia)) => terms.with_pd(ia),
-        _ => terms,
-    }
+    LeaseTerms::none()
+        .with_na(options.ia_na())
+        .with_ta(options.ia_ta())
+        .with_pd(options.ia_pd())
 }
 
 // T1; if it is left to the client, half of the preferred lifetime, rounded down.

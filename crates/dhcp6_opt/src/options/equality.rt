@@ -19,7 +19,7 @@ pub(crate) fn same_in_order(mine: &[&DhcpV6Option], theirs: &[&DhcpV6Option]) ->
 }
 
 // Whether both have the same numbers, and of each the same options: without memory, and in time
-// that grows with the numbers and with the options.
+// that grows with how many numbers there are times how many options.
 pub(crate) fn same_lists(
     mine: &[DhcpV6Option],
     my_index: &[IndexEntry],

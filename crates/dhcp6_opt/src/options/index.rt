@@ -65,7 +65,7 @@ pub(crate) fn entry_of<S: StepCounter>(
 }
 
 // The position of the first option of this number.
-pub(crate) fn first_of(entries: &[IndexEntry], number: u16) -> Option<usize>
+pub(crate) fn first_place(entries: &[IndexEntry], number: u16) -> Option<usize>
     requires { Rises entries.now }
     ensures { result ≡ first_place number entries.now }
 {

@@ -23,4 +23,4 @@ returns-then-are_in_code_order c =
 pub returns-in_ok-in_code_order : goal.returns-in_ok-in_code_order
 returns-in_ok-in_code_order c =
     let same = ap (flat_map (λ option. written_option option.now)) c.deref-else-are_in_code_order.ensures.value ∙ written_behind _ _ c.in_ok-in_code_order.ensures.value in
-    subst (Emits c.emit_all.result c.args.buf.now c.emit_all.new.buf) same c.emit_all.ensures
+    subst (Emits c.emit_references.result c.args.buf.now c.emit_references.new.buf) same c.emit_references.ensures

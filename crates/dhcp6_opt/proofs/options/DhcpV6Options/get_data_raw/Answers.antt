@@ -17,12 +17,12 @@ made_some view (Err e) result expected is cases = rw cases is
 
 pub returns-in-Some : goal.returns-in-Some
 returns-in-Some c =
-    let at = sym (c.self.invariant.firsts c.args.code) ∙ ap (first_place c.args.code) (sym c.deref.ensures.value) ∙ sym c.first_of.ensures ∙ c.in-Some.is in
+    let at = sym (c.self.invariant.firsts c.args.code) ∙ ap (first_place c.args.code) (sym c.deref.ensures.value) ∙ sym c.first_place.ensures ∙ c.in-Some.is in
     let option : DhcpV6Option = RapidCommit in
     rw (← c.self.view_is, get-placed _ c.args.code _ option at)
     (made_some _ c.written_numbered.result c.map.result _ (rw c.deref-in-Some.ensures.value at c.written_numbered.ensures) c.map.ensures.cases)
 
 pub returns-in-None : goal.returns-in-None
 returns-in-None c =
-    let none = sym (c.self.invariant.firsts c.args.code) ∙ ap (first_place c.args.code) (sym c.deref.ensures.value) ∙ sym c.first_of.ensures ∙ c.in-None.is in
+    let none = sym (c.self.invariant.firsts c.args.code) ∙ ap (first_place c.args.code) (sym c.deref.ensures.value) ∙ sym c.first_place.ensures ∙ c.in-None.is in
     rw (← c.self.view_is) (sym (ap (option_map (map written_option)) (get-missing _ c.args.code none)))

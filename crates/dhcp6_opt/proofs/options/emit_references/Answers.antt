@@ -1,7 +1,7 @@
 -- What was written before the failure, in the option too, is a front of all.
 use Rattle.dhcp6_opt.specs.Value.{written_option}
 use Rattle.dhcp_wire.proofs.EmitLemmas.{emits_exit, front_piece}
-use Rattle.dhcp6_opt.proofs.options.emit_all.Goals as goal
+use Rattle.dhcp6_opt.proofs.options.emit_references.Goals as goal
 
 pub returns-in_err-emit : goal.returns-in_err-emit
 returns-in_err-emit c =
