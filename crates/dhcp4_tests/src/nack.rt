@@ -44,16 +44,22 @@ fn is_offer_refused(alloc: Global, offer: &[u8], nack: &[u8]) -> Result<bool, Dh
     }
 }
 
-// Whether a client with a lease of this server, for which it sends a Request at this moment,
-// searches anew when this Nack comes.
+// The moment of T1, or of T2, of a lease that is held from moment 0 on, in milliseconds.
+fn due(is_t2: bool) -> u64
+    ensures { result < 2 ^ 60 }
+{
+    if is_t2 { 20_000 } else { 10_000 }
+}
+
+// Whether a client with a lease of this server, which it renews at T1, or rebinds at T2, searches
+// anew when this Nack comes.
 fn is_lease_refused(
     alloc: Global,
     srv_id: Ipv4Addr,
-    now: u64,
+    is_t2: bool,
     nack: &[u8],
-) -> Result<bool, DhcpError>
-    requires { now < 2 ^ 60 }
-{
+) -> Result<bool, DhcpError> {
+    let now = due(is_t2);
     match client(alloc) {
         Ok(mut client) => {
             client.done(lease(alloc, srv_id), 0)?;
@@ -110,17 +116,17 @@ fn a_lease_is_refused_by_its_server_and_by_any_if_it_names_none(rt: HostRuntime)
     let server = Ipv4Addr::new(192, 0, 2, 1);
     let none = Ipv4Addr::UNSPECIFIED;
     // The Request of a lease without a server is broadcast at T1 too.
-    let cases: [(Ipv4Addr, u64, &[u8], bool); 7] = [
-        (none, 10_000, &NACK_OF_1, true),
-        (none, 10_000, &NACK_OF_9, true),
-        (none, 20_000, &NACK_OF_9, true),
-        (none, 20_000, &UNNAMED_NACK, true),
-        (server, 20_000, &NACK_OF_1, true),
-        (server, 20_000, &NACK_OF_9, false),
-        (server, 20_000, &UNNAMED_NACK, false),
+    let cases: [(Ipv4Addr, bool, &[u8], bool); 7] = [
+        (none, false, &NACK_OF_1, true),
+        (none, false, &NACK_OF_9, true),
+        (none, true, &NACK_OF_9, true),
+        (none, true, &UNNAMED_NACK, true),
+        (server, true, &NACK_OF_1, true),
+        (server, true, &NACK_OF_9, false),
+        (server, true, &UNNAMED_NACK, false),
     ];
-    for &(srv_id, now, nack, wanted) in &cases {
-        let is_refused = is_lease_refused(rt.alloc(), srv_id, now, nack).expect(&rt, "memory");
+    for &(srv_id, is_t2, nack, wanted) in &cases {
+        let is_refused = is_lease_refused(rt.alloc(), srv_id, is_t2, nack).expect(&rt, "memory");
         assert!(rt; is_refused == wanted);
     }
 }
