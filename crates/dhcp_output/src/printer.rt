@@ -21,7 +21,7 @@ ghost use Rattle.dhcp_output.specs.Output.{
 use crate::info::push_info_state;
 use crate::{Output, OutputWhat, Reported};
 use dhcp_clock::Handed;
-use dhcp_script::field::Field;
+use dhcp_script::field::FieldText;
 use dhcp_script::{push_hex, push_lease4, push_lease6};
 use dhcp_wire::{Bytes, DhcpError, ErrorKind};
 use dhcp4_client::DhcpV4State;
