@@ -1,6 +1,6 @@
 -- What the lives of all clients share: the events that come to a client, and what
 -- is reported of it.
-use Rattle.std.specs.Prelude.{◌≡◌, ℕ, suc, ◌≤◌, ◌<◌, ◌^◌, Bool, true, false, List, [], ◌∷◌, length, map, All, Option, Some, IfSome, Result, Ok, Err}
+use Rattle.std.specs.Prelude.{◌≡◌, ℕ, suc, ◌≤◌, ◌<◌, ◌^◌, Bool, true, false, List, [], ◌∷◌, length, map, All, Option, Some, None, IfSome, Result, Ok, Err}
 use Rattle.dhcp_wire.specs.Error.{ErrorParts, no_memory}
 use Rattle.dhcp_wire.specs.declared.error.ErrorKind.TheVariants.{InvalidArgument}
 use Rattle.dhcp_clock.specs.declared.link.Handed.{Handed}
@@ -39,6 +39,17 @@ input_of (Frame bytes) = inputs.Arrival (record { kind = carriers.Frame; bytes =
 input_of (Payload bytes) = inputs.Arrival (record { kind = carriers.Payload; bytes = bytes })
 input_of Release = inputs.Release
 input_of CleanUp = inputs.CleanUp
+
+-- the packet that waits at an event, if one does
+abbrev pub arrival_in : Input Packet → Option Packet
+arrival_in (inputs.Arrival packet) = Some packet
+arrival_in inputs.Nothing = None
+arrival_in inputs.Release = None
+arrival_in inputs.CleanUp = None
+
+-- the packet that an event brings to the client, if it brings one
+abbrev pub arrival_of : EventWhat → Option Packet
+arrival_of what = arrival_in (input_of what)
 
 -- an event by its number
 abbrev pub numbered_event : ℕ → Event → NumberedEvent Packet

@@ -147,6 +147,17 @@ fn input_of(what: EventWhat) -> Input<Packet>
     }
 }
 
+/// A copy of the packet that an event brings to the client, if it brings one. Out of memory is the
+/// only error.
+pub fn arrival_of(alloc: Global, what: &EventWhat) -> Result<Option<Packet>, AllocError>
+    ensures { IfOk result (λ packet. packet ≡ lives.arrival_of what.now) }
+{
+    match input_of(copy_of(alloc, what)?) {
+        Input::Arrival(packet) => Ok(Some(packet)),
+        Input::Nothing | Input::Release | Input::CleanUp => Ok(None),
+    }
+}
+
 // A packet that comes in.
 fn arrival(kind: PacketKind, bytes: Bytes) -> Input<Packet>
     ensures { result ≡ Input.Arrival (record { kind = kind; bytes = bytes }) }
