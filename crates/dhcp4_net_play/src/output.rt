@@ -7,7 +7,7 @@ ghost use Rattle.dhcp_wire.specs.Outcome.{Makes};
 ghost use Rattle.dhcp_stream.specs.Line.{line};
 ghost use Rattle.dhcp4_net_play.specs.Output.{output_line, outputs_text};
 
-use dhcp_script::field::Field;
+use dhcp_script::field::FieldText;
 use dhcp_wire::{Bytes, DhcpError};
 use dhcp4_net::{NetOutput, NetWhat};
 use std::alloc::{AllocError, Global};

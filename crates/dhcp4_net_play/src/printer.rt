@@ -18,7 +18,7 @@ ghost use Rattle.dhcp4_net_play.specs.NetScript.{
 };
 
 use crate::lines::push_lines;
-use dhcp_script::field::{Field, push_three_more};
+use dhcp_script::field::{FieldText, push_three_more};
 use dhcp_script::life::printer::push_flag;
 use dhcp_script::push_numbers;
 use dhcp_stream::push_octets;

@@ -9,7 +9,7 @@ use Rattle.dhcp_history.specs.Script.{Script}
 use Rattle.dhcp6_opt.specs.declared.duid.DhcpV6Duid.{DhcpV6Duid}
 use Rattle.dhcp6_msg.specs.Config.{Config, client_duid}
 use Rattle.dhcp_script.specs.declared.event.Event.{Event}
-use Rattle.dhcp_output.specs.Output.{HasFailureText, PlainOutput, changed_info, plain_output}
+use Rattle.dhcp_output.specs.Output.{HasText, PlainOutput, changed_info, plain_output}
 use Rattle.dhcp_output.specs.declared.output.Output.{Output}
 use Rattle.dhcp_replay.specs.Life.{IsPlayed, numbered, output_of}
 use Rattle.dhcp_replay.proofs.LifeLemmas as lives
@@ -56,7 +56,7 @@ module _ (config : Config) (events : List Event) (client : ClientParts) (before 
         (lives.life_reports protocol (client_duid config) (config_in config) life before after client.config.duid client.config client.client drawn begun (numbered 1 events) (λ words. refl) HasItems played.history_is)
 
     -- all of it has a text
-    pub have_texts : (outputs : List Output) → map plain_output outputs ≡ outs → All HasFailureText outputs
+    pub have_texts : (outputs : List Output) → map plain_output outputs ≡ outs → All HasText outputs
     have_texts outputs is = texts_info outputs played.items (is ∙ played.outputs_are)
 
   -- what a replay returns that played its events with this client
@@ -71,7 +71,7 @@ module _ (config : Config) (events : List Event) (client : ClientParts) (before 
     all_reported (Ok outputs) played = reported (map plain_output outputs) new left (own_played outputs played)
     all_reported (Err error) played = tt
 
-    pub all_have_texts : (result : Result (List Output) ErrorParts) → IfOk result Played → IfOk result (λ outputs. All HasFailureText outputs)
+    pub all_have_texts : (result : Result (List Output) ErrorParts) → IfOk result Played → IfOk result (λ outputs. All HasText outputs)
     all_have_texts (Ok outputs) played = have_texts (map plain_output outputs) new left (own_played outputs played) outputs refl
     all_have_texts (Err error) played = tt
 

@@ -3,7 +3,7 @@
 ghost use Rattle.std.specs.Prelude.{◌≡◌, All, IfErr, IfOk, IfSome, OnOk, map, true};
 ghost use Rattle.dhcp_wire.specs.Error.{no_memory};
 ghost use Rattle.dhcp_script.specs.Script6.{is_valid};
-ghost use Rattle.dhcp_output.specs.Output.{HasFailureText, plain_output};
+ghost use Rattle.dhcp_output.specs.Output.{HasText, plain_output};
 ghost use Rattle.dhcp_replay.specs.Life.{CanPlay, IsRefusal};
 ghost use Rattle.dhcp_history.specs.Rules.{GivesDrawn};
 ghost use Rattle.dhcp6_msg.specs.Config.{client_duid};
@@ -28,7 +28,7 @@ pub fn replay_info(alloc: Global, script: &Script6) -> Result<Sequence<Output>, 
     ensures valid { OnOk result (is_valid script.now ≡ true) }
     ensures refused { IfErr result (IsRefusal (is_valid script.now)) }
     ensures outputs { IfOk result (λ outputs. map plain_output outputs ≡ outputs_of script.now) }
-    ensures failures { IfOk result (λ outputs. All HasFailureText outputs) }
+    ensures texts { IfOk result (λ outputs. All HasText outputs) }
     ensures promises { OnOk result (KeepsPromisesOf script.now) }
 {
     if !script.is_valid() {
@@ -51,7 +51,7 @@ fn play_with<W: Words>(
     ensures error { IfErr result (λ error. error ≡ no_memory) }
     ensures outputs { IfOk result (λ outputs. IfSome (W.left words.old) (λ drawn.
         map plain_output outputs ≡ outputs_with config drawn events.now)) }
-    ensures failures { IfOk result (λ outputs. All HasFailureText outputs) }
+    ensures texts { IfOk result (λ outputs. All HasText outputs) }
     ensures promises { OnOk result (IfSome (W.left words.old) (λ drawn.
         KeepsPromises config drawn events.now)) }
 {

@@ -1,4 +1,4 @@
--- The text of what a client answers to an event.
+-- The text of what a client says to an event.
 use Rattle.std.specs.Prelude.{ℕ, Bool, true, false, List, [], ◌∷◌, ◌++◌, Option, Some, None, codes}
 use Rattle.std.specs.Fmt.{decimal}
 use Rattle.std.specs.List.{flat_map}
@@ -55,7 +55,7 @@ abbrev pub dropped_text : Option Dropped → List ℕ
 dropped_text (Some dropped) = dropped_line dropped.number dropped.verdict
 dropped_text None = []
 
--- a line for each output, that of a packet that was no answer, and the line for the carrier
+-- a line for each output, that of a packet that is no answer, and the line for the carrier
 unfoldable pub answer_text : List PlainOutput → Option Dropped → Option ℕ → Bool → ℕ → List ℕ
 answer_text outputs dropped next listening left =
     flat_map output_line outputs ++ dropped_text dropped ++ next_line next listening left

@@ -1,12 +1,10 @@
--- Why the packet of an event was no answer.
-use Rattle.std.specs.Prelude.{ℕ, Bool, true, false, List, Option, Some, None, option_map}
+-- What the packet of an event is to the client.
+use Rattle.std.specs.Prelude.{ℕ, Bool, if◌then◌else◌, List, Option, Some, None, option_map}
 use Rattle.std.specs.List.{list_any}
 use Rattle.dhcp_clock.specs.declared.link.Packet.{Packet}
-use Rattle.dhcp_history.specs.declared.script.Input.{Input}
-use Rattle.dhcp_history.specs.declared.script.Input.TheVariants as inputs
 use Rattle.dhcp_output.specs.Output.{PlainOutput, is_of}
 use Rattle.dhcp_output.specs.declared.summary.OutputKind.TheVariants.{Changed}
-use Rattle.dhcp_replay.specs.Life.{input_of}
+use Rattle.dhcp_replay.specs.Life.{arrival_of}
 use Rattle.dhcp_script.specs.declared.event.Event.{Event}
 use Rattle.dhcp_verdict.specs.declared.packet_verdict.PacketVerdict.{PacketVerdict}
 use Rattle.dhcp_verdict.specs.declared.packet_verdict.PacketVerdict.TheVariants.{Answer, NoOpenAttempt, OtherCarrier, NoFrame, NoMessage, OtherTransactionId, OtherType, OtherServer, NoLease}
@@ -51,18 +49,6 @@ verdict6 here now packet =
 abbrev pub has_change : List PlainOutput → Bool
 has_change outputs = list_any (λ output. is_of Changed output.report) outputs
 
--- the packet that waits at an event, if one does
-abbrev pub arrival_in : Input Packet → Option Packet
-arrival_in (inputs.Arrival packet) = Some packet
-arrival_in inputs.Nothing = None
-arrival_in inputs.Release = None
-arrival_in inputs.CleanUp = None
-
--- the packet of an event that changed no state
-abbrev pub packet_without_change : Bool → Event → Option Packet
-packet_without_change true event = None
-packet_without_change false event = arrival_in (input_of event.what)
-
 module _ {Client : Type 0} (verdict : Client → ℕ → Packet → PlainVerdict) where
   -- a packet of the event of this number and moment, by what it is to the client
   abbrev pub dropped_at : Client → ℕ → ℕ → Packet → Dropped
@@ -74,5 +60,5 @@ module _ {Client : Type 0} (verdict : Client → ℕ → Packet → PlainVerdict
   -- of the event.
   abbrev pub dropped_of : Client → ℕ → Event → List PlainOutput → Option Dropped
   dropped_of here number event outputs =
-      option_map (dropped_at here number event.moment)
-      (packet_without_change (has_change outputs) event)
+      if has_change outputs then None
+      else option_map (dropped_at here number event.moment) (arrival_of event.what)

@@ -48,7 +48,7 @@ module _ {Client Config PublicState State Exchange Answer Lease : Type 0}
       (text : List ℕ) : Type 0 where
     pub outputs : List PlainOutput
     pub plays : PlaysNext protocol changed event outputs before after
-    -- the client itself, by which it is said why the packet was no answer
+    -- the client itself, by which it is said what the packet of the event is to it
     pub client : Client
     pub client_is : parts client ≡ after.parts
     pub text_is : text ≡ answer_after outputs

@@ -17,12 +17,14 @@ use dhcp_verdict::PacketVerdict;
 use dhcp_wire::Sequence;
 use std::alloc::{AllocError, Global};
 
-/// What a client answers to an event.
+/// What a client says to an event: what it reports, what the packet of the event is to it, and how
+/// it stands then. `PacketVerdict::Answer` is something else: a packet that answers the client.
 #[derive(Drop)]
-pub struct Answer {
+pub struct EventReply {
     /// What is reported of the event, in order.
     pub outputs: Sequence<Output>,
-    /// The packet of the event, if it had one and no change of state is reported of it.
+    /// What the packet of the event is to the client, if there is one and no change of state is
+    /// reported.
     pub dropped: Option<Dropped>,
     /// The moment, in milliseconds, of the next event that is needed if no packet comes; none if an
     /// error is kept.
@@ -33,12 +35,13 @@ pub struct Answer {
     pub words_left: usize,
 }
 
-/// Puts an answer at the end of a text: a line for each output; a line `dropped`, with the number
-/// of the event and the reason, if there is a packet that was no answer; and then a line for the
-/// carrier, `next`, the moment or `never`, `listening` or `deaf`, and how many words are left.
-/// After an error, which is out of memory, a part of it may be there.
+/// Puts what a client says to an event at the end of a text: a line for each output; a line
+/// `dropped`, with the number of the event and the reason, if `dropped` has a packet that is no
+/// answer to the client; and then a line for the carrier, `next`, the moment or `never`,
+/// `listening` or `deaf`, and how many words are left. After an error, which is out of memory, a
+/// part of it may be there.
 #[tactic(auto, unfolding(crate::specs::Answer::answer_text))]
-pub fn push_answer(alloc: Global, text: &mut String, answer: &Answer) -> Result<(), AllocError>
+pub fn push_answer(alloc: Global, text: &mut String, answer: &EventReply) -> Result<(), AllocError>
     ensures { OnOk result (string_bytes text.new ≡ string_bytes text.old
         ++ answer_text (map plain_output answer.now.outputs) answer.now.dropped answer.now.next
         answer.now.is_listening answer.now.words_left) }
@@ -51,7 +54,7 @@ pub fn push_answer(alloc: Global, text: &mut String, answer: &Answer) -> Result<
     write!(text, " {listening} {left}\n")
 }
 
-// Puts the line of a packet that was no answer at the end of a text, if there is one.
+// Puts the line of a packet at the end of a text, if there is one that is no answer.
 fn push_dropped(text: &mut String, dropped: Option<Dropped>) -> Result<(), AllocError>
     ensures { OnOk result (string_bytes text.new
         ≡ string_bytes text.old ++ dropped_text dropped) }

@@ -8,7 +8,7 @@ ghost use Rattle.dhcp_live.specs.Live as live;
 ghost use Rattle.dhcp_live.specs.Live.{PlaysNext, Tells, held, with_words};
 
 use crate::dropped::dropped_of;
-use crate::{Answer, VerdictClient, WordQueue};
+use crate::{EventReply, VerdictClient, WordQueue};
 use dhcp_output::Output;
 use dhcp_replay::{FamilyClient, numbered_event, outputs_of};
 use dhcp_script::Event;
@@ -65,11 +65,11 @@ impl<C: VerdictClient> LiveClient<C> {
         self.moment <= event.moment && event.is_within_limits() && self.number < u32::MAX
     }
 
-    /// Plays the next event, and returns what is reported of it, why its packet was no answer, and
-    /// how the client stands then. Of a packet something is said if and only if no change of state
-    /// is reported: what it is to the client as it stands after the event. Out of memory is the
-    /// only error.
-    pub fn event(&mut self, alloc: Global, event: &Event) -> Result<Answer, DhcpError>
+    /// Plays the next event, and returns what is reported of it, what its packet is to the client,
+    /// and how the client stands then. Of a packet something is said if and only if no change of
+    /// state is reported: what it is to the client as it stands after the event. Out of memory is
+    /// the only error.
+    pub fn event(&mut self, alloc: Global, event: &Event) -> Result<EventReply, DhcpError>
         requires { live.can_take (held C.parts self.old) event.now ≡ true }
         ensures played { IfOk result (λ answer. PlaysNext C.protocol C.Reported.changed event.now
             (map plain_output answer.outputs) (held C.parts self.old) (held C.parts self.new)) }
@@ -82,7 +82,7 @@ impl<C: VerdictClient> LiveClient<C> {
     {
         let outputs = self.play(alloc, event)?;
         let dropped = dropped_of(alloc, &*self.client, self.number, event, outputs.as_slice())?;
-        Ok(Answer {
+        Ok(EventReply {
             outputs,
             dropped,
             next: self.client.next_poll(),

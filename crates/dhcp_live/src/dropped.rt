@@ -1,4 +1,4 @@
-//! Why the packet of an event was no answer.
+//! What the packet of an event is to the client.
 
 ghost use Rattle.std.specs.Prelude.{◌≡◌, IfErr, IfOk, map};
 ghost use Rattle.std.specs.List.{list_any};
@@ -8,9 +8,8 @@ ghost use Rattle.dhcp_output.specs.declared.summary.OutputKind.TheVariants.{Chan
 ghost use Rattle.dhcp_live.specs.Dropped as dropped;
 
 use dhcp_clock::Packet;
-use dhcp_history::Input;
-use dhcp_output::{Output, OutputWhat};
-use dhcp_replay::{FamilyClient, numbered_event};
+use dhcp_output::{Output, OutputKind};
+use dhcp_replay::{FamilyClient, arrival_of};
 use dhcp_script::Event;
 use dhcp_verdict::PacketVerdict;
 use dhcp_wire::DhcpError;
@@ -18,13 +17,14 @@ use dhcp4_client::DhcpV4Client;
 use dhcp4_msg::DhcpV4MessageType;
 use dhcp6_client::DhcpV6Client;
 use dhcp6_msg::DhcpV6MessageType;
-use std::alloc::{AllocError, Global};
+use std::alloc::Global;
 
 /// What a packet is to a client of either family, with the number of the type of its message, if
 /// that has one.
 pub type PlainVerdict = PacketVerdict<Option<u8>>;
 
-/// A packet that was no answer, and why.
+/// The packet of an event without a change of state, and what it is to the client; an answer has no
+/// line.
 #[derive(Clone, Copy, Debug, PartialEq, Eq)]
 pub struct Dropped {
     /// The number of its event.
@@ -139,32 +139,14 @@ pub fn dropped_of<C: VerdictClient>(
         number event.now (map plain_output outputs.now)) }
     ensures error { IfErr result (λ error. error ≡ no_memory) }
 {
-    match packet_without_change(alloc, has_change(outputs), event)? {
-        Some(packet) => {
-            let verdict = client.plain_verdict(event.moment, &packet)?;
-            Ok(Some(Dropped { number, verdict }))
-        }
-        None => Ok(None),
-    }
-}
-
-// The packet of an event that changed no state.
-fn packet_without_change(
-    alloc: Global,
-    has_change: bool,
-    event: &Event,
-) -> Result<Option<Packet>, AllocError>
-    ensures { IfOk result (λ packet.
-        packet ≡ dropped.packet_without_change has_change event.now) }
-{
-    if has_change {
+    if has_change(outputs) {
         return Ok(None);
     }
-    let arrival = numbered_event(alloc, 0, event)?;
-    match arrival.input {
-        Input::Arrival(packet) => Ok(Some(packet)),
-        Input::Nothing | Input::Release | Input::CleanUp => Ok(None),
-    }
+    let Some(packet) = arrival_of(alloc, &event.what)? else {
+        return Ok(None);
+    };
+    let verdict = client.plain_verdict(event.moment, &packet)?;
+    Ok(Some(Dropped { number, verdict }))
 }
 
 // Whether a change of state is among these outputs.
@@ -178,15 +160,7 @@ fn has_change(outputs: &[Output]) -> bool
 fn has_change_each(outputs: &[Output]) -> bool
     ensures { result ≡ list_any (λ output. is_of Changed (plain_report output.what)) outputs.now }
 {
-    outputs.iter().any(is_change)
-}
-
-// Whether a change of state is reported.
-fn is_change(output: &Output) -> bool
-    ensures { result ≡ is_of Changed (plain_report output.now.what) }
-{
-    match &output.what {
-        OutputWhat::Changed(_) => true,
-        OutputWhat::Handed(_) | OutputWhat::Refused(_) | OutputWhat::Failed(_) => false,
-    }
+    outputs
+        .iter()
+        .any(|output| output.what.is_of(OutputKind::Changed))
 }

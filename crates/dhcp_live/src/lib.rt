@@ -12,7 +12,7 @@ mod session;
 mod tool;
 mod word_queue;
 
-pub use answer::{Answer, push_answer};
+pub use answer::{EventReply, push_answer};
 pub use begin::{begin4, begin6};
 pub use client::LiveClient;
 pub use dhcp_dialogue::{Dialogue, MAX_LINE, StdDialogue, Unheard};

@@ -102,7 +102,7 @@ fn answer_event<C: VerdictClient, D: Dialogue>(
     if !client.can_take(event) {
         return Next::End(Status::Invalid);
     }
-    let text = match answer_text(alloc, client, event) {
+    let text = match play_and_print(alloc, client, event) {
         Ok(text) => text,
         Err(error) => return Next::End(out_of_memory(error)),
     };
@@ -113,8 +113,8 @@ fn answer_event<C: VerdictClient, D: Dialogue>(
     }
 }
 
-// Plays an event, and returns the text of what the client answers.
-fn answer_text<C: VerdictClient>(
+// Plays an event, and returns the text of what the client says to it.
+fn play_and_print<C: VerdictClient>(
     alloc: Global,
     client: &mut LiveClient<C>,
     event: &Event,
@@ -124,9 +124,9 @@ fn answer_text<C: VerdictClient>(
         event.now (held C.parts client.old) (held C.parts client.new)) }
     ensures error { IfErr result (λ error. error ≡ no_memory) }
 {
-    let answer = client.event(alloc, event)?;
+    let reply = client.event(alloc, event)?;
     let mut text = String::new(alloc);
-    push_answer(alloc, &mut text, &answer)?;
+    push_answer(alloc, &mut text, &reply)?;
     Ok(Bytes::from(text.into_bytes()))
 }
 

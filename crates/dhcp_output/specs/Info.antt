@@ -5,9 +5,9 @@ use Rattle.std.specs.declared.net.Ipv6Addr.{Ipv6Addr}
 use Rattle.dhcp_stream.specs.HexText.{address6_text, hex_text}
 use Rattle.dhcp_stream.specs.Line.{spaced}
 use Rattle.dhcp_script.specs.Field.{list_text, unless_none}
+use Rattle.dhcp_script.specs.TimeServer.{time_server_text}
 use Rattle.dhcp6_opt.specs.Duid.{written_duid}
 use Rattle.dhcp6_opt.specs.declared.ntp_server.DhcpV6OptionNtpServer.{DhcpV6OptionNtpServer}
-use Rattle.dhcp6_opt.specs.declared.ntp_server.DhcpV6OptionNtpServer.TheVariants.{ServerAddr, MulticastAddr, ServerFqdn, Other}
 use Rattle.dhcp6_info.specs.declared.info.DhcpV6Info.{DhcpV6Info}
 use Rattle.dhcp6_info.specs.declared.state.PlainInfoState.{PlainInfoState}
 use Rattle.dhcp6_info.specs.declared.state.PlainInfoState.TheVariants.{Done, Inform}
@@ -25,14 +25,7 @@ is_empty_name _ = false
 abbrev pub names_text : List (List ℕ) → List ℕ
 names_text names = if is_empty_name names then codes "-," else list_text hex_text names
 
--- a time server: its address, that of its group, its name, or any other suboption by its type
-abbrev pub time_server_text : DhcpV6OptionNtpServer → List ℕ
-time_server_text (ServerAddr address) = codes "a/" ++ address6_text address
-time_server_text (MulticastAddr address) = codes "m/" ++ address6_text address
-time_server_text (ServerFqdn name) = codes "n/" ++ hex_text name
-time_server_text (Other suboption) =
-    codes "o" ++ decimal suboption.0 ++ codes "/" ++ hex_text suboption.1
-
+-- time servers
 abbrev pub time_servers_text : List DhcpV6OptionNtpServer → List ℕ
 time_servers_text servers = list_text time_server_text servers
 

@@ -1,7 +1,6 @@
 //! The printer of the states of a client for configuration alone.
 
 ghost use Rattle.std.specs.Prelude.{◌≡◌, [], ◌∷◌, ◌++◌, OnOk, string_bytes};
-ghost use Rattle.std.specs.List.{flat_map};
 ghost use Rattle.dhcp_stream.specs.HexText.{hex_text};
 ghost use Rattle.dhcp_script.specs.Field.{unless_none};
 ghost use Rattle.dhcp6_opt.specs.Duid.{written_duid};
@@ -12,16 +11,15 @@ ghost use Rattle.dhcp_output.specs.Info.{
   is_empty_name,
   names_text,
   state_text,
-  time_server_text,
   time_servers_text,
 };
 
 use dhcp_script::duid::bytes_of;
-use dhcp_script::field::Field;
+use dhcp_script::field::FieldText;
 use dhcp_script::push_hex;
 use dhcp_wire::{Sequence, Text};
 use dhcp6_info::{DhcpV6Info, DhcpV6InfoState};
-use dhcp6_opt::{DhcpV6Duid, DhcpV6OptionNtpServer};
+use dhcp6_opt::DhcpV6Duid;
 use std::alloc::{AllocError, Global};
 
 /// Puts a state at the end of a text; `done` has the fields of the configuration. After an error,
@@ -74,7 +72,7 @@ fn push_lists_more(text: &mut String, info: &DhcpV6Info) -> Result<(), AllocErro
 {
     push_domains(text, &info.domains)?;
     text.push(' ')?;
-    push_ntp(text, &info.ntp)?;
+    info.ntp.push_to(text)?;
     text.push(' ')
 }
 
@@ -120,72 +118,5 @@ fn is_empty_name(names: &[Text]) -> bool
     match names {
         [name] => name.as_str().is_empty(),
         _ => false,
-    }
-}
-
-// Puts time servers, or the word `none`, at the end of a text.
-fn push_ntp(
-    text: &mut String,
-    ntp: &Option<Sequence<DhcpV6OptionNtpServer>>,
-) -> Result<(), AllocError>
-    ensures { OnOk result (string_bytes text.new
-        ≡ string_bytes text.old ++ unless_none time_servers_text ntp.now) }
-{
-    match ntp {
-        None => text.push_str("none"),
-        Some(servers) => push_time_servers(text, servers.as_slice()),
-    }
-}
-
-// Puts time servers at the end of a text, with commas between them, or `-` for none.
-fn push_time_servers(text: &mut String, servers: &[DhcpV6OptionNtpServer]) -> Result<(), AllocError>
-    ensures { OnOk result (string_bytes text.new
-        ≡ string_bytes text.old ++ time_servers_text servers.now) }
-{
-    match servers.split_first() {
-        None => text.push('-'),
-        Some((first, rest)) => {
-            push_time_server(text, first)?;
-            push_after_commas(text, rest)
-        }
-    }
-}
-
-// Puts time servers at the end of a text, each after a comma.
-fn push_after_commas(text: &mut String, servers: &[DhcpV6OptionNtpServer]) -> Result<(), AllocError>
-    ensures { OnOk result (string_bytes text.new ≡ string_bytes text.old
-        ++ flat_map (λ server. 44 ∷ time_server_text server) servers.now) }
-{
-    for server in servers {
-        text.push(',')?;
-        push_time_server(text, server)?;
-    }
-    Ok(())
-}
-
-// Puts a time server at the end of a text: `a` and its address, `m` and the address of its group,
-// `n` and its name, or `o` with the type of any other suboption and its bytes.
-fn push_time_server(text: &mut String, server: &DhcpV6OptionNtpServer) -> Result<(), AllocError>
-    ensures { OnOk result (string_bytes text.new
-        ≡ string_bytes text.old ++ time_server_text server.now) }
-{
-    match server {
-        DhcpV6OptionNtpServer::ServerAddr(address) => {
-            text.push_str("a/")?;
-            address.push_to(text)
-        }
-        DhcpV6OptionNtpServer::MulticastAddr(address) => {
-            text.push_str("m/")?;
-            address.push_to(text)
-        }
-        DhcpV6OptionNtpServer::ServerFqdn(name) => {
-            text.push_str("n/")?;
-            name.push_to(text)
-        }
-        DhcpV6OptionNtpServer::Other((kind, bytes)) => {
-            let kind = *kind;
-            write!(text, "o{kind}/")?;
-            push_hex(text, bytes.as_slice())
-        }
     }
 }

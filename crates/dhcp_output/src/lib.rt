@@ -8,4 +8,4 @@ mod summary;
 
 pub use output::{Output, OutputWhat, Reported};
 pub use printer::{print_outputs, push_output, push_outputs};
-pub use summary::print_summary;
+pub use summary::{OutputKind, print_summary};

@@ -1,7 +1,7 @@
 //! What is reported of a client at the events of a script.
 
 use dhcp_clock::Handed;
-use dhcp_wire::ErrorKind;
+use dhcp_history::Failure;
 use dhcp4_client::DhcpV4State;
 use dhcp6_client::DhcpV6State;
 use dhcp6_info::DhcpV6InfoState;
@@ -26,9 +26,8 @@ pub enum OutputWhat {
     Refused(Handed),
     /// The client came to this state.
     Changed(Reported),
-    /// The client failed: `Timeout` if its time limit is over, `IoError` if the link refused a
-    /// release.
-    Failed(ErrorKind),
+    /// The client failed: its time limit is over, or the link refused the message of a release.
+    Failed(Failure),
 }
 
 /// What is reported at an event.

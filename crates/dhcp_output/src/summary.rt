@@ -29,8 +29,8 @@ pub enum OutputKind {
 }
 
 impl OutputWhat {
-    // Whether what is reported is of this kind; a state may be of either family.
-    fn is_of(&self, kind: OutputKind) -> bool
+    /// Whether what is reported is of this kind; a state may be of any client.
+    pub fn is_of(&self, kind: OutputKind) -> bool
         ensures { result ≡ is_of kind (plain_report self.now) }
     {
         match self {

@@ -19,7 +19,7 @@ use Rattle.dhcp6_client.specs.Rules.{protocol}
 use Rattle.dhcp6_client.specs.declared.client_state.ClientState.{ClientState}
 use Rattle.dhcp6_client.specs.declared.client_state.Exchange.{Exchange}
 use Rattle.dhcp6_client.specs.declared.state.PlainState.{PlainState}
-use Rattle.dhcp_output.specs.Output.{HasFailureText, PlainOutput, changed_v6, plain_output}
+use Rattle.dhcp_output.specs.Output.{HasText, PlainOutput, changed_v6, plain_output}
 use Rattle.dhcp_output.specs.declared.output.Output.{Output}
 use Rattle.dhcp_script.specs.declared.event.Event.{Event}
 use Rattle.dhcp_replay.specs.Life.{EndsAs, IsPlayed, last_moment_of, numbered, output_of}
@@ -75,9 +75,9 @@ module _ (config : Config) (lease : Option Lease) (start : ℕ) (events : List E
           (items6 played.items played.history_is)
 
       -- all of it has a text
-      pub failures6 : (outputs : List Output) → map plain_output outputs ≡ outs → IfSome before (λ words. All HasFailureText outputs)
-      failures6 outputs is =
-          lives.life_says protocol (first_draws config) (config_in config) life before after (drawn_for client) client.config client.client drawn begun (All HasFailureText outputs)
+      pub have_texts6 : (outputs : List Output) → map plain_output outputs ≡ outs → IfSome before (λ words. All HasText outputs)
+      have_texts6 outputs is =
+          lives.life_says protocol (first_draws config) (config_in config) life before after (drawn_for client) client.config client.client drawn begun (All HasText outputs)
           (texts6 client.config (view_of client.client) (numbered 1 events) outputs played.items (view_of new.client) left after (is ∙ played.outputs_are) played.reported)
 
       -- how it ends

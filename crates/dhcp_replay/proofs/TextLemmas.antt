@@ -1,18 +1,16 @@
 -- What is reported of a client has a text: of the leases that an IPv6 client reports the type is known.
-use Rattle.std.proofs.Common.{◌≡◌, ◌⊎◌, ℕ, Bool, true, false, List, [], ◌∷◌, Option, Some, None, Result, Ok, Err, IsTrue, refl, sym, ap, subst, ◌∙◌, inl, inr}
+use Rattle.std.proofs.Common.{◌≡◌, ℕ, Bool, true, false, List, [], ◌∷◌, Option, Some, None, Result, Ok, Err, IsTrue, sym, ap, subst, ◌∙◌}
 use Rattle.std.specs.Prelude.{All, IfSome, if◌then◌else◌, map}
 use Rattle.std.specs.List.{AllByRecursion}
 use Rattle.std.proofs.lemmas.Bool.{and_parts}
 use Rattle.std.proofs.lemmas.List.Elements.{All-cons, All-nil}
 use Rattle.std.proofs.lemmas.Option.{none-some, same_Some, option_and_then_some}
 use Rattle.dhcp_wire.specs.declared.error.ErrorKind.{ErrorKind}
-use Rattle.dhcp_wire.specs.declared.error.ErrorKind.TheVariants.{Timeout, IoError}
 use Rattle.dhcp_clock.specs.declared.link.Handed.{Handed}
 use Rattle.dhcp_clock.specs.declared.link.Packet.{Packet}
 use Rattle.dhcp_history.specs.EventLoop.{HasReported, events_at}
 use Rattle.dhcp_history.specs.Machine.{View}
 use Rattle.dhcp_history.specs.declared.script.NumberedEvent.{NumberedEvent}
-use Rattle.dhcp_history.specs.declared.script.Failure.TheVariants as failures
 use Rattle.dhcp_history.specs.declared.script.NumberedReport.{NumberedReport}
 use Rattle.dhcp_history.specs.declared.script.Report.{Report}
 use Rattle.dhcp_history.specs.declared.script.Report.TheVariants as reports
@@ -33,7 +31,7 @@ use Rattle.dhcp6_client.specs.declared.client_state.ClientState.{ClientState}
 use Rattle.dhcp6_client.specs.declared.client_state.ClientState.TheVariants.{Solicit, Request, Done, Temporary, Renew, Rebind}
 use Rattle.dhcp6_client.specs.declared.client_state.Exchange.{Exchange}
 use Rattle.dhcp6_info.specs.declared.state.PlainInfoState.{PlainInfoState}
-use Rattle.dhcp_output.specs.Output.{HasFailureText, HasReportText, HasStateText6, PlainOutput, PlainReport, changed_info, changed_v4, changed_v6, failed, handed, refused, plain_output, plain_report}
+use Rattle.dhcp_output.specs.Output.{HasText, HasReportText, HasStateText6, PlainOutput, PlainReport, changed_info, changed_v4, changed_v6, failed, handed, refused, plain_output, plain_report}
 use Rattle.dhcp_output.specs.declared.output.Output.{Output}
 use Rattle.dhcp_output.specs.declared.output.OutputWhat.{OutputWhat}
 use Rattle.dhcp_output.specs.declared.output.OutputWhat.TheVariants as what
@@ -48,7 +46,7 @@ HasPlainText (refused message) = Unit {0}
 HasPlainText (changed_v4 state) = Unit {0}
 HasPlainText (changed_v6 state) = HasStateText6 state
 HasPlainText (changed_info state) = Unit {0}
-HasPlainText (failed kind) = (kind ≡ Timeout) ⊎ (kind ≡ IoError)
+HasPlainText (failed failure) = Unit {0}
 
 abbrev AllPlain : List PlainOutput → Type 0
 AllPlain outputs = AllByRecursion (λ (output : PlainOutput). HasPlainText output.report) outputs
@@ -59,11 +57,11 @@ has_text (what.Refused message) h = tt
 has_text (what.Changed (V4 state)) h = tt
 has_text (what.Changed (V6 state)) h = h
 has_text (what.Changed (Info state)) h = tt
-has_text (what.Failed kind) h = h
+has_text (what.Failed failure) h = tt
 
-have_texts : (outputs : List Output) → AllPlain (map plain_output outputs) → All HasFailureText outputs
-have_texts [] h = All-nil HasFailureText
-have_texts (output ∷ outputs) h = All-cons HasFailureText output outputs (has_text output.what h.0) (have_texts outputs h.1)
+have_texts : (outputs : List Output) → AllPlain (map plain_output outputs) → All HasText outputs
+have_texts [] h = All-nil HasText
+have_texts (output ∷ outputs) h = All-cons HasText output outputs (has_text output.what h.0) (have_texts outputs h.1)
 
 -- what is reported has a text where each state has one
 module _ {State : Type 0} (changed : State → PlainReport) (Says : State → Type 0) (told : (state : State) → Says state → HasPlainText (changed state)) where
@@ -71,24 +69,23 @@ module _ {State : Type 0} (changed : State → PlainReport) (Says : State → Ty
   report_plain (reports.Handed message) said = tt
   report_plain (reports.Refused message) said = tt
   report_plain (reports.Changed state) said = told state said
-  report_plain (reports.Failed failures.TimedOut) said = inl refl
-  report_plain (reports.Failed failures.SendRefused) said = inr refl
+  report_plain (reports.Failed failure) said = tt
 
   all_plain : (items : List (NumberedReport State Handed)) → AllSaid Says items → AllPlain (map (output_of changed) items)
   all_plain [] said = tt
   all_plain (item ∷ items) said = (report_plain item.report said.0, all_plain items said.1)
 
-  reported_texts : (outputs : List Output) (items : List (NumberedReport State Handed)) → map plain_output outputs ≡ map (output_of changed) items → AllSaid Says items → All HasFailureText outputs
+  reported_texts : (outputs : List Output) (items : List (NumberedReport State Handed)) → map plain_output outputs ≡ map (output_of changed) items → AllSaid Says items → All HasText outputs
   reported_texts outputs items is said = have_texts outputs (subst AllPlain (sym is) (all_plain items said))
 
 -- of an IPv4 client
-pub texts4 : (outputs : List Output) (items : List (NumberedReport states4.PlainState Handed)) → map plain_output outputs ≡ map (output_of changed_v4) items → All HasFailureText outputs
+pub texts4 : (outputs : List Output) (items : List (NumberedReport states4.PlainState Handed)) → map plain_output outputs ≡ map (output_of changed_v4) items → All HasText outputs
 texts4 outputs items is =
     let Says : states4.PlainState → Type 0 = λ state. Unit {0} in
     reported_texts changed_v4 Says (λ state said. tt) outputs items is (said_of_each Says (λ state. tt) items)
 
 -- of a client for configuration alone
-pub texts_info : (outputs : List Output) (items : List (NumberedReport PlainInfoState Handed)) → map plain_output outputs ≡ map (output_of changed_info) items → All HasFailureText outputs
+pub texts_info : (outputs : List Output) (items : List (NumberedReport PlainInfoState Handed)) → map plain_output outputs ≡ map (output_of changed_info) items → All HasText outputs
 texts_info outputs items is =
     let Says : PlainInfoState → Type 0 = λ state. Unit {0} in
     reported_texts changed_info Says (λ state said. tt) outputs items is (said_of_each Says (λ state. tt) items)
@@ -147,7 +144,7 @@ ended_text (Rebind bound) exchange = tt
 
 -- of an IPv6 client, where its words are exposed
 pub texts6 : (config : Config) (view : List ℕ → View ClientState Exchange) (made : List (NumberedEvent Packet)) (outputs : List Output) (items : List (NumberedReport states6.PlainState Handed)) (new : List ℕ → View ClientState Exchange) (left exposed : Option (List ℕ)) →
-    map plain_output outputs ≡ map (output_of changed_v6) items → IfSome exposed (λ drawn. HasReported (events_at (protocol config) (view drawn) made) [] items new left) → IfSome exposed (λ drawn. All HasFailureText outputs)
+    map plain_output outputs ≡ map (output_of changed_v6) items → IfSome exposed (λ drawn. HasReported (events_at (protocol config) (view drawn) made) [] items new left) → IfSome exposed (λ drawn. All HasText outputs)
 texts6 config view made outputs items new left None is reported = tt
 texts6 config view made outputs items new left (Some drawn) is reported =
     reported_texts changed_v6 HasStateText6 (λ state said. said) outputs items is

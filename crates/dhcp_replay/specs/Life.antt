@@ -1,8 +1,8 @@
 -- What the lives of all clients share: the events that come to a client, and what
 -- is reported of it.
-use Rattle.std.specs.Prelude.{◌≡◌, ℕ, suc, ◌≤◌, ◌<◌, ◌^◌, Bool, true, false, List, [], ◌∷◌, length, map, All, Option, Some, IfSome, Result, Ok, Err}
+use Rattle.std.specs.Prelude.{◌≡◌, ℕ, suc, ◌≤◌, ◌<◌, ◌^◌, Bool, true, false, List, [], ◌∷◌, length, map, All, Option, Some, None, IfSome, Result, Ok, Err}
 use Rattle.dhcp_wire.specs.Error.{ErrorParts, no_memory}
-use Rattle.dhcp_wire.specs.declared.error.ErrorKind.TheVariants.{Timeout, IoError, InvalidArgument}
+use Rattle.dhcp_wire.specs.declared.error.ErrorKind.TheVariants.{InvalidArgument}
 use Rattle.dhcp_clock.specs.declared.link.Handed.{Handed}
 use Rattle.dhcp_clock.specs.declared.link.Packet.{Packet}
 use Rattle.dhcp_clock.specs.declared.link.PacketKind.TheVariants as carriers
@@ -15,7 +15,6 @@ use Rattle.dhcp_history.specs.Protocol.{Protocol}
 use Rattle.dhcp_history.specs.Script.{Script}
 use Rattle.dhcp_history.specs.declared.client.Client.{Client}
 use Rattle.dhcp_history.specs.declared.script.NumberedEvent.{NumberedEvent}
-use Rattle.dhcp_history.specs.declared.script.Failure.TheVariants as failures
 use Rattle.dhcp_history.specs.declared.script.Input.{Input}
 use Rattle.dhcp_history.specs.declared.script.Input.TheVariants as inputs
 use Rattle.dhcp_history.specs.declared.script.NumberedReport.{NumberedReport}
@@ -41,6 +40,17 @@ input_of (Payload bytes) = inputs.Arrival (record { kind = carriers.Payload; byt
 input_of Release = inputs.Release
 input_of CleanUp = inputs.CleanUp
 
+-- the packet that waits at an event, if one does
+abbrev pub arrival_in : Input Packet → Option Packet
+arrival_in (inputs.Arrival packet) = Some packet
+arrival_in inputs.Nothing = None
+arrival_in inputs.Release = None
+arrival_in inputs.CleanUp = None
+
+-- the packet that an event brings to the client, if it brings one
+abbrev pub arrival_of : EventWhat → Option Packet
+arrival_of what = arrival_in (input_of what)
+
 -- an event by its number
 abbrev pub numbered_event : ℕ → Event → NumberedEvent Packet
 numbered_event number event = record {
@@ -62,8 +72,7 @@ abbrev pub report_of : {State : Type 0} → (State → PlainReport) → Report S
 report_of changed (reports.Handed message) = handed message
 report_of changed (reports.Refused message) = refused message
 report_of changed (reports.Changed state) = changed state
-report_of changed (reports.Failed failures.TimedOut) = failed Timeout
-report_of changed (reports.Failed failures.SendRefused) = failed IoError
+report_of changed (reports.Failed failure) = failed failure
 
 abbrev pub output_of : {State : Type 0} → (State → PlainReport) → NumberedReport State Handed →
     PlainOutput

@@ -7,6 +7,7 @@ ghost use Rattle.dhcp_replay.specs.Life.{CanPlay, IsPlayed};
 
 use crate::life::{FamilyState, numbered, outputs_of};
 use dhcp_clock::{Handed, Packet, Words};
+use dhcp_history::{NumberedEvent, NumberedReport, StateReport};
 use dhcp_output::Output;
 use dhcp_script::Event;
 use dhcp_wire::{DhcpError, Sequence};
@@ -53,8 +54,8 @@ pub trait FamilyClient: Drop {
     fn play<W: Words>(
         &mut self,
         words: &mut W,
-        events: Vec<dhcp_history::NumberedEvent<Packet>>,
-    ) -> Result<Vec<dhcp_history::NumberedReport<Self::Reported, Handed>>, DhcpError>
+        events: Vec<NumberedEvent<Packet>>,
+    ) -> Result<Vec<NumberedReport<Self::Reported, Handed>>, DhcpError>
         requires { All (λ event. event.moment < 2 ^ 60) events.items }
         ensures { IsReplay protocol result (λ reported. reported.items) events.items
             (parts self.old) (parts self.new) (W.left words.old) (W.left words.new) };
@@ -63,8 +64,8 @@ pub trait FamilyClient: Drop {
     fn play_event<W: Words>(
         &mut self,
         words: &mut W,
-        event: dhcp_history::NumberedEvent<Packet>,
-        reports: &mut Vec<dhcp_history::NumberedReport<Self::Reported, Handed>>,
+        event: NumberedEvent<Packet>,
+        reports: &mut Vec<NumberedReport<Self::Reported, Handed>>,
     ) -> Result<(), DhcpError>
         requires { event.moment < 2 ^ 60 }
         ensures { IsPlayedEvent protocol result event reports.old.items reports.new.items
@@ -88,7 +89,7 @@ impl FamilyClient for DhcpV4Client {
     ghost use Rattle.dhcp4_client.specs.declared.client_state.ClientState as states;
     ghost use Rattle.dhcp4_client.specs.declared.client_state.Exchange as exchanges;
 
-    type Reported = dhcp_history::StateReport<DhcpV4State>;
+    type Reported = StateReport<DhcpV4State>;
 
     ghost Config = { configs.Config };
 
@@ -107,16 +108,16 @@ impl FamilyClient for DhcpV4Client {
     fn play<W: Words>(
         &mut self,
         words: &mut W,
-        events: Vec<dhcp_history::NumberedEvent<Packet>>,
-    ) -> Result<Vec<dhcp_history::NumberedReport<Self::Reported, Handed>>, DhcpError> {
+        events: Vec<NumberedEvent<Packet>>,
+    ) -> Result<Vec<NumberedReport<Self::Reported, Handed>>, DhcpError> {
         self.replay(words, events)
     }
 
     fn play_event<W: Words>(
         &mut self,
         words: &mut W,
-        event: dhcp_history::NumberedEvent<Packet>,
-        reports: &mut Vec<dhcp_history::NumberedReport<Self::Reported, Handed>>,
+        event: NumberedEvent<Packet>,
+        reports: &mut Vec<NumberedReport<Self::Reported, Handed>>,
     ) -> Result<(), DhcpError> {
         self.play_event(words, event, reports)
     }
@@ -137,7 +138,7 @@ impl FamilyClient for DhcpV6Client {
     ghost use Rattle.dhcp6_client.specs.declared.client_state.ClientState as states;
     ghost use Rattle.dhcp6_client.specs.declared.client_state.Exchange as exchanges;
 
-    type Reported = dhcp_history::StateReport<DhcpV6State>;
+    type Reported = StateReport<DhcpV6State>;
 
     ghost Config = { configs.Config };
 
@@ -156,16 +157,16 @@ impl FamilyClient for DhcpV6Client {
     fn play<W: Words>(
         &mut self,
         words: &mut W,
-        events: Vec<dhcp_history::NumberedEvent<Packet>>,
-    ) -> Result<Vec<dhcp_history::NumberedReport<Self::Reported, Handed>>, DhcpError> {
+        events: Vec<NumberedEvent<Packet>>,
+    ) -> Result<Vec<NumberedReport<Self::Reported, Handed>>, DhcpError> {
         self.replay(words, events)
     }
 
     fn play_event<W: Words>(
         &mut self,
         words: &mut W,
-        event: dhcp_history::NumberedEvent<Packet>,
-        reports: &mut Vec<dhcp_history::NumberedReport<Self::Reported, Handed>>,
+        event: NumberedEvent<Packet>,
+        reports: &mut Vec<NumberedReport<Self::Reported, Handed>>,
     ) -> Result<(), DhcpError> {
         self.play_event(words, event, reports)
     }
@@ -187,7 +188,7 @@ impl FamilyClient for DhcpV6InfoClient {
     ghost use Rattle.dhcp6_info.specs.declared.client_state.NoLease as leases;
     ghost use Rattle.dhcp6_info.specs.declared.info.DhcpV6Info as infos;
 
-    type Reported = dhcp_history::StateReport<DhcpV6InfoState>;
+    type Reported = StateReport<DhcpV6InfoState>;
 
     ghost Config = { configs.Config };
 
@@ -206,16 +207,16 @@ impl FamilyClient for DhcpV6InfoClient {
     fn play<W: Words>(
         &mut self,
         words: &mut W,
-        events: Vec<dhcp_history::NumberedEvent<Packet>>,
-    ) -> Result<Vec<dhcp_history::NumberedReport<Self::Reported, Handed>>, DhcpError> {
+        events: Vec<NumberedEvent<Packet>>,
+    ) -> Result<Vec<NumberedReport<Self::Reported, Handed>>, DhcpError> {
         self.replay(words, events)
     }
 
     fn play_event<W: Words>(
         &mut self,
         words: &mut W,
-        event: dhcp_history::NumberedEvent<Packet>,
-        reports: &mut Vec<dhcp_history::NumberedReport<Self::Reported, Handed>>,
+        event: NumberedEvent<Packet>,
+        reports: &mut Vec<NumberedReport<Self::Reported, Handed>>,
     ) -> Result<(), DhcpError> {
         self.play_event(words, event, reports)
     }

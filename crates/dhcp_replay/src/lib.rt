@@ -27,7 +27,7 @@ pub use dhcp_stream::{
 };
 pub use dhcp_tool::{Status, status_without_words};
 pub use family::{FamilyClient, play};
-pub use life::{FamilyState, numbered_event, outputs_of};
+pub use life::{FamilyState, arrival_of, numbered_event, outputs_of};
 pub use printed::print_script;
 pub use replayed::{Replayed, replay};
 pub use replayed4::{Replayed4, replay4};

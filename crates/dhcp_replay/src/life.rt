@@ -7,7 +7,7 @@ ghost use Rattle.dhcp_script.specs.Event.{are_valid as are_within_limits};
 ghost use Rattle.dhcp_replay.specs.Life as lives;
 
 use dhcp_clock::{Handed, Packet, PacketKind};
-use dhcp_history::{Failure, Input, Report};
+use dhcp_history::{Input, NumberedEvent, NumberedReport, Report, StateReport};
 use dhcp_output::{Output, OutputWhat, Reported};
 use dhcp_script::{Event, EventWhat, are_valid};
 use dhcp_wire::{Bytes, DhcpError, ErrorKind, FixedText, Sequence};
@@ -30,7 +30,7 @@ pub trait FamilyState: Drop {
         ensures { plain_report (Changed result) ≡ changed self };
 }
 
-impl FamilyState for dhcp_history::StateReport<DhcpV4State> {
+impl FamilyState for StateReport<DhcpV4State> {
     ghost use Rattle.dhcp_output.specs.Output.{changed_v4};
 
     ghost changed = { changed_v4 };
@@ -40,7 +40,7 @@ impl FamilyState for dhcp_history::StateReport<DhcpV4State> {
     }
 }
 
-impl FamilyState for dhcp_history::StateReport<DhcpV6State> {
+impl FamilyState for StateReport<DhcpV6State> {
     ghost use Rattle.dhcp_output.specs.Output.{changed_v6};
 
     ghost changed = { changed_v6 };
@@ -50,7 +50,7 @@ impl FamilyState for dhcp_history::StateReport<DhcpV6State> {
     }
 }
 
-impl FamilyState for dhcp_history::StateReport<DhcpV6InfoState> {
+impl FamilyState for StateReport<DhcpV6InfoState> {
     ghost use Rattle.dhcp_output.specs.Output.{changed_info};
 
     ghost changed = { changed_info };
@@ -73,10 +73,7 @@ pub(crate) fn check_events(start: u64, events: &[Event]) -> Result<(), DhcpError
 }
 
 /// The events by their numbers, from 1 on.
-pub fn numbered(
-    alloc: Global,
-    events: &[Event],
-) -> Result<Vec<dhcp_history::NumberedEvent<Packet>>, AllocError>
+pub fn numbered(alloc: Global, events: &[Event]) -> Result<Vec<NumberedEvent<Packet>>, AllocError>
     requires { length events.now ≤ 20000 }
     ensures { IfOk result (λ made. made.items ≡ lives.numbered 1 events.now) }
 {
@@ -94,7 +91,7 @@ pub fn numbered_event(
     alloc: Global,
     number: u32,
     event: &Event,
-) -> Result<dhcp_history::NumberedEvent<Packet>, AllocError>
+) -> Result<NumberedEvent<Packet>, AllocError>
     ensures { IfOk result (λ made. made ≡ lives.numbered_event number event.now) }
 {
     let copy = Event {
@@ -106,10 +103,10 @@ pub fn numbered_event(
 }
 
 /// An event by its number.
-pub fn into_numbered(number: u32, event: Event) -> dhcp_history::NumberedEvent<Packet>
+pub fn into_numbered(number: u32, event: Event) -> NumberedEvent<Packet>
     ensures { result ≡ lives.numbered_event number event }
 {
-    dhcp_history::NumberedEvent {
+    NumberedEvent {
         number,
         moment: event.moment,
         refuse: event.refuse,
@@ -150,6 +147,17 @@ fn input_of(what: EventWhat) -> Input<Packet>
     }
 }
 
+/// A copy of the packet that an event brings to the client, if it brings one. Out of memory is the
+/// only error.
+pub fn arrival_of(alloc: Global, what: &EventWhat) -> Result<Option<Packet>, AllocError>
+    ensures { IfOk result (λ packet. packet ≡ lives.arrival_of what.now) }
+{
+    match input_of(copy_of(alloc, what)?) {
+        Input::Arrival(packet) => Ok(Some(packet)),
+        Input::Nothing | Input::Release | Input::CleanUp => Ok(None),
+    }
+}
+
 // A packet that comes in.
 fn arrival(kind: PacketKind, bytes: Bytes) -> Input<Packet>
     ensures { result ≡ Input.Arrival (record { kind = kind; bytes = bytes }) }
@@ -160,7 +168,7 @@ fn arrival(kind: PacketKind, bytes: Bytes) -> Input<Packet>
 /// What was reported, as outputs of a script.
 pub fn outputs_of<S: FamilyState>(
     alloc: Global,
-    reported: Vec<dhcp_history::NumberedReport<S, Handed>>,
+    reported: Vec<NumberedReport<S, Handed>>,
 ) -> Result<Sequence<Output>, AllocError>
     ensures { IfOk result (λ outputs.
         map plain_output outputs ≡ map (lives.output_of S.changed) reported.items) }
@@ -173,7 +181,7 @@ pub fn outputs_of<S: FamilyState>(
 }
 
 /// What was reported, as an output of a script.
-pub fn output_of<S: FamilyState>(reported: dhcp_history::NumberedReport<S, Handed>) -> Output
+pub fn output_of<S: FamilyState>(reported: NumberedReport<S, Handed>) -> Output
     ensures { plain_output result ≡ lives.output_of S.changed reported }
 {
     Output {
@@ -190,7 +198,6 @@ fn what_of<S: FamilyState>(report: Report<S, Handed>) -> OutputWhat
         Report::Handed(message) => OutputWhat::Handed(message),
         Report::Refused(message) => OutputWhat::Refused(message),
         Report::Changed(state) => OutputWhat::Changed(state.into_reported()),
-        Report::Failed(Failure::TimedOut) => OutputWhat::Failed(ErrorKind::Timeout),
-        Report::Failed(Failure::SendRefused) => OutputWhat::Failed(ErrorKind::IoError),
+        Report::Failed(failure) => OutputWhat::Failed(failure),
     }
 }

@@ -20,6 +20,7 @@ use crate::family::FamilyClient;
 use crate::life::{FamilyState, into_numbered, output_of};
 use crate::{begin_script4, begin_script6, laws};
 use dhcp_clock::{Handed, Packet, WordList, Words};
+use dhcp_history::{NumberedEvent, NumberedReport};
 use dhcp_output::push_output;
 use dhcp_script::{Event, Script, Script4, Script6};
 use dhcp_wire::{DhcpError, Sequence};
@@ -112,8 +113,8 @@ fn print_event<C: FamilyClient, W: Words>(
     alloc: Global,
     client: &mut C,
     words: &mut W,
-    event: dhcp_history::NumberedEvent<Packet>,
-    reports: &mut Vec<dhcp_history::NumberedReport<C::Reported, Handed>>,
+    event: NumberedEvent<Packet>,
+    reports: &mut Vec<NumberedReport<C::Reported, Handed>>,
     text: &mut String,
 ) -> Result<(), DhcpError>
     requires moment { event.moment < 2 ^ 60 }
@@ -132,7 +133,7 @@ fn print_event<C: FamilyClient, W: Words>(
 // Prints what was reported, and leaves the list empty.
 fn print_reports<S: FamilyState>(
     alloc: Global,
-    reports: &mut Vec<dhcp_history::NumberedReport<S, Handed>>,
+    reports: &mut Vec<NumberedReport<S, Handed>>,
     text: &mut String,
 ) -> Result<(), AllocError>
     ensures printed { OnOk result (string_bytes text.new
@@ -148,7 +149,7 @@ fn print_reports<S: FamilyState>(
 // Prints one report.
 fn print_report<S: FamilyState>(
     alloc: Global,
-    report: dhcp_history::NumberedReport<S, Handed>,
+    report: NumberedReport<S, Handed>,
     text: &mut String,
 ) -> Result<(), AllocError>
     ensures { OnOk result (string_bytes text.new

@@ -3,7 +3,7 @@
 ghost use Rattle.std.specs.Prelude.{◌≡◌, All, IfErr, IfOk, IfSome, OnOk, Some, map, true};
 ghost use Rattle.dhcp_clock.specs.Words.{GivesNext};
 ghost use Rattle.dhcp4_client.specs.Client.{Begins};
-ghost use Rattle.dhcp_output.specs.Output.{HasFailureText, plain_output};
+ghost use Rattle.dhcp_output.specs.Output.{HasText, plain_output};
 ghost use Rattle.dhcp_replay.specs.Promises4.{KeepsPromises};
 ghost use Rattle.dhcp_replay.specs.Replayed4 as lives;
 
@@ -48,7 +48,7 @@ pub fn replay4<W: Words>(
         lives.IsClientAfter config lease drawn events.now replayed.client.value)) }
     ensures words { IfOk result (λ replayed. IfSome (W.left words.old) (λ drawn.
         W.left words.new ≡ Some (lives.client_after config lease drawn events.now).words)) }
-    ensures failures { IfOk result (λ replayed. All HasFailureText replayed.outputs) }
+    ensures texts { IfOk result (λ replayed. All HasText replayed.outputs) }
     ensures promises { OnOk result (IfSome (W.left words.old) (λ drawn.
         KeepsPromises config lease drawn events.now)) }
 {

@@ -6,7 +6,7 @@ ghost use Rattle.dhcp_history.specs.Rules.{GivesDrawn};
 ghost use Rattle.dhcp6_client.specs.Client.{Begins, drawn_for, first_draws};
 ghost use Rattle.dhcp_script.specs.Duid as duids;
 ghost use Rattle.dhcp_script.specs.Event.{are_valid as are_within_limits};
-ghost use Rattle.dhcp_output.specs.Output.{HasFailureText, plain_output};
+ghost use Rattle.dhcp_output.specs.Output.{HasText, plain_output};
 ghost use Rattle.dhcp_replay.specs.Promises6.{KeepsPromises};
 ghost use Rattle.dhcp_replay.specs.Replayed6 as lives;
 
@@ -55,8 +55,8 @@ pub fn replay6<W: Words>(
         lives.IsClientAfter config lease start drawn events.now replayed.client.value)) }
     ensures words { IfOk result (λ replayed. IfSome (W.left words.old) (λ drawn.
         W.left words.new ≡ Some (lives.client_after config lease start drawn events.now).words)) }
-    ensures failures { IfOk result (λ replayed. IfSome (W.left words.old) (λ drawn.
-        All HasFailureText replayed.outputs)) }
+    ensures texts { IfOk result (λ replayed. IfSome (W.left words.old) (λ drawn.
+        All HasText replayed.outputs)) }
     ensures promises { OnOk result (IfSome (W.left words.old) (λ drawn.
         KeepsPromises config lease start drawn events.now)) }
 {

@@ -15,6 +15,7 @@ pub mod Script
 pub mod Script4
 pub mod Script6
 pub mod ScriptReader
+pub mod TimeServer
 pub mod Version
 pub mod Version3
 -- the definitions that a function unfolds beside another

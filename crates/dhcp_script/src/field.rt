@@ -23,23 +23,16 @@ use dhcp_stream::{
 use dhcp_wire::{Bytes, Sequence, Text};
 use dhcp4_msg::DhcpV4ClasslessRoute;
 use dhcp6_msg::DhcpV6IaType;
+use dhcp6_opt::DhcpV6OptionNtpServer;
 use std::alloc::{AllocError, Global};
 use std::net::{Ipv4Addr, Ipv6Addr};
 
-/// A value that a field of a line has.
-pub trait Field: Drop {
-    ghost use Rattle.std.specs.Prelude.{ℕ, List, Option};
-
-    /// The value of a field, if it has one.
-    ghost value_in: { List ℕ → Option Self };
+/// A value that has a text as a field of a line.
+pub trait FieldText: Drop {
+    ghost use Rattle.std.specs.Prelude.{ℕ, List};
 
     /// The text of a value.
     ghost field_text: { Self → List ℕ };
-
-    /// The value of a field. `Malformed` only if the field is the text of no value; out of memory
-    /// is the only other error.
-    fn from_field(alloc: Global, field: &[u8]) -> Result<Self, ReadError>
-        ensures { Finds result (value_in field.now) };
 
     /// Puts the text of the value at the end of a text. After an error, which is out of memory, a
     /// part of it may be there.
@@ -48,104 +41,139 @@ pub trait Field: Drop {
             (string_bytes text.new ≡ string_bytes text.old ++ field_text self.now) };
 }
 
-// An IPv4 address: four decimal numbers with dots between them.
-impl Field for Ipv4Addr {
-    ghost use Rattle.dhcp_stream.specs.Number.{address_text};
-    ghost use Rattle.dhcp_stream.specs.TextReader.{address_in};
+/// A value that is read from a field of a line.
+pub trait Field: FieldText {
+    ghost use Rattle.std.specs.Prelude.{ℕ, List, Option};
 
-    ghost value_in = { address_in };
+    /// The value of a field, if it has one.
+    ghost value_in: { List ℕ → Option Self };
+
+    /// The value of a field. `Malformed` only if the field is the text of no value; out of memory
+    /// is the only other error.
+    fn from_field(alloc: Global, field: &[u8]) -> Result<Self, ReadError>
+        ensures { Finds result (value_in field.now) };
+}
+
+// An IPv4 address: four decimal numbers with dots between them.
+impl FieldText for Ipv4Addr {
+    ghost use Rattle.dhcp_stream.specs.Number.{address_text};
 
     ghost field_text = { address_text };
-
-    fn from_field(_alloc: Global, field: &[u8]) -> Result<Self, ReadError> {
-        ipv4_field(field).ok_or(ReadError::Malformed)
-    }
 
     fn push_to(&self, text: &mut String) -> Result<(), AllocError> {
         push_address(text, *self)
     }
 }
 
-// An IPv6 address: the 32 hex digits of its sixteen bytes, without colons.
-impl Field for Ipv6Addr {
-    ghost use Rattle.dhcp_stream.specs.HexText.{address6_text};
-    ghost use Rattle.dhcp_stream.specs.TextReader.{address6_in};
+impl Field for Ipv4Addr {
+    ghost use Rattle.dhcp_stream.specs.TextReader.{address_in};
 
-    ghost value_in = { address6_in };
-
-    ghost field_text = { address6_text };
+    ghost value_in = { address_in };
 
     fn from_field(_alloc: Global, field: &[u8]) -> Result<Self, ReadError> {
-        ipv6_field(field).ok_or(ReadError::Malformed)
+        ipv4_field(field).ok_or(ReadError::Malformed)
     }
+}
+
+// An IPv6 address: the 32 hex digits of its sixteen bytes, without colons.
+impl FieldText for Ipv6Addr {
+    ghost use Rattle.dhcp_stream.specs.HexText.{address6_text};
+
+    ghost field_text = { address6_text };
 
     fn push_to(&self, text: &mut String) -> Result<(), AllocError> {
         push_octets(text, &self.octets())
     }
 }
 
-// A decimal number of 32 bits, without a leading zero.
-impl Field for u32 {
-    ghost use Rattle.std.specs.Fmt.{decimal};
-    ghost use Rattle.dhcp_stream.specs.TextReader.{number_in};
+impl Field for Ipv6Addr {
+    ghost use Rattle.dhcp_stream.specs.TextReader.{address6_in};
 
-    ghost value_in = { number_in 4294967295 };
-
-    ghost field_text = { decimal };
+    ghost value_in = { address6_in };
 
     fn from_field(_alloc: Global, field: &[u8]) -> Result<Self, ReadError> {
-        Ok(number(field, u64::from(u32::MAX))? as u32)
+        ipv6_field(field).ok_or(ReadError::Malformed)
     }
+}
+
+// A decimal number of 32 bits, without a leading zero.
+impl FieldText for u32 {
+    ghost use Rattle.std.specs.Fmt.{decimal};
+
+    ghost field_text = { decimal };
 
     fn push_to(&self, text: &mut String) -> Result<(), AllocError> {
         push_decimal(text, *self)
     }
 }
 
+impl Field for u32 {
+    ghost use Rattle.dhcp_stream.specs.TextReader.{number_in};
+
+    ghost value_in = { number_in 4294967295 };
+
+    fn from_field(_alloc: Global, field: &[u8]) -> Result<Self, ReadError> {
+        Ok(number(field, u64::from(u32::MAX))? as u32)
+    }
+}
+
 // A decimal number of 16 bits, without a leading zero.
-impl Field for u16 {
+impl FieldText for u16 {
     ghost use Rattle.std.specs.Fmt.{decimal};
+
+    ghost field_text = { decimal };
+
+    fn push_to(&self, text: &mut String) -> Result<(), AllocError> {
+        push_decimal(text, u32::from(*self))
+    }
+}
+
+impl Field for u16 {
     ghost use Rattle.dhcp_stream.specs.TextReader.{number_in};
 
     ghost value_in = { number_in 65535 };
 
-    ghost field_text = { decimal };
-
     fn from_field(_alloc: Global, field: &[u8]) -> Result<Self, ReadError> {
         Ok(number(field, u64::from(u16::MAX))? as u16)
-    }
-
-    fn push_to(&self, text: &mut String) -> Result<(), AllocError> {
-        push_decimal(text, u32::from(*self))
     }
 }
 
 // A decimal number of 8 bits, without a leading zero.
-impl Field for u8 {
+impl FieldText for u8 {
     ghost use Rattle.std.specs.Fmt.{decimal};
-    ghost use Rattle.dhcp_stream.specs.TextReader.{number_in};
-
-    ghost value_in = { number_in 255 };
 
     ghost field_text = { decimal };
-
-    fn from_field(_alloc: Global, field: &[u8]) -> Result<Self, ReadError> {
-        Ok(number(field, u64::from(u8::MAX))? as u8)
-    }
 
     fn push_to(&self, text: &mut String) -> Result<(), AllocError> {
         push_decimal(text, u32::from(*self))
     }
 }
 
+impl Field for u8 {
+    ghost use Rattle.dhcp_stream.specs.TextReader.{number_in};
+
+    ghost value_in = { number_in 255 };
+
+    fn from_field(_alloc: Global, field: &[u8]) -> Result<Self, ReadError> {
+        Ok(number(field, u64::from(u8::MAX))? as u8)
+    }
+}
+
 // A text: its UTF-8 bytes in hex; `-` is the empty text.
-impl Field for Text {
+impl FieldText for Text {
     ghost use Rattle.dhcp_stream.specs.HexText.{hex_text};
+
+    ghost field_text = { hex_text };
+
+    fn push_to(&self, text: &mut String) -> Result<(), AllocError> {
+        push_hex(text, self.as_str().as_bytes())
+    }
+}
+
+impl Field for Text {
     ghost use Rattle.dhcp_stream.specs.TextReader.{hex_utf8_in};
 
     ghost value_in = { hex_utf8_in };
-
-    ghost field_text = { hex_text };
 
     fn from_field(alloc: Global, field: &[u8]) -> Result<Self, ReadError> {
         let bytes = hex(alloc, field)?;
@@ -154,21 +182,33 @@ impl Field for Text {
             Err(_) => Err(ReadError::Malformed),
         }
     }
-
-    fn push_to(&self, text: &mut String) -> Result<(), AllocError> {
-        push_hex(text, self.as_str().as_bytes())
-    }
 }
 
 // A classless static route (RFC 3442): its destination, its prefix length in bits and its router,
 // with slashes between them.
-impl Field for DhcpV4ClasslessRoute {
+impl FieldText for DhcpV4ClasslessRoute {
     ghost use Rattle.dhcp_script.specs.Lease4.{route_text};
+
+    ghost field_text = { route_text };
+
+    fn push_to(&self, text: &mut String) -> Result<(), AllocError> {
+        let DhcpV4ClasslessRoute {
+            destination,
+            prefix_length,
+            router,
+        } = *self;
+        push_address(text, destination)?;
+        text.push('/')?;
+        push_decimal(text, u32::from(prefix_length))?;
+        text.push('/')?;
+        push_address(text, router)
+    }
+}
+
+impl Field for DhcpV4ClasslessRoute {
     ghost use Rattle.dhcp_script.specs.FieldReader.{route_in};
 
     ghost value_in = { route_in };
-
-    ghost field_text = { route_text };
 
     #[tactic(auto, unfolding(crate::specs::FieldReader::route_in))]
     fn from_field(alloc: Global, field: &[u8]) -> Result<Self, ReadError> {
@@ -187,33 +227,13 @@ impl Field for DhcpV4ClasslessRoute {
             router,
         })
     }
-
-    fn push_to(&self, text: &mut String) -> Result<(), AllocError> {
-        let DhcpV4ClasslessRoute {
-            destination,
-            prefix_length,
-            router,
-        } = *self;
-        push_address(text, destination)?;
-        text.push('/')?;
-        push_decimal(text, u32::from(prefix_length))?;
-        text.push('/')?;
-        push_address(text, router)
-    }
 }
 
 // The type of an identity association (RFC 8415, section 4.2): `na`, `ta` or `pd`.
-impl Field for DhcpV6IaType {
+impl FieldText for DhcpV6IaType {
     ghost use Rattle.dhcp_script.specs.Lease6.{ia_type_text};
-    ghost use Rattle.dhcp_script.specs.Lease6Reader.{ia_type_in};
-
-    ghost value_in = { ia_type_in };
 
     ghost field_text = { ia_type_text };
-
-    fn from_field(_alloc: Global, field: &[u8]) -> Result<Self, ReadError> {
-        ia_type(field).ok_or(ReadError::Malformed)
-    }
 
     fn push_to(&self, text: &mut String) -> Result<(), AllocError> {
         match self {
@@ -224,22 +244,52 @@ impl Field for DhcpV6IaType {
     }
 }
 
-// A value, or the word `none`.
-impl<T: Field> Field for Option<T> {
-    ghost use Rattle.dhcp_script.specs.Field.{unless_none};
-    ghost use Rattle.std.specs.Prelude.{codes};
-    ghost use Rattle.dhcp_script.specs.FieldReader.{word_or};
+impl Field for DhcpV6IaType {
+    ghost use Rattle.dhcp_script.specs.Lease6Reader.{ia_type_in};
 
-    ghost value_in = { word_or (codes "none") T.value_in };
+    ghost value_in = { ia_type_in };
+
+    fn from_field(_alloc: Global, field: &[u8]) -> Result<Self, ReadError> {
+        ia_type(field).ok_or(ReadError::Malformed)
+    }
+}
+
+// A time server (RFC 5908), which a line of what is reported may have: `a` and its address, `m` and
+// the address of its group, `n` and its name, or `o` with the type of any other suboption and its
+// bytes.
+impl FieldText for DhcpV6OptionNtpServer {
+    ghost use Rattle.dhcp_script.specs.TimeServer.{time_server_text};
+
+    ghost field_text = { time_server_text };
+
+    fn push_to(&self, text: &mut String) -> Result<(), AllocError> {
+        match self {
+            DhcpV6OptionNtpServer::ServerAddr(address) => {
+                text.push_str("a/")?;
+                address.push_to(text)
+            }
+            DhcpV6OptionNtpServer::MulticastAddr(address) => {
+                text.push_str("m/")?;
+                address.push_to(text)
+            }
+            DhcpV6OptionNtpServer::ServerFqdn(name) => {
+                text.push_str("n/")?;
+                name.push_to(text)
+            }
+            DhcpV6OptionNtpServer::Other((kind, bytes)) => {
+                let kind = *kind;
+                write!(text, "o{kind}/")?;
+                push_hex(text, bytes.as_slice())
+            }
+        }
+    }
+}
+
+// A value, or the word `none`.
+impl<T: FieldText> FieldText for Option<T> {
+    ghost use Rattle.dhcp_script.specs.Field.{unless_none};
 
     ghost field_text = { unless_none T.field_text };
-
-    fn from_field(alloc: Global, field: &[u8]) -> Result<Self, ReadError> {
-        if field == b"none".as_slice() {
-            return Ok(None);
-        }
-        Ok(Some(T::from_field(alloc, field)?))
-    }
 
     fn push_to(&self, text: &mut String) -> Result<(), AllocError> {
         match self {
@@ -249,21 +299,25 @@ impl<T: Field> Field for Option<T> {
     }
 }
 
-// A list: its items with commas between them; `-` is the empty list.
-impl<T: Field> Field for Sequence<T> {
-    ghost use Rattle.dhcp_script.specs.Field.{list_text};
-    ghost use Rattle.dhcp_script.specs.FieldReader.{list_in};
+impl<T: Field> Field for Option<T> {
+    ghost use Rattle.std.specs.Prelude.{codes};
+    ghost use Rattle.dhcp_script.specs.FieldReader.{word_or};
 
-    ghost value_in = { list_in T.value_in };
-
-    ghost field_text = { list_text T.field_text };
+    ghost value_in = { word_or (codes "none") T.value_in };
 
     fn from_field(alloc: Global, field: &[u8]) -> Result<Self, ReadError> {
-        if field == b"-".as_slice() {
-            return Ok(Sequence::new(alloc));
+        if field == b"none".as_slice() {
+            return Ok(None);
         }
-        items(alloc, field)
+        Ok(Some(T::from_field(alloc, field)?))
     }
+}
+
+// A list: its items with commas between them; `-` is the empty list.
+impl<T: FieldText> FieldText for Sequence<T> {
+    ghost use Rattle.dhcp_script.specs.Field.{list_text};
+
+    ghost field_text = { list_text T.field_text };
 
     fn push_to(&self, text: &mut String) -> Result<(), AllocError> {
         match self.as_slice().split_first() {
@@ -273,6 +327,19 @@ impl<T: Field> Field for Sequence<T> {
                 push_after_commas(text, rest)
             }
         }
+    }
+}
+
+impl<T: Field> Field for Sequence<T> {
+    ghost use Rattle.dhcp_script.specs.FieldReader.{list_in};
+
+    ghost value_in = { list_in T.value_in };
+
+    fn from_field(alloc: Global, field: &[u8]) -> Result<Self, ReadError> {
+        if field == b"-".as_slice() {
+            return Ok(Sequence::new(alloc));
+        }
+        items(alloc, field)
     }
 }
 
@@ -330,7 +397,7 @@ fn items<T: Field>(alloc: Global, field: &[u8]) -> Result<Sequence<T>, ReadError
 }
 
 // Puts items at the end of a text, each after a comma.
-fn push_after_commas<T: Field>(text: &mut String, items: &[T]) -> Result<(), AllocError>
+fn push_after_commas<T: FieldText>(text: &mut String, items: &[T]) -> Result<(), AllocError>
     ensures { OnOk result
         (string_bytes text.new ≡ string_bytes text.old
         ++ flat_map (λ item. 44 ∷ T.field_text item) items.now) }
@@ -343,7 +410,7 @@ fn push_after_commas<T: Field>(text: &mut String, items: &[T]) -> Result<(), All
 }
 
 /// Puts three fields at the end of a text, with single spaces between them.
-pub fn push_three<A: Field, B: Field, C: Field>(
+pub fn push_three<A: FieldText, B: FieldText, C: FieldText>(
     text: &mut String,
     first: &A,
     second: &B,
@@ -361,7 +428,7 @@ pub fn push_three<A: Field, B: Field, C: Field>(
 }
 
 /// Puts three fields at the end of a text, each with a space after it.
-pub fn push_three_more<A: Field, B: Field, C: Field>(
+pub fn push_three_more<A: FieldText, B: FieldText, C: FieldText>(
     text: &mut String,
     first: &A,
     second: &B,

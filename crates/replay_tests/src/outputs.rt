@@ -2,11 +2,12 @@
 
 ghost use Rattle.std.specs.Prelude.{All, IfOk};
 ghost use Rattle.dhcp6_client.specs.State.{plain_state};
-ghost use Rattle.dhcp_output.specs.Output.{HasFailureText, HasStateText6};
+ghost use Rattle.dhcp_output.specs.Output.{HasText, HasStateText6};
 
 use dhcp_clock::Handed;
+use dhcp_history::Failure;
 use dhcp_output::{Output, OutputWhat, Reported, print_outputs, print_summary};
-use dhcp_wire::{Bytes, DhcpError, ErrorKind};
+use dhcp_wire::{Bytes, DhcpError};
 use dhcp4_client::DhcpV4State;
 use dhcp6_client::DhcpV6State;
 use dhcp6_msg::{DhcpV6IaType, DhcpV6Lease};
@@ -19,7 +20,7 @@ fn are_printed(
     text: &str,
     summary: &str,
 ) -> Result<bool, DhcpError>
-    requires { All HasFailureText outputs.now }
+    requires { All HasText outputs.now }
 {
     let printed = print_outputs(alloc, outputs)?;
     let counted = print_summary(alloc, 21, outputs)?;
@@ -44,7 +45,7 @@ fn are_three_printed(
         },
         Output {
             event: 21,
-            what: OutputWhat::Failed(ErrorKind::Timeout),
+            what: OutputWhat::Failed(Failure::TimedOut),
         },
     ];
     are_printed(alloc, &outputs, text, summary)

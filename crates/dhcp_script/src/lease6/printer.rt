@@ -7,7 +7,7 @@ ghost use Rattle.dhcp6_msg.specs.declared.mode.DhcpV6IaType.TheVariants.{NonTemp
 ghost use Rattle.dhcp_script.specs.Lease6.{fields_of, lease_text};
 
 use crate::Lease6;
-use crate::field::{Field, push_three_more};
+use crate::field::{FieldText, push_three_more};
 use crate::hex_text::push_hex;
 use dhcp6_msg::DhcpV6Lease;
 use std::alloc::{AllocError, Global};
