@@ -96,7 +96,8 @@ written_texts message =
 unfoldable pub written_message : DhcpV4Message → List ℕ
 written_message message =
     written_numbers message
-    ++ (written_address_fields message ++ (written_texts message ++ written_options message.options))
+    ++ (written_address_fields message
+    ++ (written_texts message ++ written_options message.options))
 
 -- the address 0.0.0.0
 abbrev pub no_address : Ipv4Addr

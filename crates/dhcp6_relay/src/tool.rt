@@ -25,8 +25,8 @@ use std::alloc::Global;
 /// Relay-forward that the source holds; `unwrap` the message inside the relay message that it
 /// holds. Messages are lines of lower-case hex, `-` for no bytes. The status is `Invalid` if and
 /// only if the message is refused, as `wrap_forward`, `reply_along` or `parse_relay` refuses it.
-/// With every status but 0 and 4 nothing is written. At most 16,777,217 bytes are read, whatever the
-/// status.
+/// With every status but 0 and 4 nothing is written. At most 16,777,217 bytes are read, whatever
+/// the status.
 pub fn relay_tool<S: Source, K: Sink>(
     alloc: Global,
     words: &[String],

@@ -65,7 +65,7 @@ pub trait Dialogue {
 
     /// Hears the next line, with its line feed, in place of what `line` holds; what follows it is
     /// not heard yet. `Failed` only if the count of faults rose. After an error no clause says what
-    /// `line` holds, nor where the next line begins: after `TooLong` it may be the rest of this one.
+    /// `line` holds, nor where the next line begins: after `TooLong` that may be the rest of this.
     fn hear(&mut self, line: &mut Vec<u8>) -> Result<(), Unheard>
         ensures moved { moves (hearing result line.new.items) self.old self.new }
         ensures line { OnOk result (IsLine line.new.items) }

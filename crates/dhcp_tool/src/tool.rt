@@ -105,8 +105,8 @@ fn text_of<R: ToolRequest, S: Source>(
 }
 
 /// What the source holds, or the status: `ReadFault` only if the source's count of faults rose,
-/// `TooLong` where more than 16,777,216 bytes are left, or out of memory. At most one byte more than
-/// these is read, whatever it returns.
+/// `TooLong` where more than 16,777,216 bytes are left, or out of memory. At most one byte more is
+/// read, whatever it returns.
 pub fn input<S: Source>(alloc: Global, source: &mut S) -> Result<Bytes, Status>
     ensures reads { ReadsInput result (S.left source.old) (S.left source.new)
         (S.faults source.old) (S.faults source.new) }
