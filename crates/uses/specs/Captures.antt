@@ -20,4 +20,4 @@ is_ack_message None = false
 
 -- the record carries an Ack
 abbrev pub is_ack : RecordParts → Bool
-is_ack record = is_ack_message (message_of record)
+is_ack packet = is_ack_message (message_of packet)

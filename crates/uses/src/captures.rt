@@ -18,10 +18,10 @@ pub fn ack_count(file: &[u8]) -> Option<usize>
 }
 
 // Whether a record carries an Ack.
-fn is_ack(record: &Record) -> bool
-    ensures { result ≡ captures.is_ack record.now }
+fn is_ack(packet_record: &Record) -> bool
+    ensures { result ≡ captures.is_ack packet_record.now }
 {
-    match record.message() {
+    match packet_record.message() {
         Some(Message::V4(message)) => message.message_type == Some(DhcpV4MessageType::Ack),
         _ => false,
     }
