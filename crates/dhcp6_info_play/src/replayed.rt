@@ -28,7 +28,7 @@ pub fn replay_info(alloc: Global, script: &Script6) -> Result<Sequence<Output>, 
     ensures valid { OnOk result (is_valid script.now ≡ true) }
     ensures refused { IfErr result (IsRefusal (is_valid script.now)) }
     ensures outputs { IfOk result (λ outputs. map plain_output outputs ≡ outputs_of script.now) }
-    ensures texts { IfOk result (λ outputs. All HasText outputs) }
+    ensures failures { IfOk result (λ outputs. All HasText outputs) }
     ensures promises { OnOk result (KeepsPromisesOf script.now) }
 {
     if !script.is_valid() {
@@ -51,7 +51,7 @@ fn play_with<W: Words>(
     ensures error { IfErr result (λ error. error ≡ no_memory) }
     ensures outputs { IfOk result (λ outputs. IfSome (W.left words.old) (λ drawn.
         map plain_output outputs ≡ outputs_with config drawn events.now)) }
-    ensures texts { IfOk result (λ outputs. All HasText outputs) }
+    ensures failures { IfOk result (λ outputs. All HasText outputs) }
     ensures promises { OnOk result (IfSome (W.left words.old) (λ drawn.
         KeepsPromises config drawn events.now)) }
 {

@@ -1,14 +1,14 @@
 -- What is reported of a script, and its text.
-use Rattle.std.specs.Prelude.{ℕ, Bool, true, false, IsTrue, List, [], ◌∷◌, ◌++◌, unwrap_or, codes}
+use Rattle.std.specs.Prelude.{◌≡◌, ◌⊎◌, ℕ, Bool, true, false, IsTrue, List, [], ◌∷◌, ◌++◌, unwrap_or, codes}
 use Rattle.std.specs.List.{count_by, flat_map}
 use Rattle.std.specs.Fmt.{decimal}
 use Rattle.dhcp_stream.specs.HexText.{hex_text}
 use Rattle.dhcp_stream.specs.Line.{line, spaced}
 use Rattle.dhcp_stream.specs.Number.{address_text}
+use Rattle.dhcp_wire.specs.declared.error.ErrorKind.{ErrorKind}
+use Rattle.dhcp_wire.specs.declared.error.ErrorKind.TheVariants as kinds
 use Rattle.dhcp_clock.specs.declared.link.Handed.{Handed}
 use Rattle.dhcp_clock.specs.declared.link.Handed.TheVariants.{Frame, Udp4, Udp6}
-use Rattle.dhcp_history.specs.declared.script.Failure.{Failure}
-use Rattle.dhcp_history.specs.declared.script.Failure.TheVariants.{TimedOut, SendRefused}
 use Rattle.dhcp4_client.specs.State.{plain_state}
 use Rattle.dhcp4_client.specs.declared.state.PlainState.{PlainState}
 use Rattle.dhcp4_client.specs.declared.state.PlainState.TheVariants as v4
@@ -35,7 +35,7 @@ pub data PlainReport : Type 0 where
   changed_v4 : PlainState → PlainReport
   changed_v6 : plain6.PlainState → PlainReport
   changed_info : PlainInfoState → PlainReport
-  failed : Failure → PlainReport
+  failed : ErrorKind → PlainReport
 
 -- the plain contents of an output
 pub record PlainOutput : Type 0 where
@@ -49,7 +49,7 @@ plain_report (what.Refused message) = refused message
 plain_report (what.Changed (V4 state)) = changed_v4 (plain_state state)
 plain_report (what.Changed (V6 state)) = changed_v6 (states6.plain_state state)
 plain_report (what.Changed (Info state)) = changed_info (info.plain_state state)
-plain_report (what.Failed failure) = failed failure
+plain_report (what.Failed kind) = failed kind
 
 -- what an output holds
 abbrev pub plain_output : Output → PlainOutput
@@ -63,16 +63,17 @@ HasStateText6 v6.Request = Unit {0}
 HasStateText6 v6.Renew = Unit {0}
 HasStateText6 v6.Rebind = Unit {0}
 
--- what is reported; of an IPv6 state, the type of its lease, if it holds one, is known
+-- what has a text of its own: of failures those of two kinds, of IPv6 states those whose lease, if
+-- they hold one, has its type
 abbrev pub HasReportText : OutputWhat → Type 0
+HasReportText (what.Failed kind) = (kind ≡ kinds.Timeout) ⊎ (kind ≡ kinds.IoError)
 HasReportText (what.Handed message) = Unit {0}
 HasReportText (what.Refused message) = Unit {0}
 HasReportText (what.Changed (V4 state)) = Unit {0}
 HasReportText (what.Changed (V6 state)) = HasStateText6 (states6.plain_state state)
 HasReportText (what.Changed (Info state)) = Unit {0}
-HasReportText (what.Failed failure) = Unit {0}
 
--- an output that has a text of its own: the type of a lease of IPv6 in it is known
+-- an output that has a text of its own
 abbrev pub HasText : Output → Type 0
 HasText output = HasReportText output.what
 
@@ -101,10 +102,10 @@ state6_text v6.Request = codes "request"
 state6_text v6.Renew = codes "renew"
 state6_text v6.Rebind = codes "rebind"
 
--- a failure
-abbrev pub failure_text : Failure → List ℕ
-failure_text TimedOut = codes "timeout"
-failure_text SendRefused = codes "io_error"
+-- a failure: of the time limit, or of the link, as which every other kind is written
+abbrev pub failure_text : ErrorKind → List ℕ
+failure_text kinds.Timeout = codes "timeout"
+failure_text _ = codes "io_error"
 
 -- what is reported
 abbrev pub report_text : PlainReport → List ℕ
@@ -113,7 +114,7 @@ report_text (refused message) = codes "refused " ++ message_text message
 report_text (changed_v4 state) = codes "state " ++ state4_text state
 report_text (changed_v6 state) = codes "state " ++ state6_text state
 report_text (changed_info state) = codes "state " ++ infos.state_text state
-report_text (failed failure) = codes "failed " ++ failure_text failure
+report_text (failed kind) = codes "failed " ++ failure_text kind
 
 -- the line of an output
 abbrev pub output_line : PlainOutput → List ℕ
@@ -130,7 +131,7 @@ is_of sorts.Refused (refused message) = true
 is_of sorts.Changed (changed_v4 state) = true
 is_of sorts.Changed (changed_v6 state) = true
 is_of sorts.Changed (changed_info state) = true
-is_of sorts.Failed (failed failure) = true
+is_of sorts.Failed (failed why) = true
 is_of _ _ = false
 
 -- how many outputs there are of this kind

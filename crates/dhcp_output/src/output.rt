@@ -1,7 +1,7 @@
 //! What is reported of a client at the events of a script.
 
 use dhcp_clock::Handed;
-use dhcp_history::Failure;
+use dhcp_wire::ErrorKind;
 use dhcp4_client::DhcpV4State;
 use dhcp6_client::DhcpV6State;
 use dhcp6_info::DhcpV6InfoState;
@@ -26,8 +26,9 @@ pub enum OutputWhat {
     Refused(Handed),
     /// The client came to this state.
     Changed(Reported),
-    /// The client failed: its time limit is over, or the link refused the message of a release.
-    Failed(Failure),
+    /// The client failed: `Timeout` if its time limit is over, `IoError` if the link refused a
+    /// release.
+    Failed(ErrorKind),
 }
 
 /// What is reported at an event.

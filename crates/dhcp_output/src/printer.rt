@@ -21,17 +21,16 @@ ghost use Rattle.dhcp_output.specs.Output.{
 use crate::info::push_info_state;
 use crate::{Output, OutputWhat, Reported};
 use dhcp_clock::Handed;
-use dhcp_history::Failure;
 use dhcp_script::field::FieldText;
 use dhcp_script::{push_hex, push_lease4, push_lease6};
-use dhcp_wire::{Bytes, DhcpError};
+use dhcp_wire::{Bytes, DhcpError, ErrorKind};
 use dhcp4_client::DhcpV4State;
 use dhcp6_client::DhcpV6State;
 use std::alloc::{AllocError, Global};
 
-/// The text of these outputs: a line for each, and a last line `ok`. The lease of each IPv6 state
-/// `Done` must have its `ia_type`, as it has in what a replay reports. Out of memory is the only
-/// error.
+/// The text of these outputs: a line for each, and a last line `ok`. Each failure among them must
+/// be `Timeout` or `IoError`, and the lease of each IPv6 state `Done` must have its `ia_type`; in
+/// what a replay reports both are so. Out of memory is the only error.
 #[tactic(auto, unfolding(crate::specs::Output::outputs_text))]
 pub fn print_outputs(alloc: Global, outputs: &[Output]) -> Result<Bytes, DhcpError>
     requires { All HasText outputs.now }
@@ -44,7 +43,8 @@ pub fn print_outputs(alloc: Global, outputs: &[Output]) -> Result<Bytes, DhcpErr
 }
 
 /// Puts a line for each output at the end of a text. After an error, which is out of memory, a part
-/// of them may be there. The type of an IPv6 lease without its `ia_type` is printed as `na`.
+/// of them may be there. A failure of a kind other than `Timeout` is printed as `io_error`, and the
+/// type of an IPv6 lease without its `ia_type` as `na`.
 pub fn push_outputs(alloc: Global, text: &mut String, outputs: &[Output]) -> Result<(), AllocError>
     ensures { OnOk result (string_bytes text.new
         ≡ string_bytes text.old ++ flat_map output_line (map plain_output outputs.now)) }
@@ -65,8 +65,9 @@ fn push_each(alloc: Global, text: &mut String, outputs: &[Output]) -> Result<(),
 }
 
 /// Puts the line of an output at the end of a text: the number of its event, and what is reported.
-/// After an error, which is out of memory, a part of it may be there. The type of an IPv6 lease
-/// without its `ia_type` is printed as `na`.
+/// After an error, which is out of memory, a part of it may be there. A failure of a kind other
+/// than `Timeout` is printed as `io_error`, and the type of an IPv6 lease without its `ia_type` as
+/// `na`.
 pub fn push_output(alloc: Global, text: &mut String, output: &Output) -> Result<(), AllocError>
     ensures { OnOk result (string_bytes text.new
         ≡ string_bytes text.old ++ output_line (plain_output output.now)) }
@@ -103,9 +104,9 @@ fn push_report(alloc: Global, text: &mut String, what: &OutputWhat) -> Result<()
             text.push_str("state ")?;
             push_info_state(alloc, text, state)
         }
-        OutputWhat::Failed(failure) => {
+        OutputWhat::Failed(kind) => {
             text.push_str("failed ")?;
-            push_failure(text, *failure)
+            push_failure(text, *kind)
         }
     }
 }
@@ -170,13 +171,13 @@ fn push_state6(alloc: Global, text: &mut String, state: &DhcpV6State) -> Result<
     }
 }
 
-// Puts a failure at the end of a text.
-fn push_failure(text: &mut String, failure: Failure) -> Result<(), AllocError>
+// Puts a failure at the end of a text: `timeout`, and `io_error` for every other kind.
+fn push_failure(text: &mut String, kind: ErrorKind) -> Result<(), AllocError>
     ensures { OnOk result (string_bytes text.new
-        ≡ string_bytes text.old ++ failure_text failure) }
+        ≡ string_bytes text.old ++ failure_text kind) }
 {
-    match failure {
-        Failure::TimedOut => text.push_str("timeout"),
-        Failure::SendRefused => text.push_str("io_error"),
+    match kind {
+        ErrorKind::Timeout => text.push_str("timeout"),
+        _ => text.push_str("io_error"),
     }
 }

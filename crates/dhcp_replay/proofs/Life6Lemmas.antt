@@ -75,8 +75,8 @@ module _ (config : Config) (lease : Option Lease) (start : ℕ) (events : List E
           (items6 played.items played.history_is)
 
       -- all of it has a text
-      pub have_texts6 : (outputs : List Output) → map plain_output outputs ≡ outs → IfSome before (λ words. All HasText outputs)
-      have_texts6 outputs is =
+      pub failures6 : (outputs : List Output) → map plain_output outputs ≡ outs → IfSome before (λ words. All HasText outputs)
+      failures6 outputs is =
           lives.life_says protocol (first_draws config) (config_in config) life before after (drawn_for client) client.config client.client drawn begun (All HasText outputs)
           (texts6 client.config (view_of client.client) (numbered 1 events) outputs played.items (view_of new.client) left after (is ∙ played.outputs_are) played.reported)
 

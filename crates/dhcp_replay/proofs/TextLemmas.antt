@@ -1,16 +1,18 @@
 -- What is reported of a client has a text: of the leases that an IPv6 client reports the type is known.
-use Rattle.std.proofs.Common.{◌≡◌, ℕ, Bool, true, false, List, [], ◌∷◌, Option, Some, None, Result, Ok, Err, IsTrue, sym, ap, subst, ◌∙◌}
+use Rattle.std.proofs.Common.{◌≡◌, ◌⊎◌, ℕ, Bool, true, false, List, [], ◌∷◌, Option, Some, None, Result, Ok, Err, IsTrue, refl, sym, ap, subst, ◌∙◌, inl, inr}
 use Rattle.std.specs.Prelude.{All, IfSome, if◌then◌else◌, map}
 use Rattle.std.specs.List.{AllByRecursion}
 use Rattle.std.proofs.lemmas.Bool.{and_parts}
 use Rattle.std.proofs.lemmas.List.Elements.{All-cons, All-nil}
 use Rattle.std.proofs.lemmas.Option.{none-some, same_Some, option_and_then_some}
 use Rattle.dhcp_wire.specs.declared.error.ErrorKind.{ErrorKind}
+use Rattle.dhcp_wire.specs.declared.error.ErrorKind.TheVariants.{Timeout, IoError}
 use Rattle.dhcp_clock.specs.declared.link.Handed.{Handed}
 use Rattle.dhcp_clock.specs.declared.link.Packet.{Packet}
 use Rattle.dhcp_history.specs.EventLoop.{HasReported, events_at}
 use Rattle.dhcp_history.specs.Machine.{View}
 use Rattle.dhcp_history.specs.declared.script.NumberedEvent.{NumberedEvent}
+use Rattle.dhcp_history.specs.declared.script.Failure.TheVariants as failures
 use Rattle.dhcp_history.specs.declared.script.NumberedReport.{NumberedReport}
 use Rattle.dhcp_history.specs.declared.script.Report.{Report}
 use Rattle.dhcp_history.specs.declared.script.Report.TheVariants as reports
@@ -46,7 +48,7 @@ HasPlainText (refused message) = Unit {0}
 HasPlainText (changed_v4 state) = Unit {0}
 HasPlainText (changed_v6 state) = HasStateText6 state
 HasPlainText (changed_info state) = Unit {0}
-HasPlainText (failed failure) = Unit {0}
+HasPlainText (failed kind) = (kind ≡ Timeout) ⊎ (kind ≡ IoError)
 
 abbrev AllPlain : List PlainOutput → Type 0
 AllPlain outputs = AllByRecursion (λ (output : PlainOutput). HasPlainText output.report) outputs
@@ -57,7 +59,7 @@ has_text (what.Refused message) h = tt
 has_text (what.Changed (V4 state)) h = tt
 has_text (what.Changed (V6 state)) h = h
 has_text (what.Changed (Info state)) h = tt
-has_text (what.Failed failure) h = tt
+has_text (what.Failed kind) h = h
 
 have_texts : (outputs : List Output) → AllPlain (map plain_output outputs) → All HasText outputs
 have_texts [] h = All-nil HasText
@@ -69,7 +71,8 @@ module _ {State : Type 0} (changed : State → PlainReport) (Says : State → Ty
   report_plain (reports.Handed message) said = tt
   report_plain (reports.Refused message) said = tt
   report_plain (reports.Changed state) said = told state said
-  report_plain (reports.Failed failure) said = tt
+  report_plain (reports.Failed failures.TimedOut) said = inl refl
+  report_plain (reports.Failed failures.SendRefused) said = inr refl
 
   all_plain : (items : List (NumberedReport State Handed)) → AllSaid Says items → AllPlain (map (output_of changed) items)
   all_plain [] said = tt

@@ -2,7 +2,7 @@
 -- is reported of it.
 use Rattle.std.specs.Prelude.{◌≡◌, ℕ, suc, ◌≤◌, ◌<◌, ◌^◌, Bool, true, false, List, [], ◌∷◌, length, map, All, Option, Some, None, IfSome, Result, Ok, Err}
 use Rattle.dhcp_wire.specs.Error.{ErrorParts, no_memory}
-use Rattle.dhcp_wire.specs.declared.error.ErrorKind.TheVariants.{InvalidArgument}
+use Rattle.dhcp_wire.specs.declared.error.ErrorKind.TheVariants.{Timeout, IoError, InvalidArgument}
 use Rattle.dhcp_clock.specs.declared.link.Handed.{Handed}
 use Rattle.dhcp_clock.specs.declared.link.Packet.{Packet}
 use Rattle.dhcp_clock.specs.declared.link.PacketKind.TheVariants as carriers
@@ -15,6 +15,7 @@ use Rattle.dhcp_history.specs.Protocol.{Protocol}
 use Rattle.dhcp_history.specs.Script.{Script}
 use Rattle.dhcp_history.specs.declared.client.Client.{Client}
 use Rattle.dhcp_history.specs.declared.script.NumberedEvent.{NumberedEvent}
+use Rattle.dhcp_history.specs.declared.script.Failure.TheVariants as failures
 use Rattle.dhcp_history.specs.declared.script.Input.{Input}
 use Rattle.dhcp_history.specs.declared.script.Input.TheVariants as inputs
 use Rattle.dhcp_history.specs.declared.script.NumberedReport.{NumberedReport}
@@ -72,7 +73,8 @@ abbrev pub report_of : {State : Type 0} → (State → PlainReport) → Report S
 report_of changed (reports.Handed message) = handed message
 report_of changed (reports.Refused message) = refused message
 report_of changed (reports.Changed state) = changed state
-report_of changed (reports.Failed failure) = failed failure
+report_of changed (reports.Failed failures.TimedOut) = failed Timeout
+report_of changed (reports.Failed failures.SendRefused) = failed IoError
 
 abbrev pub output_of : {State : Type 0} → (State → PlainReport) → NumberedReport State Handed →
     PlainOutput

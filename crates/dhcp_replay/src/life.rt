@@ -7,7 +7,7 @@ ghost use Rattle.dhcp_script.specs.Event.{are_valid as are_within_limits};
 ghost use Rattle.dhcp_replay.specs.Life as lives;
 
 use dhcp_clock::{Handed, Packet, PacketKind};
-use dhcp_history::{Input, NumberedEvent, NumberedReport, Report, StateReport};
+use dhcp_history::{Failure, Input, NumberedEvent, NumberedReport, Report, StateReport};
 use dhcp_output::{Output, OutputWhat, Reported};
 use dhcp_script::{Event, EventWhat, are_valid};
 use dhcp_wire::{Bytes, DhcpError, ErrorKind, FixedText, Sequence};
@@ -198,6 +198,7 @@ fn what_of<S: FamilyState>(report: Report<S, Handed>) -> OutputWhat
         Report::Handed(message) => OutputWhat::Handed(message),
         Report::Refused(message) => OutputWhat::Refused(message),
         Report::Changed(state) => OutputWhat::Changed(state.into_reported()),
-        Report::Failed(failure) => OutputWhat::Failed(failure),
+        Report::Failed(Failure::TimedOut) => OutputWhat::Failed(ErrorKind::Timeout),
+        Report::Failed(Failure::SendRefused) => OutputWhat::Failed(ErrorKind::IoError),
     }
 }

@@ -47,7 +47,7 @@ pub fn replay(alloc: Global, script: &Script) -> Result<Replayed, DhcpError>
     ensures refused { IfErr result (IsRefusal (scripts.is_valid script.now)) }
     ensures outputs { IfOk result (λ replayed.
         map plain_output (outputs_in replayed) ≡ lives.outputs_of script.now) }
-    ensures texts { IfOk result (λ replayed. All HasText (outputs_in replayed)) }
+    ensures failures { IfOk result (λ replayed. All HasText (outputs_in replayed)) }
     ensures client { IfOk result (λ replayed. lives.HasClientOf script.now replayed) }
     ensures promises { OnOk result (KeepsPromisesOf script.now) }
 {
@@ -69,7 +69,7 @@ fn replay_script4(alloc: Global, script: &Script4) -> Result<Replayed4, DhcpErro
     ensures refused { IfErr result (IsRefusal (v4.is_valid script.now)) }
     ensures outputs { IfOk result (λ replayed.
         map plain_output replayed.outputs ≡ lives.outputs_of_v4 script.now) }
-    ensures texts { IfOk result (λ replayed. All HasText replayed.outputs) }
+    ensures failures { IfOk result (λ replayed. All HasText replayed.outputs) }
     ensures client { IfOk result (λ replayed. lives.HasClientOfV4 script.now replayed) }
     ensures promises { OnOk result (KeepsPromisesOfV4 script.now) }
 {
@@ -89,7 +89,7 @@ fn replay_script6(alloc: Global, script: &Script6) -> Result<Replayed6, DhcpErro
     ensures refused { IfErr result (IsRefusal (v6.is_valid script.now)) }
     ensures outputs { IfOk result (λ replayed.
         map plain_output replayed.outputs ≡ lives.outputs_of_v6 script.now) }
-    ensures texts { IfOk result (λ replayed. All HasText replayed.outputs) }
+    ensures failures { IfOk result (λ replayed. All HasText replayed.outputs) }
     ensures client { IfOk result (λ replayed. lives.HasClientOfV6 script.now replayed) }
     ensures promises { OnOk result (KeepsPromisesOfV6 script.now) }
 {

@@ -48,7 +48,7 @@ pub fn replay4<W: Words>(
         lives.IsClientAfter config lease drawn events.now replayed.client.value)) }
     ensures words { IfOk result (λ replayed. IfSome (W.left words.old) (λ drawn.
         W.left words.new ≡ Some (lives.client_after config lease drawn events.now).words)) }
-    ensures texts { IfOk result (λ replayed. All HasText replayed.outputs) }
+    ensures failures { IfOk result (λ replayed. All HasText replayed.outputs) }
     ensures promises { OnOk result (IfSome (W.left words.old) (λ drawn.
         KeepsPromises config lease drawn events.now)) }
 {

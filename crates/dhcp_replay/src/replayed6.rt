@@ -55,7 +55,7 @@ pub fn replay6<W: Words>(
         lives.IsClientAfter config lease start drawn events.now replayed.client.value)) }
     ensures words { IfOk result (λ replayed. IfSome (W.left words.old) (λ drawn.
         W.left words.new ≡ Some (lives.client_after config lease start drawn events.now).words)) }
-    ensures texts { IfOk result (λ replayed. IfSome (W.left words.old) (λ drawn.
+    ensures failures { IfOk result (λ replayed. IfSome (W.left words.old) (λ drawn.
         All HasText replayed.outputs)) }
     ensures promises { OnOk result (IfSome (W.left words.old) (λ drawn.
         KeepsPromises config lease start drawn events.now)) }

@@ -5,9 +5,8 @@ ghost use Rattle.dhcp6_client.specs.State.{plain_state};
 ghost use Rattle.dhcp_output.specs.Output.{HasText, HasStateText6};
 
 use dhcp_clock::Handed;
-use dhcp_history::Failure;
 use dhcp_output::{Output, OutputWhat, Reported, print_outputs, print_summary};
-use dhcp_wire::{Bytes, DhcpError};
+use dhcp_wire::{Bytes, DhcpError, ErrorKind};
 use dhcp4_client::DhcpV4State;
 use dhcp6_client::DhcpV6State;
 use dhcp6_msg::{DhcpV6IaType, DhcpV6Lease};
@@ -45,7 +44,7 @@ fn are_three_printed(
         },
         Output {
             event: 21,
-            what: OutputWhat::Failed(Failure::TimedOut),
+            what: OutputWhat::Failed(ErrorKind::Timeout),
         },
     ];
     are_printed(alloc, &outputs, text, summary)

@@ -9,8 +9,8 @@ returns-clause-outputs g c =
     all_reported c.args.config c.args.events.now c.in_ok-client.client.value (g.W.Words.left c.args.words.now) (g.W.Words.left c.begun.new.words) c.in_ok-client.ensures.drawn c.in_ok-client.ensures.begun
     c.deref_mut.result.now c.play.new.client (g.W.Words.left c.play.new.words) c.deref_mut.ensures.value c.play.result c.play.ensures.played
 
-pub returns-clause-texts : goal.returns-clause-texts
-returns-clause-texts g c =
+pub returns-clause-failures : goal.returns-clause-failures
+returns-clause-failures g c =
     all_have_texts c.args.config c.args.events.now c.in_ok-client.client.value (g.W.Words.left c.args.words.now) (g.W.Words.left c.begun.new.words) c.in_ok-client.ensures.drawn c.in_ok-client.ensures.begun
     c.deref_mut.result.now c.play.new.client (g.W.Words.left c.play.new.words) c.deref_mut.ensures.value c.play.result c.play.ensures.played
 

@@ -22,8 +22,8 @@ returns-clause-client g c = client4 c.args.config c.args.lease c.args.events.now
 pub returns-clause-words : goal.returns-clause-words
 returns-clause-words g c = words4 c.args.config c.args.lease c.args.events.now c.in_ok-client.client.value (g.W.Words.left c.args.words.now) (g.W.Words.left c.begun4.new.words) c.in_ok-client.ensures.drawn c.in_ok-client.ensures.begun (map plain_output c.in_ok-outputs.outputs) c.play.new.client (g.W.Words.left c.play.new.words) (played_by _ _ _ _ _ _ _ _ _ c.deref_mut.ensures.value c.in_ok-outputs.ensures.played)
 
-pub returns-clause-texts : goal.returns-clause-texts
-returns-clause-texts g c = texts4 c.in_ok-outputs.outputs c.in_ok-outputs.ensures.played.items c.in_ok-outputs.ensures.played.outputs_are
+pub returns-clause-failures : goal.returns-clause-failures
+returns-clause-failures g c = texts4 c.in_ok-outputs.outputs c.in_ok-outputs.ensures.played.items c.in_ok-outputs.ensures.played.outputs_are
 
 pub returns-clause-promises : goal.returns-clause-promises
 returns-clause-promises g c = promises4 c.args.config c.args.lease c.args.events.now c.in_ok-client.client.value (g.W.Words.left c.args.words.now) (g.W.Words.left c.begun4.new.words) c.in_ok-client.ensures.drawn c.in_ok-client.ensures.begun c.deref.result.now c.deref.ensures c.promises_are_kept.ensures
