@@ -9,3 +9,5 @@ mod option;
 mod option_code;
 #[cfg(test)]
 mod options;
+#[cfg(test)]
+mod said;

@@ -136,6 +136,15 @@ fn fewer_than_sixteen_bytes_are_refused(rt: HostRuntime) {
 }
 
 #[test]
+fn an_array_is_read_whole_or_not_at_all(rt: HostRuntime) {
+    let mut left = Buffer::new(&SIXTEEN[..3]);
+    let two: [u8; 2] = left.get_array().expect(&rt, "reads");
+    assert!(rt; two.as_slice() == &SIXTEEN[..2]);
+    assert!(rt; is_refused(left.get_array::<2>()));
+    assert!(rt; left.remain_len() == 1);
+}
+
+#[test]
 fn addresses_are_whole_groups_of_sixteen_bytes(rt: HostRuntime) {
     let addresses = ipv6_addresses_in(rt.alloc(), &SIXTEEN[16..]).expect(&rt, "reads");
     assert!(rt; addresses.as_slice() == [address()].as_slice());
